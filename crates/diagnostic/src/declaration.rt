@@ -1,11 +1,11 @@
-//! In which declaration of a text a place stands.
+//! The declaration in which a place lies.
 
 use diagnostic_words::words::Words;
 use go_text::{Fault, Place, Source, Span};
 use scanner::{Token, TokenKind, scan};
 use std::alloc::Global;
 
-/// The name behind the last `func` or `type` before a place, if there is one.
+/// The name after the last `func` or `type` before a place, if there is one.
 fn name_before(tokens: &[Token], from: u32) -> Option<Span> {
     let mut name = None;
     let mut declares = false;
@@ -21,7 +21,7 @@ fn name_before(tokens: &[Token], from: u32) -> Option<Span> {
     name
 }
 
-/// Puts ` in NAME`, with the name of the declaration of a text in which a place stands, behind what is there, if there is one.
+/// Puts ` in NAME`, with the name of the declaration of a text in which a place stands, after what is there, if there is one.
 fn push_declared(said: &mut Words, source: &Source, tokens: &[Token], place: Place) {
     let Some(span) = name_before(tokens, place.span.from) else {
         return;
@@ -32,7 +32,7 @@ fn push_declared(said: &mut Words, source: &Source, tokens: &[Token], place: Pla
     }
 }
 
-/// The same, of a text whose tokens are not known.
+/// Like `push_declared`, but of a text whose tokens are not known.
 fn push_name(alloc: Global, said: &mut Words, source: &Source, place: Place) {
     match scan(alloc, source) {
         Ok(tokens) => push_declared(said, source, tokens.as_slice(), place),
@@ -41,7 +41,7 @@ fn push_name(alloc: Global, said: &mut Words, source: &Source, place: Place) {
     }
 }
 
-/// The same, of a text that may be none.
+/// Like `push_name`, but of a text that may be no program's.
 fn push_name_in(alloc: Global, said: &mut Words, text: &str, place: Place) {
     let Ok(bytes) = Vec::from_slice(alloc, text.as_bytes()) else {
         return said.refuse();
@@ -51,16 +51,16 @@ fn push_name_in(alloc: Global, said: &mut Words, text: &str, place: Place) {
     }
 }
 
-/// Puts a sentence, and within it the name of the declaration in which a place stands, behind what is there.
+/// Puts a sentence, and within it the name of the declaration in which a place stands, after what is there.
 pub(crate) fn push_within(
     alloc: Global,
     said: &mut Words,
     text: &str,
     place: Place,
     before: &str,
-    behind: &str,
+    after: &str,
 ) {
     said.text(before);
     push_name_in(alloc, said, text, place);
-    said.text(behind);
+    said.text(after);
 }

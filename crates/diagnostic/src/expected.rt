@@ -190,7 +190,7 @@ fn is_in_header(site: &Site<'_>) -> bool {
     }
 }
 
-/// Puts `, expected A, B or C` behind what is there, if anything could stand where no tree goes on.
+/// Puts `, expected A, B or C` after what is there, if anything could stand where no tree goes on.
 pub(crate) fn push_expected(
     said: &mut Words,
     site: &Site<'_>,
@@ -199,21 +199,21 @@ pub(crate) fn push_expected(
 ) -> Result<(), Memory> {
     let names = expected.names()?;
     let brace_first = expected.has("{") && is_in_header(site);
-    let mut told = Vec::new(expected.alloc);
+    let mut printed = Vec::new(expected.alloc);
     if brace_first {
-        told.push("\"{\"")?;
+        printed.push("\"{\"")?;
     }
     for &name in names.as_slice() {
         if !(brace_first && name == "\"{\"") {
-            told.push(name)?;
+            printed.push(name)?;
         }
     }
     let ends_line = expected.has("}") || nesting.open.is_empty();
-    push_names(said, told.as_slice(), ends_line);
+    push_names(said, printed.as_slice(), ends_line);
     Ok(())
 }
 
-/// Puts `, expected A, B or C` behind what is there, where there are such names; a semicolon is a newline where `ends_line` holds.
+/// Puts `, expected A, B or C` after what is there, where there are such names; a semicolon is a newline where `ends_line` holds.
 fn push_names(said: &mut Words, names: &[&'static str], ends_line: bool) {
     for (index, &name) in names.iter().enumerate() {
         said.text(if index == 0 {
@@ -240,12 +240,12 @@ fn goes_on(alloc: Global, beginning: &str, piece: &str) -> Result<bool, Memory> 
     match fault_of(alloc, &source) {
         None => Ok(true),
         Some(Fault::Memory) => Err(Memory),
-        Some(fault) => Ok(lies_behind(&fault, beginning.len().saturating_add(1))),
+        Some(fault) => Ok(lies_after(&fault, beginning.len().saturating_add(1))),
     }
 }
 
-/// Whether a fault lies behind so many bytes.
-fn lies_behind(fault: &Fault, length: usize) -> bool {
+/// Whether a fault lies after the first `length` bytes.
+fn lies_after(fault: &Fault, length: usize) -> bool {
     match place_of(fault) {
         Some(place) => place.span.from as usize > length,
         None => false,

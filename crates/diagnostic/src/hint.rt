@@ -1,6 +1,6 @@
 //! What to write in place of common Go that is not in the language, but for faults of the syntax.
 
-use crate::known::{NAMES, PACKAGES, known};
+use crate::known::{NAMES, PACKAGES, stand_in};
 use crate::site::line_before;
 use diagnostic_typing::push_near;
 use diagnostic_words::words::Words;
@@ -8,7 +8,7 @@ use go_text::{Fault, Place, Rule};
 use std::alloc::Global;
 use typing_rules::flaw::Flaw;
 
-/// Puts `hint: ` and what to write instead, with a newline, behind what is there, if that is known.
+/// Puts `hint: ` and what to write instead, with a newline, after what is there, if that is known.
 pub(crate) fn push_hint(alloc: Global, said: &mut Words, text: &str, fault: &Fault) {
     if let Some(hint) = hint_of(text, fault) {
         said.text("hint: ");
@@ -19,7 +19,7 @@ pub(crate) fn push_hint(alloc: Global, said: &mut Words, text: &str, fault: &Fau
     }
 }
 
-/// Puts the hint that another name could be meant, if that is known, behind what is there.
+/// Puts the hint that another name could be meant, if that is known, after what is there.
 fn push_meant(alloc: Global, said: &mut Words, text: &str, flaw: Flaw) {
     let mut near = Words::new(alloc);
     push_near(alloc, &mut near, text, flaw);
@@ -70,12 +70,12 @@ fn character_hint(found: &str) -> Option<&'static str> {
 
 /// A hint for a number that is none.
 fn number_hint(text: &str, place: Place) -> Option<&'static str> {
-    let behind = text.get(place.span.from as usize..).unwrap_or("");
-    let length = behind
+    let after = text.get(place.span.from as usize..).unwrap_or("");
+    let length = after
         .bytes()
         .position(|byte| !(byte.is_ascii_alphanumeric() || byte == b'_' || byte == b'.'))
-        .unwrap_or(behind.len());
-    let number = behind.get(..length).unwrap_or("");
+        .unwrap_or(after.len());
+    let number = after.get(..length).unwrap_or("");
     if number.contains('.') {
         Some("there are no floating-point numbers")
     } else {
@@ -97,9 +97,9 @@ fn typing_hint(text: &str, rule: Rule, place: Place) -> Option<&'static str> {
     let word = first_word(piece_at(text, place));
     match rule {
         Rule::Main => Some("the run begins with func main()"),
-        Rule::Visible => match known(&NAMES, word) {
+        Rule::Visible => match stand_in(&NAMES, word) {
             Some(hint) => Some(hint),
-            None => known(&PACKAGES, word),
+            None => stand_in(&PACKAGES, word),
         },
         Rule::NewName => Some("= assigns to a variable that is there"),
         Rule::Made => Some("make(chan T) or make(chan T, size)"),

@@ -5,7 +5,7 @@
 pub(crate) struct Known(&'static str, &'static str);
 
 /// What stands in for a word of this table, if it has the word.
-pub(crate) fn known(table: &[Known], word: &str) -> Option<&'static str> {
+pub(crate) fn stand_in(table: &[Known], word: &str) -> Option<&'static str> {
     for one in table {
         if one.0 == word {
             return Some(one.1);
@@ -238,12 +238,12 @@ pub(crate) static DECLARATIONS: [Known; 9] = [
     Known("class", STRUCT),
     Known("struct", STRUCT),
     Known("record", STRUCT),
-    Known("function", "write func"),
-    Known("fn", "write func"),
-    Known("fun", "write func"),
-    Known("def", "write func"),
-    Known("proc", "write func"),
-    Known("sub", "write func"),
+    Known("function", "write func: func f() { .. }"),
+    Known("fn", "write func: func f() { .. }"),
+    Known("fun", "write func: func f() { .. }"),
+    Known("def", "write func: func f() { .. }"),
+    Known("proc", "write func: func f() { .. }"),
+    Known("sub", "write func: func f() { .. }"),
 ];
 
 /// Words that are operators or marks in other languages.

@@ -12,13 +12,13 @@ mod nesting;
 mod phrase;
 mod sentence;
 mod site;
-mod syntax;
 mod syntax_hint;
+mod unexpected;
 
 use crate::hint::push_hint;
 use crate::sentence::push_sentence;
-use crate::syntax::push_syntax;
-use diagnostic_typing::{Other, others};
+use crate::unexpected::push_syntax;
+use diagnostic_typing::others;
 use diagnostic_words::excerpt::push_excerpt;
 use diagnostic_words::words::Words;
 use go_text::{Fault, Memory, Place, Position};
@@ -33,14 +33,10 @@ use typing_rules::flaw::Flaw;
 ///
 /// `Memory` if memory is refused.
 pub fn explanation(alloc: Global, path: &str, text: &str, fault: &Fault) -> Result<Vec<u8>, Memory>
-    ensures { IfOk result (λ told. IsDiagnostic path.now fault.now told.items) }
+    ensures { IfOk result (λ printed. IsDiagnostic path.now fault.now printed.items) }
 {
-    let place = place_of(fault);
-    let heading = heading(alloc, path, position_of(place))?;
-    let said = said_of(alloc, text, fault, place)?;
-    let mut whole = heading.into_bytes();
-    whole.extend_from_slice(said.as_slice())?;
-    Ok(whole)
+    let said = said_of(alloc, text, fault)?;
+    headed(alloc, path, fault, said.as_slice())
 }
 
 /// What is wrong with a program, as `explanation` has it, and then what else is wrong with it: if `fault` is a typing rule or a
@@ -51,32 +47,34 @@ pub fn explanation(alloc: Global, path: &str, text: &str, fault: &Fault) -> Resu
 ///
 /// `Memory` if memory is refused.
 pub fn explanations(alloc: Global, path: &str, text: &str, fault: &Fault) -> Result<Vec<u8>, Memory>
-    ensures { IfOk result (λ told. IsDiagnostic path.now fault.now told.items) }
+    ensures { IfOk result (λ printed. IsDiagnostic path.now fault.now printed.items) }
+{
+    let mut said = said_of(alloc, text, fault)?;
+    let others = others_of(alloc, path, text, fault)?;
+    said.extend_from_slice(others.as_slice())?;
+    headed(alloc, path, fault, said.as_slice())
+}
+
+/// The heading of a fault, and what is wrong after it.
+fn headed(alloc: Global, path: &str, fault: &Fault, said: &[u8]) -> Result<Vec<u8>, Memory>
+    ensures { IfOk result (λ printed. IsDiagnostic path.now fault.now printed.items) }
 {
     let place = place_of(fault);
     let heading = heading(alloc, path, position_of(place))?;
-    let said = said_of(alloc, text, fault, place)?;
-    let others = others_of(alloc, path, text, fault)?;
     let mut whole = heading.into_bytes();
-    whole.extend_from_slice(said.as_slice())?;
-    whole.extend_from_slice(others.as_slice())?;
+    whole.extend_from_slice(said)?;
     Ok(whole)
 }
 
-/// What stands behind the heading of a fault with this place.
-fn said_of(
-    alloc: Global,
-    text: &str,
-    fault: &Fault,
-    place: Option<Place>,
-) -> Result<Vec<u8>, Memory> {
+/// What comes after the heading of a fault.
+fn said_of(alloc: Global, text: &str, fault: &Fault) -> Result<Vec<u8>, Memory> {
     let mut said = Words::new(alloc);
     match *fault {
         Fault::Syntax(place) => push_syntax(alloc, &mut said, text, place)?,
         _ => {
             push_sentence(alloc, &mut said, text, fault);
             said.text("\n");
-            if let Some(place) = place {
+            if let Some(place) = place_of(fault) {
                 push_excerpt(&mut said, text, place.span);
             }
             push_hint(alloc, &mut said, text, fault);
@@ -100,32 +98,23 @@ fn flaw_of(fault: &Fault) -> Option<Flaw> {
 
 /// The explanations of what else is wrong with a program than `fault`, and how many more there are.
 fn others_of(alloc: Global, path: &str, text: &str, fault: &Fault) -> Result<Vec<u8>, Memory> {
-    let mut told = Vec::new(alloc);
+    let mut printed = Vec::new(alloc);
     let Some(flaw) = flaw_of(fault) else {
-        return Ok(told);
+        return Ok(printed);
     };
     let found = others(alloc, text, flaw)?;
     for other in found.kept.as_slice() {
-        push_other(alloc, &mut told, path, other)?;
+        let one = explanation(alloc, path, other.text.as_str(), &other.fault)?;
+        printed.extend_from_slice(one.as_slice())?;
     }
     if found.is_cut {
-        told.extend_from_slice(b"and more\n")?;
+        printed.extend_from_slice(b"and more\n")?;
     } else if found.more > 0 {
         let count = found.more;
         let line = format!(in alloc; "and {count} more\n")?;
-        told.extend_from_slice(line.as_str().as_bytes())?;
+        printed.extend_from_slice(line.as_str().as_bytes())?;
     }
-    Ok(told)
-}
-
-/// Puts the explanation of a violation at the end of `told`.
-fn push_other(alloc: Global, told: &mut Vec<u8>, path: &str, other: &Other) -> Result<(), Memory> {
-    let place = place_of(&other.fault);
-    let heading = heading(alloc, path, position_of(place))?;
-    let said = said_of(alloc, other.text.as_str(), &other.fault, place)?;
-    told.extend_from_slice(heading.as_str().as_bytes())?;
-    told.extend_from_slice(said.as_slice())?;
-    Ok(())
+    Ok(printed)
 }
 
 /// `FILE: `, or `FILE:LINE:COLUMN: ` where line and column are known.

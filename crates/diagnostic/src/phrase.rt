@@ -2,7 +2,7 @@
 
 use go_text::{LimitKind, Rule};
 
-/// What is wrong where a typing rule is broken.
+/// What is wrong where a typing rule is violated.
 pub(crate) fn phrase_of_rule(rule: Rule) -> &'static str {
     match rule {
         Rule::Main => "function main is undeclared, or has parameters or a result",

@@ -12,14 +12,14 @@ use typing_rules::flaw::Flaw;
 /// How many bytes of a piece of the text a sentence shows at most.
 const MOST_SHOWN: usize = 60;
 
-/// Puts what is wrong behind what is there, which is nothing.
+/// Puts what is wrong after what is there, which is nothing.
 pub(crate) fn push_sentence(alloc: Global, said: &mut Words, text: &str, fault: &Fault) {
     match *fault {
         Fault::Typing { rule, node, place } => push_rule(alloc, said, text, rule, node, place),
         Fault::Limit { kind, node, place } => push_limit(alloc, said, text, kind, node, place),
         Fault::TooDeep(place) => {
-            let behind = ": a program is at most 200 levels high";
-            push_within(alloc, said, text, place, "nested too deeply", behind);
+            let after = ": a program is at most 200 levels high";
+            push_within(alloc, said, text, place, "nested too deeply", after);
         }
         Fault::BadCharacter(place) => push_character(said, piece_at(text, place)),
         Fault::BadNumber(place) => push_number(said, text, place),
@@ -42,7 +42,7 @@ fn plain(fault: &Fault) -> &'static str {
     }
 }
 
-/// Puts how a typing rule is broken, at this node of the tree, behind what is there, which is nothing.
+/// Puts how a typing rule is violated, at this node of the tree, after what is there, which is nothing.
 fn push_rule(alloc: Global, said: &mut Words, text: &str, rule: Rule, node: u32, place: Place) {
     push_flaw(alloc, said, text, Flaw::Broken(rule, node));
     if said.is_empty() {
@@ -50,7 +50,7 @@ fn push_rule(alloc: Global, said: &mut Words, text: &str, rule: Rule, node: u32,
     }
 }
 
-/// Puts which limit is exceeded, at this node of the tree if the check finds it, behind what is there, which is nothing.
+/// Puts which limit is exceeded, at this node of the tree if the check finds it, after what is there, which is nothing.
 fn push_limit(
     alloc: Global,
     said: &mut Words,
@@ -88,7 +88,7 @@ fn push_limit(
     }
 }
 
-/// Puts a phrase behind what is there, with the piece of the text in the place of `{}`.
+/// Puts a phrase after what is there, with the piece of the text in the place of `{}`.
 fn push_phrase(said: &mut Words, phrase: &str, piece: &str) {
     match phrase.split_once("{}") {
         Some((before, after)) => {
@@ -109,7 +109,7 @@ pub(crate) fn piece_at(text: &str, place: Place) -> &str {
     shortened(line)
 }
 
-/// What a line begins with, as many whole characters as at most so many bytes have.
+/// The longest beginning of a line that has whole characters and at most `MOST_SHOWN` bytes.
 fn shortened(line: &str) -> &str {
     let most = line.len().min(MOST_SHOWN);
     for cut in 0..4 {
@@ -135,31 +135,31 @@ fn push_character(said: &mut Words, piece: &str) {
     }
 }
 
-/// Tells of a number with all letters, digits and points that stand behind it.
+/// Reports a number with all letters, digits and points that stand after it.
 fn push_number(said: &mut Words, text: &str, place: Place) {
     let from = place.span.from as usize;
-    let behind = text.get(from..).unwrap_or("");
-    let end = behind
+    let after = text.get(from..).unwrap_or("");
+    let end = after
         .bytes()
         .position(|byte| !(byte.is_ascii_alphanumeric() || byte == b'_' || byte == b'.'))
-        .unwrap_or(behind.len());
+        .unwrap_or(after.len());
     said.text("invalid number ");
-    said.text(shortened(behind.get(..end).unwrap_or("")));
+    said.text(shortened(after.get(..end).unwrap_or("")));
     said.text(" (numbers are 0, decimal without a leading zero, or 0x and hexadecimal digits)");
 }
 
-/// Tells of a string that is not closed on its line, or has another escape.
+/// Reports a string that is not closed on its line, or has another escape.
 fn push_string(said: &mut Words, text: &str, place: Place) {
     let from = place.span.from as usize;
-    let behind = text.get(from..).unwrap_or("");
-    let line = behind.split('\n').next().unwrap_or("");
+    let after = text.get(from..).unwrap_or("");
+    let line = after.split('\n').next().unwrap_or("");
     match other_escape(line.as_bytes()) {
         Some(at) => push_escape(said, line.get(at..).unwrap_or("")),
         None => said.text("string not terminated"),
     }
 }
 
-/// Tells of an escape that there is not, with which a piece of a string begins.
+/// Reports an escape that there is not, with which a piece of a string begins.
 fn push_escape(said: &mut Words, piece: &str) {
     said.text("unknown escape ");
     for end in 2..6 {

@@ -11,7 +11,7 @@ pub(crate) const NEWLINE: &str = "\n";
 pub(crate) struct Site<'t> {
     pub text: &'t str,
     pub tokens: &'t [Token],
-    /// The index of that token; the number of tokens, if the fault lies behind all of them.
+    /// The index of that token; the number of tokens, if the fault lies after all of them.
     pub at: usize,
 }
 

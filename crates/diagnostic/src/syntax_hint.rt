@@ -1,7 +1,9 @@
 //! What to write in place of what no tree goes on with.
 
 use crate::expected::Expected;
-use crate::known::{DECLARATIONS, MARKS, METHODS, NAMES, OPERATORS, PACKAGES, STATEMENTS, known};
+use crate::known::{
+    DECLARATIONS, MARKS, METHODS, NAMES, OPERATORS, PACKAGES, STATEMENTS, stand_in,
+};
 use crate::nesting::Nesting;
 use crate::site::{NEWLINE, Site};
 use diagnostic_words::spelling::is_near;
@@ -20,14 +22,14 @@ pub(crate) enum Hint<'t> {
 }
 
 impl Hint<'_> {
-    /// Puts the hint behind what is there.
+    /// Puts the hint after what is there.
     pub(crate) fn push(&self, said: &mut Words) {
         match *self {
             Hint::Plain(text) => said.text(text),
-            Hint::Naming(before, word, behind) => {
+            Hint::Naming(before, word, after) => {
                 said.text(before);
                 said.text(word);
-                said.text(behind);
+                said.text(after);
             }
             Hint::Declare(name, written) => {
                 said.text("the type stands after the name: var ");
@@ -85,7 +87,7 @@ impl<'s, 't> Trouble<'s, 't> {
         self.expected.has("chan")
     }
 
-    /// Whether the fault lies right behind the first name of a statement.
+    /// Whether the fault lies right after the first name of a statement.
     fn follows_first_name(&self) -> bool {
         self.site.statement_start().saturating_add(1) == self.site.at && self.site.is_name_before(1)
     }
@@ -95,12 +97,12 @@ impl<'s, 't> Trouble<'s, 't> {
         word == "int" || word == "bool" || self.is_declared("type", word)
     }
 
-    /// Whether the program declares this name behind `func` or `type`.
+    /// Whether the program declares this name after `func` or `type`.
     fn is_declared(&self, keyword: &str, word: &str) -> bool {
         self.declared(keyword, word, false).is_some()
     }
 
-    /// The first name behind `func` or `type` that is this word or, if `near` holds, could be meant by it.
+    /// The first name after `func` or `type` that is this word or, if `near` holds, could be meant by it.
     fn declared(&self, keyword: &str, word: &str, near: bool) -> Option<&'t str> {
         let mut declares = false;
         for index in 0..self.site.tokens.len() {
@@ -137,13 +139,13 @@ impl<'s, 't> Trouble<'s, 't> {
             "}" => return Some(Hint::Plain("no { is open for this }")),
             _ => {}
         }
-        if let Some(hint) = known(&DECLARATIONS, found) {
+        if let Some(hint) = stand_in(&DECLARATIONS, found) {
             return Some(Hint::Plain(hint));
         }
         if let Some(keyword) = near_keyword(found, "func type") {
             return Some(Hint::Naming("did you mean ", keyword, "?"));
         }
-        if let Some(hint) = known(&MARKS, found) {
+        if let Some(hint) = stand_in(&MARKS, found) {
             return Some(Hint::Plain(hint));
         }
         Some(Hint::Plain("statements stand in functions: is a } before this line one too many?"))
@@ -154,7 +156,7 @@ impl<'s, 't> Trouble<'s, 't> {
         for count in 1..4 {
             let path = self.site.after(count).trim_matches('"');
             let name = path.rsplit('/').next().unwrap_or("");
-            if let Some(hint) = known(&PACKAGES, name) {
+            if let Some(hint) = stand_in(&PACKAGES, name) {
                 return hint;
             }
         }
@@ -259,12 +261,12 @@ impl<'s, 't> Trouble<'s, 't> {
         }
     }
 
-    /// A hint for a string, or for what stands behind one.
+    /// A hint for a string, or for what stands after one.
     fn string_hint(&self) -> Option<Hint<'t>> {
         let found = self.site.found();
         if self.site.before(1).starts_with("\"") && self.expected.has(",") {
             return Some(Hint::Plain(
-                "print takes its parts with commas between them: println(\"n is\", n)",
+                "println takes arguments separated by commas: println(\"n is\", n)",
             ));
         }
         if !found.starts_with("\"") {
@@ -275,7 +277,7 @@ impl<'s, 't> Trouble<'s, 't> {
         }
         if self.site.before(1) == "+" {
             return Some(Hint::Plain(
-                "print takes its parts with commas between them: println(\"n is\", n)",
+                "println takes arguments separated by commas: println(\"n is\", n)",
             ));
         }
         if let Some(hint) = self.callee_hint() {
@@ -290,7 +292,7 @@ impl<'s, 't> Trouble<'s, 't> {
         if callee.is_empty() || self.is_declared("func", callee) {
             return None;
         }
-        if let Some(hint) = known(&NAMES, callee) {
+        if let Some(hint) = stand_in(&NAMES, callee) {
             return Some(Hint::Plain(hint));
         }
         if let Some(printer) = near_keyword(callee, "println print") {
@@ -299,14 +301,14 @@ impl<'s, 't> Trouble<'s, 't> {
         None
     }
 
-    /// A hint for the token behind the first name of a statement, or for a name that no statement begins with.
+    /// A hint for the token after the first name of a statement, or for a name that no statement begins with.
     fn statement_hint(&self) -> Option<Hint<'t>> {
         if !self.follows_first_name() || self.expected.has("func") {
             return None;
         }
         let site = &self.site;
         let word = site.before(1);
-        if let Some(hint) = known(&STATEMENTS, word) {
+        if let Some(hint) = stand_in(&STATEMENTS, word) {
             return Some(Hint::Plain(hint));
         }
         let begins_value = site.is_name(site.at) || is_digit_first(site.found());
@@ -382,10 +384,10 @@ impl<'s, 't> Trouble<'s, 't> {
 
     /// A hint for a call of `name` in a package, or on a value.
     fn selected_hint(&self, whole: &'t str, name: &'t str) -> Hint<'t> {
-        if let Some(hint) = known(&PACKAGES, whole) {
+        if let Some(hint) = stand_in(&PACKAGES, whole) {
             return Hint::Plain(hint);
         }
-        if let Some(hint) = known(&METHODS, name) {
+        if let Some(hint) = stand_in(&METHODS, name) {
             return Hint::Plain(hint);
         }
         Hint::Naming(
@@ -401,7 +403,7 @@ impl<'s, 't> Trouble<'s, 't> {
         if site.after(2) == "(" {
             return Some(self.selected_hint(site.before(1), site.after(1)));
         }
-        if let Some(hint) = known(&PACKAGES, site.before(1)) {
+        if let Some(hint) = stand_in(&PACKAGES, site.before(1)) {
             return Some(Hint::Plain(hint));
         }
         if site.is_name_before(1) && !self.expected.has("x") {
@@ -580,7 +582,7 @@ impl<'s, 't> Trouble<'s, 't> {
         None
     }
 
-    /// A hint for an operator behind a value that is a statement.
+    /// A hint for an operator after a value that is a statement.
     fn operator_hint(&self, found: &'t str) -> Option<Hint<'t>> {
         if found == "-" && self.site.after(1) == ">" {
             return Some(if self.first_word() == "func" {
@@ -632,7 +634,7 @@ impl<'s, 't> Trouble<'s, 't> {
                 Some(Hint::Plain("write := in a header: for i := 0; i < 10; i++ { .. }"))
             }
             "struct" if self.site.before(1) == "chan" => {
-                Some(Hint::Plain("write chan bool: no type is empty"))
+                Some(Hint::Plain("write chan bool: there is no empty struct"))
             }
             "struct" if self.wants_type() => {
                 Some(Hint::Plain("a struct type has a name: type T struct { .. }"))
@@ -643,7 +645,7 @@ impl<'s, 't> Trouble<'s, 't> {
             "type" if self.wants_statement() => {
                 Some(Hint::Plain("types are declared outside of functions"))
             }
-            _ => match known(&MARKS, found) {
+            _ => match stand_in(&MARKS, found) {
                 Some(hint) => Some(Hint::Plain(hint)),
                 None => None,
             },
@@ -707,14 +709,14 @@ impl<'s, 't> Trouble<'s, 't> {
                 "there are no labels: a function of its own is left by return",
             ));
         }
-        if let Some(hint) = known(&OPERATORS, found) {
+        if let Some(hint) = stand_in(&OPERATORS, found) {
             return Some(Hint::Plain(hint));
         }
         if self.expected.has("else") && is_near(found.as_bytes(), b"else") {
             return Some(Hint::Plain("did you mean else?"));
         }
         if self.expected.has("else") {
-            return match known(&STATEMENTS, found) {
+            return match stand_in(&STATEMENTS, found) {
                 Some(hint) => Some(Hint::Plain(hint)),
                 None => None,
             };

@@ -24,7 +24,7 @@ fn is_function(tops: &[TopNode], name: &[u8]) -> bool {
     false
 }
 
-/// Tells that there is no `main`, or one that takes or gives something.
+/// Reports that there is no `main`, or one that takes or gives something.
 fn push_main(said: &mut Words, tops: &[TopNode]) {
     said.text(if is_function(tops, b"main".as_slice()) {
         "func main must have no arguments and no return values"
@@ -76,14 +76,14 @@ fn refused_among(names: &[Name], fields: bool) -> Option<&Name> {
     None
 }
 
-/// Tells of a name that may not be declared, if there is one.
+/// Reports a name that may not be declared, if there is one.
 fn push_name(said: &mut Words, name: Option<&Name>) {
     if let Some(name) = name {
         push_refused(said, name);
     }
 }
 
-/// Tells of a parameter that may not be declared, in this group of them.
+/// Reports a parameter that may not be declared, in this group of them.
 fn push_parameter(said: &mut Words, function: &FunctionNode, group: &DeclaredNode) {
     let names = group.names.as_slice();
     match refused_among(names, false) {
@@ -92,7 +92,7 @@ fn push_parameter(said: &mut Words, function: &FunctionNode, group: &DeclaredNod
     }
 }
 
-/// Tells of a struct type that has a field twice, in this group of them.
+/// Reports a struct type that has a field twice, in this group of them.
 fn push_twice(said: &mut Words, one: &StructNode, group: &DeclaredNode) {
     if let Some(name) = twice_among(one.fields.as_slice(), group.names.as_slice()) {
         said.around("duplicate field ", name, "");
@@ -100,7 +100,7 @@ fn push_twice(said: &mut Words, one: &StructNode, group: &DeclaredNode) {
     }
 }
 
-/// Tells of a struct type that has no fields, or contains itself.
+/// Reports a struct type that has no fields, or contains itself.
 fn push_struct(said: &mut Words, one: &StructNode) {
     if one.fields.is_empty() {
         said.around("struct type ", &one.name, " has no fields");
@@ -109,7 +109,7 @@ fn push_struct(said: &mut Words, one: &StructNode) {
     }
 }
 
-/// Tells of a name in a type that stands for no type.
+/// Reports a name in a type that stands for no type.
 fn push_type_name(said: &mut Words, tops: &[TopNode], name: &Name) {
     let bytes = name.bytes.as_slice();
     if is_function(tops, bytes) || is_reserved(bytes) {
@@ -119,7 +119,7 @@ fn push_type_name(said: &mut Words, tops: &[TopNode], name: &Name) {
     }
 }
 
-/// Tells what is wrong with fields of a struct type.
+/// Reports what is wrong with fields of a struct type.
 fn push_fields(
     said: &mut Words,
     tops: &[TopNode],
@@ -135,7 +135,7 @@ fn push_fields(
     }
 }
 
-/// Tells what is wrong with a declaration of a struct type, at this node.
+/// Reports what is wrong with a declaration of a struct type, at this node.
 fn push_in_struct(
     said: &mut Words,
     tops: &[TopNode],
@@ -154,7 +154,7 @@ fn push_in_struct(
     }
 }
 
-/// Tells what is wrong with parameters of a function.
+/// Reports what is wrong with parameters of a function.
 fn push_parameters(
     said: &mut Words,
     tops: &[TopNode],
@@ -169,14 +169,14 @@ fn push_parameters(
     }
 }
 
-/// Tells of a function's result whose type is none.
+/// Reports a function's result whose type is none.
 fn push_result(said: &mut Words, tops: &[TopNode], function: &FunctionNode) {
     if let Some(written) = &function.result {
         push_type_name(said, tops, last_name(written));
     }
 }
 
-/// Tells what is wrong with a function but for its statements, at this node.
+/// Reports what is wrong with a function but for its statements, at this node.
 fn push_in_head(
     said: &mut Words,
     tops: &[TopNode],
@@ -196,7 +196,7 @@ fn push_in_head(
     }
 }
 
-/// Tells how a unit breaks a rule at this node, if that does not depend on what is visible there.
+/// Reports how a unit violates a rule at this node, if that does not depend on what is visible there.
 fn push_broken(
     alloc: Global,
     said: &mut Words,
@@ -216,7 +216,7 @@ fn push_broken(
     }
 }
 
-/// Tells what is wrong with a unit, if that does not depend on what is visible there.
+/// Reports what is wrong with a unit, if that does not depend on what is visible there.
 fn push_in_found(alloc: Global, said: &mut Words, text: &Text<'_>, found: &Found<'_>, flaw: Flaw) {
     match flaw {
         Flaw::Broken(rule, node) => push_broken(alloc, said, text, found, rule, node),
@@ -224,7 +224,7 @@ fn push_in_found(alloc: Global, said: &mut Words, text: &Text<'_>, found: &Found
     }
 }
 
-/// Tells what is wrong with the innermost of these units of a tree, if that does not depend on what is visible there.
+/// Reports what is wrong with the innermost of these units of a tree, if that does not depend on what is visible there.
 pub(crate) fn push_in_unit(
     alloc: Global,
     said: &mut Words,

@@ -35,7 +35,7 @@ fn are_blank(names: &[&Name]) -> bool {
     true
 }
 
-/// Puts these names but for `_` behind what is there.
+/// Puts these names but for `_` after what is there.
 fn push_old(said: &mut Words, names: &[&Name]) {
     let mut before = "declared before in this block: ";
     for &name in names {
@@ -46,7 +46,7 @@ fn push_old(said: &mut Words, names: &[&Name]) {
     }
 }
 
-/// Tells of a `:=` that has one name twice, or none that is new.
+/// Reports a `:=` that has one name twice, or none that is new.
 pub(crate) fn push_no_new(said: &mut Words, at: &Setting<'_, '_>) {
     let names = at.parts.names.as_slice();
     if let Some(name) = first_repeated(names) {

@@ -1,5 +1,5 @@
-//! What is wrong where a typing rule is broken or a limit is exceeded, in the words of Go, with names and types as the programmer
-//! wrote them. No contract says what is told.
+//! What is wrong where a typing rule is violated or a limit is exceeded, in the words of Go, with names and types as the programmer
+//! wrote them. No contract says what is printed.
 #![tactic(auto)]
 
 mod declaring;
@@ -14,5 +14,5 @@ mod text;
 mod typing;
 
 pub use reading::fault_of;
-pub use several::{Other, Others, others};
+pub use several::{Other, OtherList, others};
 pub use typing::{push_flaw, push_near};

@@ -7,7 +7,7 @@ use diagnostic_words::words::{Words, push_expression};
 use go_text::LimitKind;
 use syntax::{BinaryOperator, ExpressionNode, FunctionNode, StructNode, UnaryOperator};
 
-/// Tells that a function has too many variables, or is one too many.
+/// Reports that a function has too many variables, or is one too many.
 fn push_function(said: &mut Words, function: &FunctionNode, kind: LimitKind) {
     let name = &function.name;
     match kind {
@@ -25,7 +25,7 @@ fn push_function(said: &mut Words, function: &FunctionNode, kind: LimitKind) {
     }
 }
 
-/// Tells that a struct type is too wide, or one too many.
+/// Reports that a struct type is too wide, or one too many.
 fn push_struct(said: &mut Words, one: &StructNode, kind: LimitKind) {
     let name = &one.name;
     match kind {
@@ -41,7 +41,7 @@ fn push_struct(said: &mut Words, one: &StructNode, kind: LimitKind) {
     }
 }
 
-/// Tells which function or struct type exceeds a limit as a whole, if that is known.
+/// Reports which function or struct type exceeds a limit as a whole, if that is known.
 pub(crate) fn push_exceeded(said: &mut Words, unit: &Unit<'_>, kind: LimitKind) {
     match *unit {
         Unit::Head(function) => push_function(said, function, kind),
@@ -62,7 +62,7 @@ fn noun_of(operator: BinaryOperator) -> &'static str {
     }
 }
 
-/// Tells that an operator makes a constant that is too large of constants.
+/// Reports that an operator makes a constant that is too large of constants.
 fn push_overflow(said: &mut Words, noun: &str, whole: &ExpressionNode) {
     said.text("constant ");
     said.text(noun);
@@ -71,7 +71,7 @@ fn push_overflow(said: &mut Words, noun: &str, whole: &ExpressionNode) {
     said.text(" is over 2^100 in size");
 }
 
-/// Tells that a constant is shifted too far.
+/// Reports that a constant is shifted too far.
 fn push_far(said: &mut Words, at: &Setting<'_, '_>, count: &ExpressionNode) {
     said.text("invalid shift count ");
     at.push_operand(said, count);
@@ -91,7 +91,7 @@ fn is_far(at: &Setting<'_, '_>, operator: BinaryOperator, count: &ExpressionNode
     }
 }
 
-/// Tells of a constant that is over 2^100 in size, or shifted by more than 100, if an operator makes it.
+/// Reports a constant that is over 2^100 in size, or shifted by more than 100, if an operator makes it.
 pub(crate) fn push_size(said: &mut Words, at: &Setting<'_, '_>) {
     match at.part() {
         Some(ExpressionNode::Binary(operator, _, right)) if is_far(at, *operator, right) => {

@@ -22,12 +22,12 @@ fn is_known(at: &Setting<'_, '_>, name: &[u8]) -> bool {
         || is_reserved(name)
 }
 
-/// Tells that a name stands for nothing.
+/// Reports that a name stands for nothing.
 fn push_undefined(said: &mut Words, name: &Name) {
     said.around("undefined: ", name, "");
 }
 
-/// Tells of a name that was to be a value.
+/// Reports a name that was to be a value.
 fn push_no_value(said: &mut Words, at: &Setting<'_, '_>, name: &Name) {
     let bytes = name.bytes.as_slice();
     if is_blank(bytes) {
@@ -42,7 +42,7 @@ fn push_no_value(said: &mut Words, at: &Setting<'_, '_>, name: &Name) {
     }
 }
 
-/// Tells of a name that was to be that of a type.
+/// Reports a name that was to be that of a type.
 fn push_no_type(said: &mut Words, at: &Setting<'_, '_>, name: &Name) {
     let bytes = name.bytes.as_slice();
     if is_type(at.table, bytes) && at.variable(bytes).is_none() {
@@ -54,7 +54,7 @@ fn push_no_type(said: &mut Words, at: &Setting<'_, '_>, name: &Name) {
     }
 }
 
-/// Tells of a name that was to be that of a variable.
+/// Reports a name that was to be that of a variable.
 fn push_no_variable(said: &mut Words, at: &Setting<'_, '_>, name: &Name) {
     if is_known(at, name.bytes.as_slice()) {
         said.around("cannot assign to ", name, ": it is not a variable");
@@ -63,7 +63,7 @@ fn push_no_variable(said: &mut Words, at: &Setting<'_, '_>, name: &Name) {
     }
 }
 
-/// Tells that an operand has no such field.
+/// Reports that an operand has no such field.
 fn push_no_field(said: &mut Words, at: &Setting<'_, '_>, whole: &ExpressionNode, field: &Name) {
     push_expression(said, whole);
     said.around(".", field, " undefined (type ");
@@ -79,7 +79,7 @@ pub(crate) fn last_name(written: &TypeNode) -> &Name {
     }
 }
 
-/// Tells of a part of an expression that is not visible, or is not what is wanted there. Answers whether it is such a part.
+/// Reports a part of an expression that is not visible, or is not what is wanted there. Returns whether it is such a part.
 fn push_in_part(said: &mut Words, at: &Setting<'_, '_>) -> bool {
     match at.part() {
         Some(ExpressionNode::Named(name)) => push_no_value(said, at, name),
@@ -90,7 +90,7 @@ fn push_in_part(said: &mut Words, at: &Setting<'_, '_>) -> bool {
     true
 }
 
-/// Tells of what is not visible, or is not what is wanted there.
+/// Reports what is not visible, or is not what is wanted there.
 pub(crate) fn push_invisible(said: &mut Words, at: &Setting<'_, '_>) {
     if push_in_part(said, at) {
         return;
@@ -106,7 +106,7 @@ pub(crate) fn push_invisible(said: &mut Words, at: &Setting<'_, '_>) {
     }
 }
 
-/// Tells that a part of a place, which has this type, has no such field.
+/// Reports that a part of a place, which has this type, has no such field.
 fn push_no_such(
     said: &mut Words,
     at: &Setting<'_, '_>,
@@ -120,7 +120,7 @@ fn push_no_such(
     said.around(" has no field ", field, ")");
 }
 
-/// Tells of the first field in a place that is not there.
+/// Reports the first field in a place that is not there.
 fn push_no_path(said: &mut Words, at: &Setting<'_, '_>, place: &PlaceNode, kind: ValueType<'_>) {
     let mut kind = kind;
     for field in place.fields.iter() {
@@ -131,7 +131,7 @@ fn push_no_path(said: &mut Words, at: &Setting<'_, '_>, place: &PlaceNode, kind:
     }
 }
 
-/// Tells of a place that is no variable, and no field of one.
+/// Reports a place that is no variable, and no field of one.
 pub(crate) fn push_unassigned(said: &mut Words, at: &Setting<'_, '_>) {
     let Some(place) = at.place() else {
         return;
@@ -165,7 +165,7 @@ fn first_own<'a>(at: &Setting<'_, '_>, names: &[&'a Name]) -> Option<&'a Name> {
     None
 }
 
-/// Tells of a name that may not be declared.
+/// Reports a name that may not be declared.
 pub(crate) fn push_refused(said: &mut Words, name: &Name) {
     let bytes = name.bytes.as_slice();
     if is_blank(bytes) {
@@ -177,7 +177,7 @@ pub(crate) fn push_refused(said: &mut Words, name: &Name) {
     }
 }
 
-/// Tells of a variable that is there already, or is declared twice.
+/// Reports a variable that is there already, or is declared twice.
 fn push_again(said: &mut Words, at: &Setting<'_, '_>, names: &[&Name]) {
     if let Some(name) = first_repeated(names) {
         return push_refused(said, name);
@@ -187,7 +187,7 @@ fn push_again(said: &mut Words, at: &Setting<'_, '_>, names: &[&Name]) {
     }
 }
 
-/// Tells of a variable that may not be declared.
+/// Reports a variable that may not be declared.
 pub(crate) fn push_redeclared(said: &mut Words, at: &Setting<'_, '_>) {
     let names = at.parts.names.as_slice();
     match first_reserved(names) {

@@ -29,7 +29,7 @@ pub fn fault_of(alloc: Global, source: &Source) -> Option<Fault> {
 
 /// A text, and its tree.
 #[derive(Drop)]
-pub(crate) struct Read {
+pub(crate) struct ReadText {
     pub source: Source,
     pub tree: Tree,
 }
@@ -37,7 +37,7 @@ pub(crate) struct Read {
 /// Reads a text; `None` if it has a fault.
 ///
 /// Errors: a request for memory was refused.
-pub(crate) fn read(alloc: Global, text: &str) -> Result<Option<Read>, Memory> {
+pub(crate) fn read(alloc: Global, text: &str) -> Result<Option<ReadText>, Memory> {
     let bytes = Vec::from_slice(alloc, text.as_bytes())?;
     let Ok(source) = Source::new(bytes) else {
         return Ok(None);
@@ -47,7 +47,7 @@ pub(crate) fn read(alloc: Global, text: &str) -> Result<Option<Read>, Memory> {
         Err(fault) => Err(fault),
     };
     match tree {
-        Ok(tree) => Ok(Some(Read { source, tree })),
+        Ok(tree) => Ok(Some(ReadText { source, tree })),
         Err(Fault::Memory) => Err(Memory),
         Err(_) => Ok(None),
     }

@@ -4,7 +4,7 @@ ghost use Rattle.std.specs.Prelude.{◌+◌, ◌^◌, ◌<◌, map, sum_by};
 ghost use Rattle.syntax.specs.Measures.{function_size, statements_size, top_size};
 ghost use Rattle.syntax.specs.View.{body_of, function_of, top_of};
 
-use crate::reading::{Read, read};
+use crate::reading::{ReadText, read};
 use crate::typing::node_of;
 use checker_base::refusal::Refusal;
 use checker_declaration::header::{Head, function_head};
@@ -37,7 +37,7 @@ pub struct Other {
 
 /// Violations of a program, but for the first one.
 #[derive(Drop)]
-pub struct Others {
+pub struct OtherList {
     /// The first nine.
     pub kept: Vec<Other>,
     /// How many more were counted.
@@ -46,9 +46,15 @@ pub struct Others {
     pub is_cut: bool,
 }
 
-impl Others {
+impl OtherList {
     /// Keeps a violation of the program `text`, which is read as `read`.
-    fn put(&mut self, alloc: Global, text: &str, read: &Read, flaw: Flaw) -> Result<(), Memory> {
+    fn put(
+        &mut self,
+        alloc: Global,
+        text: &str,
+        read: &ReadText,
+        flaw: Flaw,
+    ) -> Result<(), Memory> {
         if self.kept.len() >= MOST_KEPT {
             self.more = self.more.saturating_add(1);
             return Ok(());
@@ -64,7 +70,7 @@ impl Others {
         &mut self,
         alloc: Global,
         text: &str,
-        read: &Read,
+        read: &ReadText,
         table: &TypeTable<'_>,
         first: Flaw,
     ) -> Result<(), Memory> {
@@ -85,7 +91,7 @@ impl Others {
     }
 }
 
-impl Read {
+impl ReadText {
     /// The span of a node.
     fn span(&self, node: NodeId) -> Span {
         if node < self.tree.count() {
@@ -118,8 +124,8 @@ impl Read {
     }
 }
 
-/// The first violation of the statements of a function behind its head, if there is one.
-fn flaw_behind<'a>(
+/// The first violation of the statements of a function after its head, if there is one.
+fn flaw_after<'a>(
     alloc: Global,
     table: &TypeTable<'a>,
     head: &Head<'a>,
@@ -160,7 +166,7 @@ fn flaw_of<'a>(
     requires small { function_size (function_of function.now) < 2 ^ 32 }
 {
     match function_head(alloc, table.types(), 0, function) {
-        Ok(head) => flaw_behind(alloc, table, &head, function.body.as_slice()),
+        Ok(head) => flaw_after(alloc, table, &head, function.body.as_slice()),
         Err(Refusal::Memory) => Err(Memory),
         Err(Refusal::Flawed(_)) => Ok(None),
     }
@@ -248,7 +254,7 @@ fn blanked(alloc: Global, text: &str, span: Span) -> Result<String, Memory> {
     }
 }
 
-/// A text with a struct type of this name and one field behind it.
+/// A text with a struct type of this name and one field after it.
 fn with_type(alloc: Global, text: String, one: &StructNode) -> Result<String, Memory> {
     let mut bytes = text.into_bytes();
     bytes.extend_from_slice(b"\ntype ")?;
@@ -262,7 +268,12 @@ fn with_type(alloc: Global, text: String, one: &StructNode) -> Result<String, Me
 
 /// A text without the declaration that has this violation. A struct type of another form takes the place of one that may have its
 /// name, so that nothing is undefined for that.
-fn without(alloc: Global, text: &str, read: &Read, flaw: Flaw) -> Result<Option<String>, Memory> {
+fn without(
+    alloc: Global,
+    text: &str,
+    read: &ReadText,
+    flaw: Flaw,
+) -> Result<Option<String>, Memory> {
     let tops = read.tree.file().tops.as_slice();
     let Some(found) = declaration_at(alloc, tops, node_of(flaw)) else {
         return Ok(None);
@@ -279,7 +290,7 @@ fn without(alloc: Global, text: &str, read: &Read, flaw: Flaw) -> Result<Option<
 }
 
 /// The first violation of the declarations of a text, if there is one.
-fn declared_flaw(alloc: Global, read: &Read) -> Result<Option<Flaw>, Memory> {
+fn declared_flaw(alloc: Global, read: &ReadText) -> Result<Option<Flaw>, Memory> {
     match table_of(alloc, read.tree.file().tops.as_slice()) {
         Ok(_) => Ok(None),
         Err(Refusal::Memory) => Err(Memory),
@@ -289,7 +300,7 @@ fn declared_flaw(alloc: Global, read: &Read) -> Result<Option<Flaw>, Memory> {
 
 /// The violations of the declarations of a text, each but for the first one found in the text without those that have the ones
 /// before.
-fn declared_others(alloc: Global, text: &str, others: &mut Others) -> Result<(), Memory> {
+fn declared_others(alloc: Global, text: &str, others: &mut OtherList) -> Result<(), Memory> {
     let mut current = format!(in alloc; "{text}")?;
     for round in 0..MOST_ROUNDS {
         let Some(read) = read(alloc, current.as_str())? else {
@@ -314,8 +325,8 @@ fn declared_others(alloc: Global, text: &str, others: &mut Others) -> Result<(),
 /// the bodies of its functions. Each is looked at by itself, so that none follows from another one.
 ///
 /// Errors: a request for memory was refused.
-pub fn others(alloc: Global, text: &str, first: Flaw) -> Result<Others, Memory> {
-    let mut others = Others {
+pub fn others(alloc: Global, text: &str, first: Flaw) -> Result<OtherList, Memory> {
+    let mut others = OtherList {
         kept: Vec::new(alloc),
         more: 0,
         is_cut: false,

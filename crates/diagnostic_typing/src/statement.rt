@@ -7,7 +7,7 @@ use go_text::Rule;
 use std::alloc::Global;
 use syntax::{ClauseNode, NodeId};
 
-/// Puts where the `select`'s default of this number, counted from 1, stands behind what is there.
+/// Puts where the `select`'s default of this number, counted from 1, stands after what is there.
 fn push_default(
     alloc: Global,
     said: &mut Words,
@@ -21,7 +21,7 @@ fn push_default(
     }
 }
 
-/// Tells that a `select`, whose nodes have numbers from `first` on, has several defaults.
+/// Reports that a `select`, whose nodes have numbers from `first` on, has several defaults.
 fn push_defaults(
     alloc: Global,
     said: &mut Words,
@@ -36,7 +36,7 @@ fn push_defaults(
     said.text(")");
 }
 
-/// Tells how a `select`, whose nodes have numbers from `first` on, breaks a rule as a whole.
+/// Reports how a `select`, whose nodes have numbers from `first` on, violates a rule as a whole.
 pub(crate) fn push_select(
     alloc: Global,
     said: &mut Words,

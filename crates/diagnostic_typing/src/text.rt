@@ -22,7 +22,7 @@ impl<'a> Text<'a> {
         self.tree.file().tops.as_slice()
     }
 
-    /// Puts the line and the column where a node begins behind what is there.
+    /// Puts the line and the column where a node begins after what is there.
     pub(crate) fn push_position(&self, said: &mut Words, node: NodeId) {
         if node < self.tree.count() {
             let position = self.source.line_column(self.tree.span(node).from);

@@ -24,7 +24,7 @@ fn role_text(role: &Role<'_>) -> &'static str {
     }
 }
 
-/// Puts what a value is for behind what is there.
+/// Puts what a value is for after what is there.
 fn push_role(said: &mut Words, role: &Role<'_>) {
     match role {
         Role::Argument(function) => said.around("argument to ", function, ""),
@@ -32,7 +32,7 @@ fn push_role(said: &mut Words, role: &Role<'_>) {
     }
 }
 
-/// Puts the type that is wanted, if it is known, behind what is there.
+/// Puts the type that is wanted, if it is known, after what is there.
 fn push_as(said: &mut Words, table: &TypeTable<'_>, wanted: Option<ValueType<'_>>) {
     if let Some(kind) = wanted {
         said.text(" as ");
@@ -41,7 +41,7 @@ fn push_as(said: &mut Words, table: &TypeTable<'_>, wanted: Option<ValueType<'_>
     }
 }
 
-/// Puts the type that is wanted, and what for, behind what is there.
+/// Puts the type that is wanted, and what for, after what is there.
 fn push_wanted(
     said: &mut Words,
     table: &TypeTable<'_>,
@@ -53,7 +53,7 @@ fn push_wanted(
     push_role(said, role);
 }
 
-/// Tells that a value does not fit.
+/// Reports that a value does not fit.
 fn push_value(said: &mut Words, at: &Setting<'_, '_>, value: &Given<'_>) {
     said.text("cannot use ");
     at.push_operand(said, value.expression);
@@ -73,7 +73,7 @@ pub(crate) fn kind_made<'a>(
     }
 }
 
-/// Tells that the value of an operation does not fit.
+/// Reports that the value of an operation does not fit.
 fn push_operation_value(said: &mut Words, at: &Setting<'_, '_>, made: &Made<'_>) {
     said.text("cannot use ");
     let kind = kind_made(at, made.operation);
@@ -88,7 +88,7 @@ fn field_type<'a>(at: &Setting<'_, 'a>, filled: &Filled<'_>) -> Option<ValueType
     Some(field.kind)
 }
 
-/// Tells that a value does not fit a literal's field.
+/// Reports that a value does not fit a literal's field.
 fn push_filled(said: &mut Words, at: &Setting<'_, '_>, filled: &Filled<'_>) {
     said.text("cannot use ");
     at.push_operand(said, filled.value);
@@ -96,7 +96,7 @@ fn push_filled(said: &mut Words, at: &Setting<'_, '_>, filled: &Filled<'_>) {
     said.text(" in struct literal");
 }
 
-/// Tells that what is received from a channel does not fit a place.
+/// Reports that what is received from a channel does not fit a place.
 fn push_item(said: &mut Words, at: &Setting<'_, '_>, channel: &Given<'_>, place: &PlaceNode) {
     said.text("cannot use a value received from ");
     at.push_operand(said, channel.expression);
@@ -114,7 +114,7 @@ fn is_ranged(value: &Given<'_>) -> bool {
     matches!(value.role, Role::Ranged)
 }
 
-/// Tells of an item of a range, or of a clause, that does not fit the first place.
+/// Reports an item of a range, or of a clause, that does not fit the first place.
 fn push_received(said: &mut Words, at: &Setting<'_, '_>) {
     let Some(channel) = at.parts.values.first() else {
         return;
@@ -124,7 +124,7 @@ fn push_received(said: &mut Words, at: &Setting<'_, '_>) {
     }
 }
 
-/// Tells of a value that does not fit: that of a range or a clause, or one that stands for itself.
+/// Reports a value that does not fit: that of a range or a clause, or one that stands for itself.
 fn push_unfit_value(said: &mut Words, at: &Setting<'_, '_>) {
     match at.value() {
         Some(value) if !is_ranged(value) => push_value(said, at, value),
@@ -132,7 +132,7 @@ fn push_unfit_value(said: &mut Words, at: &Setting<'_, '_>) {
     }
 }
 
-/// Tells of the value at the node of the fault, which does not fit.
+/// Reports the value at the node of the fault, which does not fit.
 pub fn push_unfit(said: &mut Words, at: &Setting<'_, '_>) {
     if let Some(made) = at.made() {
         return push_operation_value(said, at, made);
@@ -143,7 +143,7 @@ pub fn push_unfit(said: &mut Words, at: &Setting<'_, '_>) {
     }
 }
 
-/// Tells of a constant that is used as an int, and fits none.
+/// Reports a constant that is used as an int, and fits none.
 fn push_overflow(said: &mut Words, at: &Setting<'_, '_>, part: &ExpressionNode) {
     match at.value() {
         Some(value) if value.wanted.is_some() => {
@@ -157,7 +157,7 @@ fn push_overflow(said: &mut Words, at: &Setting<'_, '_>, part: &ExpressionNode) 
     }
 }
 
-/// Tells of a constant that is used as an int, and fits none, if such a one is at the node of the fault.
+/// Reports a constant that is used as an int, and fits none, if such a one is at the node of the fault.
 pub fn push_constant(said: &mut Words, at: &Setting<'_, '_>) {
     let Some(part) = at.part() else {
         return;
@@ -167,7 +167,7 @@ pub fn push_constant(said: &mut Words, at: &Setting<'_, '_>) {
     }
 }
 
-/// Tells of a `nil` that is a value by itself.
+/// Reports a `nil` that is a value by itself.
 fn push_lone_nil(said: &mut Words, at: &Setting<'_, '_>, value: &Given<'_>) {
     match value.wanted {
         Some(kind) => {
@@ -180,7 +180,7 @@ fn push_lone_nil(said: &mut Words, at: &Setting<'_, '_>, value: &Given<'_>) {
     push_role(said, &value.role);
 }
 
-/// Tells of a `nil` for which no channel type is known.
+/// Reports a `nil` for which no channel type is known.
 pub fn push_nil(said: &mut Words, at: &Setting<'_, '_>) {
     let Some(value) = at.around() else {
         return;

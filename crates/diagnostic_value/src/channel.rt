@@ -17,7 +17,7 @@ fn before_no_channel(role: &Role<'_>) -> Option<&'static str> {
     }
 }
 
-/// Tells of the operand at the node of the fault, which is no channel.
+/// Reports the operand at the node of the fault, which is no channel.
 pub fn push_no_channel(said: &mut Words, at: &Setting<'_, '_>) {
     let Some(value) = at.value() else {
         return;
@@ -44,7 +44,7 @@ fn before_direction(role: &Role<'_>) -> Option<&'static str> {
     }
 }
 
-/// Tells of an operation that the direction of its channel does not allow.
+/// Reports an operation that the direction of its channel does not allow.
 pub fn push_direction(said: &mut Words, at: &Setting<'_, '_>) {
     let Some(value) = at.parts.values.first() else {
         return;
@@ -59,21 +59,21 @@ pub fn push_direction(said: &mut Words, at: &Setting<'_, '_>) {
     }
 }
 
-/// Tells of a `make` of what is no channel.
+/// Reports a `make` of what is no channel.
 fn push_no_make(said: &mut Words, written: &TypeNode) {
     said.text("invalid argument: cannot make ");
     push_written(said, written);
     said.text("; type must be channel");
 }
 
-/// Tells of a `make` of what is no channel, if the operation is one.
+/// Reports a `make` of what is no channel, if the operation is one.
 fn push_unmade_type(said: &mut Words, operation: &OperationNode) {
     if let OperationNode::Make(written, _) = operation {
         push_no_make(said, written);
     }
 }
 
-/// Tells of a `make` of no channel, or of its size.
+/// Reports a `make` of no channel, or of its size.
 pub fn push_unmade(said: &mut Words, at: &Setting<'_, '_>) {
     if let Some(value) = at.value() {
         said.text("invalid argument: size ");

@@ -9,13 +9,13 @@ use syntax::{ExpressionNode, Name, OperationNode};
 use type_table::layout::{function_number, number_of};
 use type_table::value_type::ValueType;
 
-/// Puts a number of things behind what is there.
+/// Puts a number of things after what is there.
 fn push_count(said: &mut Words, count: usize, one: &str, many: &str) {
     said.number(i128::try_from(count).unwrap_or(0));
     said.text(if count == 1 { one } else { many });
 }
 
-/// Puts how many values there are behind what is there.
+/// Puts how many values there are after what is there.
 fn push_values(said: &mut Words, at: &Setting<'_, '_>) {
     if let Some(called) = at.parts.calls.first() {
         push_call(said, called.function, called.arguments);
@@ -29,7 +29,7 @@ fn push_values(said: &mut Words, at: &Setting<'_, '_>) {
     push_count(said, count, " value", " values");
 }
 
-/// Tells of an assignment or a declaration with too many or too few values.
+/// Reports an assignment or a declaration with too many or too few values.
 fn push_mismatch(said: &mut Words, at: &Setting<'_, '_>) {
     let places = at.parts.places.len().max(at.parts.names.len());
     if places > 0 {
@@ -39,7 +39,7 @@ fn push_mismatch(said: &mut Words, at: &Setting<'_, '_>) {
     }
 }
 
-/// Puts the type of a value that is given behind what is there.
+/// Puts the type of a value that is given after what is there.
 fn push_given(said: &mut Words, at: &Setting<'_, '_>, value: &ExpressionNode) {
     match at.worth(value) {
         Some(Worth::Constant(_)) => said.text("number"),
@@ -48,7 +48,7 @@ fn push_given(said: &mut Words, at: &Setting<'_, '_>, value: &ExpressionNode) {
     }
 }
 
-/// Puts types of values behind what is there, in parentheses.
+/// Puts types of values after what is there, in parentheses.
 fn push_have(said: &mut Words, at: &Setting<'_, '_>, values: &[ExpressionNode]) {
     said.text("(");
     for (index, value) in values.iter().enumerate() {
@@ -58,7 +58,7 @@ fn push_have(said: &mut Words, at: &Setting<'_, '_>, values: &[ExpressionNode]) 
     said.text(")");
 }
 
-/// Puts types behind what is there, in parentheses.
+/// Puts types after what is there, in parentheses.
 fn push_want(said: &mut Words, at: &Setting<'_, '_>, kinds: &[ValueType<'_>]) {
     said.text("(");
     for (index, kind) in kinds.iter().enumerate() {
@@ -68,7 +68,7 @@ fn push_want(said: &mut Words, at: &Setting<'_, '_>, kinds: &[ValueType<'_>]) {
     said.text(")");
 }
 
-/// Tells of a call with too many or too few arguments of a function with parameters of these types.
+/// Reports a call with too many or too few arguments of a function with parameters of these types.
 fn push_arguments(
     said: &mut Words,
     at: &Setting<'_, '_>,
@@ -85,7 +85,7 @@ fn push_arguments(
     said.text(")");
 }
 
-/// Tells of a literal with too many or too few values.
+/// Reports a literal with too many or too few values.
 fn push_literal(said: &mut Words, at: &Setting<'_, '_>, name: &Name, values: usize) {
     let Some(entry) = struct_named(at.table, name) else {
         return;
@@ -95,7 +95,7 @@ fn push_literal(said: &mut Words, at: &Setting<'_, '_>, name: &Name, values: usi
     said.around(" values in struct literal of type ", name, "");
 }
 
-/// Tells of too many or too few values.
+/// Reports too many or too few values.
 pub fn push_numbers(said: &mut Words, at: &Setting<'_, '_>) {
     if let Some(ExpressionNode::Composite(name, values, _)) = at.part() {
         return push_literal(said, at, name, values.len());
@@ -108,14 +108,14 @@ pub fn push_numbers(said: &mut Words, at: &Setting<'_, '_>) {
     }
 }
 
-/// Tells of a value that is returned where there is no result.
+/// Reports a value that is returned where there is no result.
 fn push_unwanted(said: &mut Words, at: &Setting<'_, '_>, value: &ExpressionNode) {
     said.text("too many return values (have (");
     push_given(said, at, value);
     said.text("), want ())");
 }
 
-/// Tells of an operation whose value is returned where there is no result.
+/// Reports an operation whose value is returned where there is no result.
 fn push_unwanted_operation(said: &mut Words, at: &Setting<'_, '_>, operation: &OperationNode) {
     said.text("too many return values (have (");
     match kind_made(at, operation) {
@@ -125,14 +125,14 @@ fn push_unwanted_operation(said: &mut Words, at: &Setting<'_, '_>, operation: &O
     said.text("), want ())");
 }
 
-/// Tells of a `return` without a value where there is a result of this type.
+/// Reports a `return` without a value where there is a result of this type.
 fn push_nothing(said: &mut Words, at: &Setting<'_, '_>, kind: ValueType<'_>) {
     said.text("not enough return values (have (), want (");
     push_type(said, at.table, kind);
     said.text("))");
 }
 
-/// Tells of a `return` with a value too many or too few.
+/// Reports a `return` with a value too many or too few.
 pub fn push_returned(said: &mut Words, at: &Setting<'_, '_>) {
     if let Some(kind) = at.scene.result {
         return push_nothing(said, at, kind);
@@ -145,7 +145,7 @@ pub fn push_returned(said: &mut Words, at: &Setting<'_, '_>) {
     }
 }
 
-/// Tells of a call of a variable of this type.
+/// Reports a call of a variable of this type.
 fn push_variable(said: &mut Words, at: &Setting<'_, '_>, name: &Name, kind: ValueType<'_>) {
     said.around(
         "invalid operation: cannot call non-function ",
@@ -156,7 +156,7 @@ fn push_variable(said: &mut Words, at: &Setting<'_, '_>, name: &Name, kind: Valu
     said.text(")");
 }
 
-/// Tells of a call of what is no function.
+/// Reports a call of what is no function.
 fn push_no_function(said: &mut Words, at: &Setting<'_, '_>, name: &Name) {
     match at.variable(name.bytes.as_slice()) {
         Some(entry) => push_variable(said, at, name, entry.kind),
@@ -175,7 +175,7 @@ fn is_function(at: &Setting<'_, '_>, name: &Name) -> bool {
         && function_number(at.table, bytes).is_some()
 }
 
-/// Tells of a value that can't be printed.
+/// Reports a value that can't be printed.
 fn push_unprinted(said: &mut Words, at: &Setting<'_, '_>) {
     let Some(value) = at.value() else {
         return;
@@ -185,7 +185,7 @@ fn push_unprinted(said: &mut Words, at: &Setting<'_, '_>) {
     said.text(": only ints, bools and strings are printed");
 }
 
-/// Tells of a call of no function, of one without a result that is used as a value, and of what can't be printed.
+/// Reports a call of no function, of one without a result that is used as a value, and of what can't be printed.
 pub fn push_called(said: &mut Words, at: &Setting<'_, '_>) {
     let Some(called) = at.called() else {
         return push_unprinted(said, at);

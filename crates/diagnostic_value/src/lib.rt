@@ -1,5 +1,5 @@
 //! Values and operations that do not fit where they stand, in the words of Go: the scene of a fault, and what sentences tell of
-//! the values there. No contract says what is told.
+//! the values there. No contract says what is printed.
 #![tactic(auto)]
 
 pub mod assigning;

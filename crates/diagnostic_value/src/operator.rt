@@ -40,7 +40,7 @@ fn sort_of(at: &Setting<'_, '_>, expression: &ExpressionNode) -> Sort {
     }
 }
 
-/// Puts that an operator is not defined on an operand behind what is there.
+/// Puts that an operator is not defined on an operand after what is there.
 fn push_undefined_on(
     said: &mut Words,
     at: &Setting<'_, '_>,
@@ -53,7 +53,7 @@ fn push_undefined_on(
     at.push_operand(said, operand);
 }
 
-/// Puts the two types of operands that do not go together behind what is there.
+/// Puts the two types of operands that do not go together after what is there.
 fn push_mismatch(
     said: &mut Words,
     at: &Setting<'_, '_>,
@@ -67,7 +67,7 @@ fn push_mismatch(
     said.text(")");
 }
 
-/// Tells of an operator between two operands.
+/// Reports an operator between two operands.
 fn push_binary(
     said: &mut Words,
     at: &Setting<'_, '_>,
@@ -89,7 +89,7 @@ fn push_binary(
     }
 }
 
-/// Tells of an operator before an operand.
+/// Reports an operator before an operand.
 fn push_unary(
     said: &mut Words,
     at: &Setting<'_, '_>,
@@ -100,7 +100,7 @@ fn push_unary(
     push_undefined_on(said, at, unary_text(operator), operand);
 }
 
-/// Tells of a place of another type than int that is counted up or down.
+/// Reports a place of another type than int that is counted up or down.
 fn push_step(said: &mut Words, at: &Setting<'_, '_>, place: &PlaceNode) {
     said.text("invalid operation: ");
     push_place(said, place);
@@ -112,7 +112,7 @@ fn push_step(said: &mut Words, at: &Setting<'_, '_>, place: &PlaceNode) {
     }
 }
 
-/// Puts that the operator of an assignment is not defined on a place of this value's type behind what is there.
+/// Puts that the operator of an assignment is not defined on a place of this value's type after what is there.
 fn push_undefined_at(
     said: &mut Words,
     at: &Setting<'_, '_>,
@@ -129,7 +129,7 @@ fn push_undefined_at(
     said.text(")");
 }
 
-/// Puts an assignment with an operator behind what is there.
+/// Puts an assignment with an operator after what is there.
 fn push_assigned(
     said: &mut Words,
     place: &PlaceNode,
@@ -143,7 +143,7 @@ fn push_assigned(
     push_expression(said, value);
 }
 
-/// Puts the type of a place and that of a value, which do not go together, behind what is there.
+/// Puts the type of a place and that of a value, which do not go together, after what is there.
 fn push_types(said: &mut Words, at: &Setting<'_, '_>, kind: ValueType<'_>, value: &ExpressionNode) {
     said.text(" (mismatched types ");
     push_type(said, at.table, kind);
@@ -152,7 +152,7 @@ fn push_types(said: &mut Words, at: &Setting<'_, '_>, kind: ValueType<'_>, value
     said.text(")");
 }
 
-/// Puts an assignment with an operator, and its two types, behind what is there.
+/// Puts an assignment with an operator, and its two types, after what is there.
 fn push_update(
     said: &mut Words,
     at: &Setting<'_, '_>,
@@ -182,7 +182,7 @@ fn update_in<'a>(at: &Setting<'_, 'a>) -> Option<(BinaryOperator, &'a Expression
     }
 }
 
-/// Tells of an operator of a statement, which does not fit its place.
+/// Reports an operator of a statement, which does not fit its place.
 fn push_operator_of(said: &mut Words, at: &Setting<'_, '_>) {
     let Some(place) = at.parts.places.first() else {
         return;
@@ -193,7 +193,7 @@ fn push_operator_of(said: &mut Words, at: &Setting<'_, '_>) {
     }
 }
 
-/// Tells of operands that do not fit their operator.
+/// Reports operands that do not fit their operator.
 pub fn push_operands(said: &mut Words, at: &Setting<'_, '_>) {
     match at.part() {
         Some(whole @ ExpressionNode::Binary(operator, left, right)) => {
@@ -209,13 +209,13 @@ fn divides(operator: BinaryOperator) -> bool {
     matches!(operator, BinaryOperator::Divide | BinaryOperator::Remainder)
 }
 
-/// Tells that a shift counts by a negative constant.
+/// Reports that a shift counts by a negative constant.
 fn push_negative(said: &mut Words, at: &Setting<'_, '_>, count: &ExpressionNode) {
     said.text("invalid operation: negative shift count ");
     at.push_operand(said, count);
 }
 
-/// Tells of an assignment with an operator, to the right of which stands zero, or a negative count.
+/// Reports an assignment with an operator, to the right of which stands zero, or a negative count.
 fn push_wrong_update(
     said: &mut Words,
     at: &Setting<'_, '_>,
@@ -230,7 +230,7 @@ fn push_wrong_update(
     push_assigned(said, place, operator, value);
 }
 
-/// Tells of an operator in an expression, to the right of which stands zero, or a negative count.
+/// Reports an operator in an expression, to the right of which stands zero, or a negative count.
 fn push_wrong_right(
     said: &mut Words,
     at: &Setting<'_, '_>,
@@ -245,7 +245,7 @@ fn push_wrong_right(
     push_expression(said, whole);
 }
 
-/// Tells of an assignment with an operator whose constant right operand can not stand there.
+/// Reports an assignment with an operator whose constant right operand can not stand there.
 fn push_operator_in(said: &mut Words, at: &Setting<'_, '_>) {
     let Some(place) = at.parts.places.first() else {
         return;
@@ -255,7 +255,7 @@ fn push_operator_in(said: &mut Words, at: &Setting<'_, '_>) {
     }
 }
 
-/// Tells of an operator whose constant right operand can not stand there.
+/// Reports an operator whose constant right operand can not stand there.
 pub fn push_operator(said: &mut Words, at: &Setting<'_, '_>) {
     match at.part() {
         Some(whole @ ExpressionNode::Binary(operator, _, right)) => {

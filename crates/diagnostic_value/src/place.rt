@@ -103,12 +103,12 @@ impl<'s, 'a> Setting<'s, 'a> {
         variable_named(self.table, &self.scene.visible, name)
     }
 
-    /// Puts an operand, with what it is worth there, behind what is there.
+    /// Puts an operand, with what it is worth there, after what is there.
     pub fn push_operand(&self, said: &mut Words, operand: &ExpressionNode) {
         push_operand(said, self.table, &self.scene.visible, operand);
     }
 
-    /// Puts what an operand is worth there behind what is there.
+    /// Puts what an operand is worth there after what is there.
     pub fn push_worth(&self, said: &mut Words, operand: &ExpressionNode) {
         push_worth(said, self.table, &self.scene.visible, operand);
     }

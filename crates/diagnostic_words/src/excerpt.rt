@@ -7,12 +7,12 @@ use unicode_width::UnicodeWidthStr;
 /// How many bytes of a line are shown before the place, and how many from it on.
 const MOST_BEFORE: usize = 60;
 
-const MOST_BEHIND: usize = 60;
+const MOST_AFTER: usize = 60;
 
 /// How many bytes a line has at most that is shown whole.
 const MOST_WHOLE: usize = 120;
 
-/// Puts the line of the program in which the span begins, and below it marks under the span, up to the end of that line, behind
+/// Puts the line of the program in which the span begins, and below it marks under the span, up to the end of that line, after
 /// what is there. Tabs stand under tabs, so that the marks are under the span wherever a terminal has its tab stops. Of a line of
 /// more than 120 bytes the part around the span is shown, and `..` for what is cut off.
 pub fn push_excerpt(said: &mut Words, text: &str, span: Span) {
@@ -20,11 +20,11 @@ pub fn push_excerpt(said: &mut Words, text: &str, span: Span) {
     let Some(before) = text.get(..from) else {
         return;
     };
-    let Some(behind) = text.get(from..) else {
+    let Some(after) = text.get(from..) else {
         return;
     };
     let indent = before.rsplit('\n').next().unwrap_or("");
-    let rest = behind
+    let rest = after
         .split('\n')
         .next()
         .unwrap_or("")
@@ -51,7 +51,7 @@ fn push_line(said: &mut Words, first: &str, rest: &str, marked: &str) {
 /// Puts the part of a long line that stands around the place at which `rest` begins.
 fn push_cut(said: &mut Words, before: &str, rest: &str, marked: &str) {
     let first = end_of(before, MOST_BEFORE);
-    let second = beginning_of(rest, MOST_BEHIND);
+    let second = beginning_of(rest, MOST_AFTER);
     let is_cut_before = first.len() < before.len();
     if is_cut_before {
         said.text("..");
@@ -108,7 +108,7 @@ fn is_hidden(one: char) -> bool {
     }
 }
 
-/// Puts a piece of a line behind what is there, with `<U+FEFF>` for a character that can't be seen.
+/// Puts a piece of a line after what is there, with `<U+FEFF>` for a character that can't be seen.
 pub fn push_shown(said: &mut Words, piece: &str) {
     let mut buffer = [0; 4];
     for one in piece.chars() {
@@ -122,12 +122,13 @@ pub fn push_shown(said: &mut Words, piece: &str) {
     }
 }
 
-/// Puts the number of a character in four hexadecimal digits behind what is there; those that are hidden have no more.
+/// Puts the number of a character in four hexadecimal digits after what is there; those that are hidden have no more.
 fn push_code(said: &mut Words, one: char) {
     let code = u32::from(one);
-    for shift in [12, 8, 4, 0] {
-        said.text(digit_text((code >> shift) & 0xf));
-    }
+    said.text(digit_text((code >> 12) & 0xf));
+    said.text(digit_text((code >> 8) & 0xf));
+    said.text(digit_text((code >> 4) & 0xf));
+    said.text(digit_text(code & 0xf));
 }
 
 /// A hexadecimal digit.
@@ -163,7 +164,7 @@ fn shown_width(piece: &str) -> usize {
     width
 }
 
-/// Puts white space as wide as a piece of a line, with its tabs, behind what is there.
+/// Puts white space as wide as a piece of a line, with its tabs, after what is there.
 fn push_blanks(said: &mut Words, before: &str) {
     for (index, piece) in before.split('\t').enumerate() {
         said.text(if index > 0 { "\t" } else { "" });
@@ -171,7 +172,7 @@ fn push_blanks(said: &mut Words, before: &str) {
     }
 }
 
-/// Puts text `times` times behind what is there.
+/// Puts text `times` times after what is there.
 fn push_times(said: &mut Words, text: &str, times: usize) {
     for _ in 0..times {
         said.text(text);

@@ -111,7 +111,7 @@ fn push_constant(said: &mut Words, expression: &ExpressionNode, value: i128) {
     said.text(")");
 }
 
-/// Puts a value behind what is there, as `x (variable of type int)`.
+/// Puts a value after what is there, as `x (variable of type int)`.
 pub fn push_operand(
     said: &mut Words,
     table: &TypeTable<'_>,
@@ -126,7 +126,7 @@ pub fn push_operand(
     }
 }
 
-/// Puts the type of a value behind what is there, as `int` or `untyped int`.
+/// Puts the type of a value after what is there, as `int` or `untyped int`.
 pub fn push_worth(
     said: &mut Words,
     table: &TypeTable<'_>,
@@ -141,7 +141,7 @@ pub fn push_worth(
     }
 }
 
-/// Puts the type of a value that is no constant behind what is there.
+/// Puts the type of a value that is no constant after what is there.
 fn push_type_of(
     said: &mut Words,
     table: &TypeTable<'_>,
@@ -155,7 +155,7 @@ fn push_type_of(
     }
 }
 
-/// Puts an operation and the type of its value behind what is there.
+/// Puts an operation and the type of its value after what is there.
 pub fn push_made(
     said: &mut Words,
     table: &TypeTable<'_>,

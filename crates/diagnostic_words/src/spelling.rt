@@ -10,8 +10,8 @@ fn common_length(one: &[u8], other: &[u8]) -> usize {
     one.len()
 }
 
-/// What a word ends with behind its first `count` bytes.
-fn behind(word: &[u8], count: usize) -> &[u8] {
+/// What a word ends with after its first `count` bytes.
+fn after(word: &[u8], count: usize) -> &[u8] {
     word.get(count..).unwrap_or(b"".as_slice())
 }
 
@@ -21,7 +21,7 @@ fn is_swapped(one: &[u8], other: &[u8]) -> bool {
         && other.len() > 1
         && one.first() == other.get(1)
         && one.get(1) == other.first()
-        && behind(one, 2) == behind(other, 2)
+        && after(one, 2) == after(other, 2)
 }
 
 /// Whether a word becomes the other one if one byte is put in, left out or replaced, or two neighbours are swapped. Words of less
@@ -31,13 +31,13 @@ pub fn is_near(one: &[u8], other: &[u8]) -> bool {
         return false;
     }
     let length = common_length(one, other);
-    let first = behind(one, length);
-    let second = behind(other, length);
+    let first = after(one, length);
+    let second = after(other, length);
     if first.is_empty() && second.is_empty() {
         return false;
     }
-    behind(first, 1) == second
-        || first == behind(second, 1)
-        || behind(first, 1) == behind(second, 1)
+    after(first, 1) == second
+        || first == after(second, 1)
+        || after(first, 1) == after(second, 1)
         || is_swapped(first, second)
 }

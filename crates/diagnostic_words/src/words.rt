@@ -47,36 +47,36 @@ impl Words {
         self.is_cut = true;
     }
 
-    /// Puts bytes behind what is there.
+    /// Puts bytes after what is there.
     fn put(&mut self, bytes: &[u8]) {
         if !self.is_cut {
             self.is_cut = self.bytes.extend_from_slice(bytes).is_err();
         }
     }
 
-    /// Puts text behind what is there.
+    /// Puts text after what is there.
     pub fn text(&mut self, text: &str) {
         self.put(text.as_bytes());
     }
 
-    /// Puts a name behind what is there.
+    /// Puts a name after what is there.
     pub fn name(&mut self, name: &Name) {
         self.put(name.bytes.as_slice());
     }
 
-    /// Puts bytes in UTF-8 behind what is there.
+    /// Puts bytes in UTF-8 after what is there.
     pub fn bytes(&mut self, bytes: &[u8]) {
         self.put(bytes);
     }
 
-    /// Puts a name between two texts behind what is there.
+    /// Puts a name between two texts after what is there.
     pub fn around(&mut self, before: &str, name: &Name, behind: &str) {
         self.text(before);
         self.name(name);
         self.text(behind);
     }
 
-    /// Puts a number behind what is there.
+    /// Puts a number after what is there.
     pub fn number(&mut self, value: i128) {
         match value.to_string(self.alloc) {
             Ok(text) => self.text(text.as_str()),
@@ -120,7 +120,7 @@ pub fn unary_text(operator: UnaryOperator) -> &'static str {
     }
 }
 
-/// Puts an expression behind what is there; of a literal with values it puts the type alone.
+/// Puts an expression after what is there; of a literal with values it puts the type alone.
 #[cycle(expression)]
 pub fn push_expression(said: &mut Words, expression: &ExpressionNode) {
     match expression {
@@ -140,7 +140,7 @@ pub fn push_expression(said: &mut Words, expression: &ExpressionNode) {
     }
 }
 
-/// Puts an expression between two texts behind what is there.
+/// Puts an expression between two texts after what is there.
 #[cycle(expression)]
 fn push_between(said: &mut Words, before: &str, expression: &ExpressionNode, behind: &str) {
     said.text(before);
@@ -148,20 +148,20 @@ fn push_between(said: &mut Words, before: &str, expression: &ExpressionNode, beh
     said.text(behind);
 }
 
-/// Puts a field of an expression behind what is there.
+/// Puts a field of an expression after what is there.
 #[cycle(expression)]
 fn push_selection(said: &mut Words, whole: &ExpressionNode, field: &Name) {
     push_between(said, "", whole, ".");
     said.name(field);
 }
 
-/// Puts a literal behind what is there, its values as three dots.
+/// Puts a literal after what is there, its values as three dots.
 fn push_literal(said: &mut Words, name: &Name, is_empty: bool) {
     said.name(name);
     said.text(if is_empty { "{}" } else { "{…}" });
 }
 
-/// Puts an integer of the text behind what is there.
+/// Puts an integer of the text after what is there.
 fn push_integer(said: &mut Words, value: Option<u128>) {
     match value.and_then(|value| i128::try_from(value).ok()) {
         Some(value) => said.number(value),
@@ -169,14 +169,14 @@ fn push_integer(said: &mut Words, value: Option<u128>) {
     }
 }
 
-/// Puts values behind what is there, with commas.
+/// Puts values after what is there, with commas.
 fn push_values(said: &mut Words, values: &[ExpressionNode]) {
     for (index, value) in values.iter().enumerate() {
         push_between(said, if index > 0 { ", " } else { "" }, value, "");
     }
 }
 
-/// Puts a call behind what is there.
+/// Puts a call after what is there.
 pub fn push_call(said: &mut Words, function: &Name, arguments: &ArgumentsNode) {
     said.name(function);
     said.text("(");
@@ -184,13 +184,13 @@ pub fn push_call(said: &mut Words, function: &Name, arguments: &ArgumentsNode) {
     said.text(")");
 }
 
-/// Puts a built-in function's call with one argument behind what is there.
+/// Puts a built-in function's call with one argument after what is there.
 fn push_measured(said: &mut Words, function: &str, argument: &ExpressionNode) {
     said.text(function);
     push_between(said, "(", argument, ")");
 }
 
-/// Puts a `make` behind what is there.
+/// Puts a `make` after what is there.
 fn push_make(said: &mut Words, written: &TypeNode, size: &Option<ExpressionNode>) {
     said.text("make(");
     push_written(said, written);
@@ -200,7 +200,7 @@ fn push_make(said: &mut Words, written: &TypeNode, size: &Option<ExpressionNode>
     }
 }
 
-/// Puts an operation behind what is there.
+/// Puts an operation after what is there.
 pub fn push_operation(said: &mut Words, operation: &OperationNode) {
     match operation {
         OperationNode::Call(function, arguments) => push_call(said, function, arguments),
@@ -211,7 +211,7 @@ pub fn push_operation(said: &mut Words, operation: &OperationNode) {
     }
 }
 
-/// Puts a place behind what is there.
+/// Puts a place after what is there.
 pub fn push_place(said: &mut Words, place: &PlaceNode) {
     said.name(&place.name);
     for field in place.fields.iter() {
@@ -220,7 +220,7 @@ pub fn push_place(said: &mut Words, place: &PlaceNode) {
     }
 }
 
-/// Puts a type behind what is there, in no more parentheses than it needs.
+/// Puts a type after what is there, in no more parentheses than it needs.
 #[cycle(written)]
 pub fn push_written(said: &mut Words, written: &TypeNode) {
     match written {
@@ -230,7 +230,7 @@ pub fn push_written(said: &mut Words, written: &TypeNode) {
     }
 }
 
-/// Puts the type of a channel behind what is there.
+/// Puts the type of a channel after what is there.
 #[cycle(written)]
 fn push_channel(said: &mut Words, direction: Direction, element: &TypeNode) {
     let parted = needs_parentheses(direction, element);
@@ -258,7 +258,7 @@ fn channel_text(direction: Direction) -> &'static str {
     }
 }
 
-/// Puts a type behind what is there.
+/// Puts a type after what is there.
 pub fn push_type(said: &mut Words, table: &TypeTable<'_>, kind: ValueType<'_>) {
     match kind {
         ValueType::Int => said.text("int"),

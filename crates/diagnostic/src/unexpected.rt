@@ -46,7 +46,7 @@ fn found_at(text: &str, place: Place) -> &str {
     }
 }
 
-/// Puts what was found where no tree goes on, what could stand there, its line, and a hint, behind what is there.
+/// Puts what was found where no tree goes on, what could stand there, its line, and a hint, after what is there.
 pub(crate) fn push_syntax(
     alloc: Global,
     said: &mut Words,
