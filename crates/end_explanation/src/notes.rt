@@ -4,7 +4,6 @@ use book::{Book, BookName};
 use go_text::Memory;
 use std::alloc::Global;
 use word::request::{Case, Event, EventOutcome, Reply, Request};
-use word::value::Word;
 
 /// An instruction: the number of its function, and its index there.
 #[derive(Clone, Copy)]
