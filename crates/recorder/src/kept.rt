@@ -89,6 +89,22 @@ impl Drop for Collected {
     }
 }
 
+impl Collected {
+    /// These events, before which the run had `before`, which left this.
+    fn after(self, before: u64, past: Lanes) -> Kept
+        ensures { (result.before ≡ before) × (result.events.items ≡ self.events.items) × (result.end ≡ self.end) }
+    {
+        let Collected { events, sites, end } = self;
+        Kept {
+            before,
+            past,
+            events,
+            sites,
+            end,
+        }
+    }
+}
+
 /// The last events of a run, up to some event, and what there was before them.
 pub(crate) struct Latest {
     /// How many events the run had before these.
@@ -139,14 +155,8 @@ pub(crate) fn keep_from<B: BookName>(
             end,
         });
     }
-    let Collected { events, sites, end } = collect(alloc, book, before, most)?;
-    Ok(Kept {
-        before,
-        past,
-        events,
-        sites,
-        end,
-    })
+    let collected = collect(alloc, book, before, most)?;
+    Ok(collected.after(before, past))
 }
 
 /// Commits `skip` events of a book that has committed none: how many it had, and its end if it had no more.
@@ -170,7 +180,7 @@ fn pass<B: BookName>(
         }
         match next(book)? {
             Settled::Committed(event) => {
-                past.take(&event, site_of(book, event.number))?;
+                past.take(&event, site_of(book, &event))?;
                 before += 1;
             }
             Settled::Waiting(_) => {}
@@ -206,7 +216,7 @@ fn collect<B: BookName>(
         }
         match next(book)? {
             Settled::Committed(event) => {
-                sites.push(site_of(book, event.number))?;
+                sites.push(site_of(book, &event))?;
                 events.push(event)?;
             }
             Settled::Waiting(_) => {}
@@ -245,7 +255,7 @@ pub(crate) fn keep_last<B: BookName>(
     'rounds: for _ in 0..u64::MAX {
         match next(book)? {
             Settled::Committed(event) => {
-                let site = site_of(book, event.number);
+                let site = site_of(book, &event);
                 latest.push(event, site, most)?;
             }
             Settled::Waiting(_) => {}
@@ -298,9 +308,8 @@ impl Latest {
     }
 }
 
-/// The instruction that made the request of the event that the book has just committed, whose actor has this number; none if it is not
-/// known.
-fn site_of<B: BookName>(_book: &Book<B>, _number: u64) -> Option<Site> {
+/// The instruction that made the request of the event that the book has just committed; none if it is not known.
+fn site_of<B: BookName>(_book: &Book<B>, _event: &Event) -> Option<Site> {
     None
 }
 
