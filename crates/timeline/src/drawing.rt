@@ -251,7 +251,7 @@ fn push_edges(text: &mut String, drawing: &Drawing) -> Result<(), AllocError> {
         push_edge(text, drawing, LEFT, "start", note.as_str())?;
     }
     match drawing.recording.end {
-        None => push_edge(text, drawing, right, "end", "cut here"),
+        None => push_edge(text, drawing, right, "end", "cut here: the run goes on"),
         Some(_) => Ok(()),
     }
 }

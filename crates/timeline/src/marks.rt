@@ -51,6 +51,10 @@ pub(crate) fn mark_of(event: &Event, is_dense: bool) -> Mark {
             class: "panic",
             shape: "m-5 -5l10 10m0 -10l-10 10",
         },
+        (_, Request::Print(_)) if is_dense => Mark {
+            class: "print",
+            shape: "m-1 -4h2v8h-2z",
+        },
         (_, Request::Print(_)) => Mark {
             class: "print",
             shape: "m-4 -4h8v8h-8z",
