@@ -147,6 +147,17 @@ impl Slot {
         }
     }
 
+    /// The state of the goroutine, if it is not lent.
+    pub fn here(&self) -> Option<&GoState>
+        ensures none { IfNone result (is_some self.now.lease ≡ true) }
+        ensures some { IfSome result (λ state. (self.now.lease ≡ None) × (state.now ≡ self.now.state)) }
+    {
+        match &self.held {
+            Held::Here(state) => Some(state),
+            Held::Lent(_) | Held::Ahead(_) => None,
+        }
+    }
+
     /// The state of a goroutine that is not lent.
     #[inline(always)]
     pub fn state(&self) -> &GoState

@@ -1,15 +1,16 @@
 //! The book of a run.
 
-ghost use Rattle.std.specs.Prelude.{◌≡◌, ◌+◌, ◌<◌, ◌≤◌, ◌^◌, ◌↔◌, ◌⊎◌, [], IfErr, IfNone, IfOk, IfSome, IsErrOf, IsTrue, MatchOption, None, OnErr, OnOk, Some, length, true};
+ghost use Rattle.std.specs.Prelude.{◌≡◌, ◌+◌, ◌<◌, ◌≤◌, ◌^◌, ◌↔◌, ◌⊎◌, [], IfErr, IfNone, IfOk, IfSome, IsErrOf, IsTrue, MatchOption, None, OnErr, OnOk, Some, length, slice_index_or, true};
 ghost use Rattle.std.specs.Arc.{arc_value};
 ghost use Rattle.std.specs.Option.{is_some};
 ghost use Rattle.output.specs.Progress.{piece_run};
 ghost use Rattle.output.specs.declared.piece.Kind.TheVariants.{Output, Trace};
 ghost use Rattle.logical_clock.specs.Order.{keys, least};
+ghost use Rattle.turn_rule.specs.declared.Row.{Row};
 ghost use Rattle.turn_rule.specs.Schedule.{has_turn};
 ghost use Rattle.clock_table.specs.Clocks.{IsFree, WasLent, loan_for, row as word_at};
 ghost use Rattle.clock_table.specs.Seats.{table_of};
-ghost use Rattle.world_core_base.specs.Slots.{IsBefore, waiting_clock};
+ghost use Rattle.world_core_base.specs.Slots.{IsBefore, State, waiting_clock};
 ghost use Rattle.word.specs.declared.request.Event.{Event as Recorded};
 ghost use Rattle.word.specs.Views.{event_of};
 ghost use Rattle.world_core_base.specs.Cores.{HasLease, HasTurn, IsFreeIn, Works, no_event, to_lend};
@@ -22,6 +23,7 @@ use crate::name::BookName;
 use crate::settled::{Reached, Settled};
 use crate::slots::Slots;
 use go_text::{Fault, Memory};
+use goroutine_vm::{GoState, Sleeping};
 use logical_clock::{Clock, Key, LAST};
 use output::{Kind, Piece};
 use std::alloc::Global;
@@ -139,6 +141,29 @@ impl<B: BookName> Book<B> {
         ensures stands { IsDesk self.now }
     {
         self.core.events()
+    }
+
+    /// One more than the number of goroutines that the run has started, `main`'s included: goroutines have the numbers from 1 up to it.
+    pub fn next_number(&self) -> u64
+        ensures { result ≡ length self.now.core.rows }
+    {
+        self.count() as u64
+    }
+
+    /// The state of goroutine `number`, if it is awake and not lent.
+    pub fn awake(&self, number: u64) -> Option<&GoState>
+        ensures none { IfNone result (IfSome (slice_index_or self.now.core.rows number None) (λ row. is_some row.lease ≡ true)) }
+        ensures some { IfSome result (λ state. (row : Row State) × (slice_index_or self.now.core.rows number None ≡ Some row) × (row.lease ≡ None) × (state.now ≡ row.state)) }
+    {
+        self.core.awake(number)
+    }
+
+    /// Goroutine `number`, if it is asleep.
+    pub fn asleep(&self, number: u64) -> Option<&Sleeping>
+        ensures none { IfNone result (slice_index_or self.now.core.beds number None ≡ None) }
+        ensures some { IfSome result (λ sleeping. slice_index_or self.now.core.beds number None ≡ Some sleeping.now) }
+    {
+        self.core.asleep(number)
     }
 
     /// Lends the goroutine of least key of those that are awake and neither lent nor parked; none where there is none, or

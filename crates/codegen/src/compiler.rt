@@ -13,6 +13,7 @@ ghost use Rattle.word.specs.Worlds.{Equal};
 use crate::program::code_of;
 use bytecode::Code;
 use checker::Typed;
+use codegen_emission::marks::Marks;
 use go_text::Fault;
 use std::alloc::Global;
 
@@ -28,8 +29,23 @@ pub fn compile(alloc: Global, typed: &Typed) -> Result<Code, Fault>
     ensures named { IfOk result (λ code. AreNamed (tree_of (tree_in typed.now)) code) }
     ensures memory { IfErr result (λ fault. fault ≡ Fault.Memory) }
 {
+    let (code, _) = compile_marked(alloc, typed)?;
+    Ok(code)
+}
+
+/// The code of a checked program, as `compile` makes it, and the marks of its statements.
+///
+/// Errors: only `Memory`.
+pub fn compile_marked(alloc: Global, typed: &Typed) -> Result<(Code, Marks), Fault>
+    requires grammatical { IsGrammatical (tree_of (tree_in typed.now)) }
+    requires limited { IsLimited (tree_of (tree_in typed.now)) }
+    ensures equal { IfOk result (λ made. Equal (source_kind (tree_of (tree_in typed.now))) (code_kind made.0)) }
+    ensures verified { IfOk result (λ made. IsVerified made.0) }
+    ensures named { IfOk result (λ made. AreNamed (tree_of (tree_in typed.now)) made.0) }
+    ensures memory { IfErr result (λ fault. fault ≡ Fault.Memory) }
+{
     match code_of(alloc, typed) {
-        Ok(code) => Ok(code),
+        Ok(made) => Ok(made),
         Err(_) => Err(Fault::Memory),
     }
 }

@@ -75,6 +75,7 @@ fn begin_function<'a>(
     ensures selects { OnOk result (emitter.new.selects.items ≡ emitter.old.selects.items) }
 {
     begin(context.alloc, emitter);
+    emitter.marks.begin_function()?;
     let parameters = function.parameters.as_slice();
     declare_parameters(context, &mut emitter.layout, parameters)?;
     let params = number(emitter.layout.locals.len())?;

@@ -7,4 +7,5 @@ mod head;
 mod program;
 mod shapes;
 
-pub use compiler::compile;
+pub use codegen_emission::marks::{Mark, Marks, Part};
+pub use compiler::{compile, compile_marked};

@@ -19,6 +19,7 @@ use checker::Typed;
 use codegen_emission::blank::Blank;
 use codegen_emission::emitter::Emitter;
 use codegen_emission::layout::Layout;
+use codegen_emission::marks::Marks;
 use codegen_expression::context::Context;
 use codegen_expression::halt::Halt;
 use codegen_expression::noting::elements_in;
@@ -64,15 +65,15 @@ fn put_tops<'a>(
     Ok(())
 }
 
-/// The code of these declarations, which the table holds.
+/// The code of these declarations, which the table holds, and its marks.
 fn generate<'a>(
     alloc: Global,
     table: &TypeTable<'a>,
     blank: &'a Blank,
     tops: &'a [TopNode],
-) -> Result<Code, Halt>
+) -> Result<(Code, Marks), Halt>
     requires small { sum_by top_size (map top_of tops.now) < 2 ^ 32 }
-    ensures { IfOk result (λ code. code ≡ code_with (globals_in table.now) (noting_tops (types_of table.now) (map top_of tops.now) []) (map top_of tops.now)) }
+    ensures { IfOk result (λ made. made.0 ≡ code_with (globals_in table.now) (noting_tops (types_of table.now) (map top_of tops.now) []) (map top_of tops.now)) }
 {
     let elements = elements_in(alloc, table, tops)?;
     let context = Context {
@@ -87,30 +88,32 @@ fn generate<'a>(
         prints: Vec::new(alloc),
         selects: Vec::new(alloc),
         layout: Layout::new(alloc),
+        marks: Marks::new(alloc),
     };
     put_tops(&context, blank, &mut emitter, &mut functions, tops)?;
-    Ok(Code::new(functions, shapes, emitter.prints).with_selects(emitter.selects))
+    let code = Code::new(functions, shapes, emitter.prints).with_selects(emitter.selects);
+    Ok((code, emitter.marks))
 }
 
-/// The code of a checked file, with a name under which ranges keep their channels.
-fn file_code<'a>(alloc: Global, typed: &'a Typed, blank: &'a Blank) -> Result<Code, Halt>
-    ensures code { IfOk result (λ code. code ≡ code_of (tree_of (tree_in typed.now))) }
+/// The code of a checked file and its marks, with a name under which ranges keep their channels.
+fn file_code<'a>(alloc: Global, typed: &'a Typed, blank: &'a Blank) -> Result<(Code, Marks), Halt>
+    ensures code { IfOk result (λ made. made.0 ≡ code_of (tree_of (tree_in typed.now))) }
     ensures typed { IfOk result (λ _. IsTyped (tree_of (tree_in typed.now))) }
 {
     let table = typed.table(alloc)?;
     let tops = typed.tree().file().tops.as_slice();
-    let code = generate(alloc, &table, blank, tops)?;
-    Ok(code)
+    let made = generate(alloc, &table, blank, tops)?;
+    Ok(made)
 }
 
-/// The code of a checked file.
+/// The code of a checked file, and its marks.
 ///
-/// Errors: want of memory, or a number of the code over 2^32.
-pub(crate) fn code_of(alloc: Global, typed: &Typed) -> Result<Code, Halt>
-    ensures code { IfOk result (λ code. code ≡ code_of (tree_of (tree_in typed.now))) }
+/// Errors: out of memory, or a number of the code over 2^32.
+pub(crate) fn code_of(alloc: Global, typed: &Typed) -> Result<(Code, Marks), Halt>
+    ensures code { IfOk result (λ made. made.0 ≡ code_of (tree_of (tree_in typed.now))) }
     ensures typed { IfOk result (λ _. IsTyped (tree_of (tree_in typed.now))) }
 {
     let blank = Blank::new(alloc)?;
-    let code = file_code(alloc, typed, &blank)?;
-    Ok(code)
+    let made = file_code(alloc, typed, &blank)?;
+    Ok(made)
 }

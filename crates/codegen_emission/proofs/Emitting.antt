@@ -12,6 +12,7 @@ use Rattle.type_table.specs.Visible.{Keeps}
 use Rattle.codegen_base.specs.Generated.{Made, made, made_of, nothing, past, followed}
 use Rattle.codegen_header.specs.Layouts.{layout_of}
 use Rattle.codegen_emission.specs.declared.emitter.Emitter.{Emitter}
+use Rattle.codegen_emission.specs.declared.marks.Marks.{Marks}
 use Rattle.codegen_flow.specs.Waits.{Makes}
 use Rattle.codegen_flow.specs.Controls.{Control, Flows, joined, jumping, through}
 use Rattle.codegen_emission.specs.Emitted.{Emits, Jumps, site_of}
@@ -57,6 +58,10 @@ module _ (table : TypeTable) where
 
   pub emits_none : (now : Emitter) → Emits table now now through (nothing (site_of table now))
   emits_none now = emits_nothing now through refl
+
+  -- marks change nothing
+  pub emits_marked : (e0 e1 : Emitter) (before behind : Marks) (flow : Control) (made : Made) → Emits table (record e0 { marks = before }) e1 flow made → Emits table e0 (record e1 { marks = behind }) flow made
+  emits_marked e0 e1 before behind flow made e = record { code = e.code; flows = e.flows; prints = e.prints; selects = e.selects; layout = e.layout; kept = e.kept }
 
   -- ---- one behind the other
 

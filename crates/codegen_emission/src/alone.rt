@@ -11,6 +11,7 @@ ghost use Rattle.codegen_emission.specs.Contexts.{of_program, table_of};
 
 use crate::context::FunctionContext;
 use crate::emitter::Emitter;
+use crate::marks::Part;
 use codegen_expression::halt::Halt;
 use codegen_expression::operand::number;
 use codegen_header::layout::{enter, leave};
@@ -37,7 +38,24 @@ pub fn emit_alone<'a>(
     Ok(())
 }
 
-/// A simple statement in a block of its own.
+/// A simple statement of a header, with its marks.
+///
+/// Errors: something is wrong with the statement; out of memory.
+#[tactic(auto, using(crate::proofs::Emitting::emits_marked))]
+fn emit_marked<'a>(
+    context: &FunctionContext<'_, 'a>,
+    emitter: &mut Emitter<'a>,
+    part: Part,
+    simple: &'a SimpleNode,
+) -> Result<(), Halt>
+    ensures { OnOk result (Emits (table_of context.now) emitter.old emitter.new through (of_program context.now made_simple (site_of (table_of context.now) emitter.old) (simple_of simple.now))) }
+{
+    emitter.marks.begin(part, emitter.code.len())?;
+    emit_alone(context, emitter, simple)?;
+    emitter.marks.end(emitter.code.len())
+}
+
+/// The simple statement at the end of a header, in a block of its own.
 fn emit_inside<'a>(
     context: &FunctionContext<'_, 'a>,
     emitter: &mut Emitter<'a>,
@@ -46,7 +64,7 @@ fn emit_inside<'a>(
     ensures { OnOk result (Emits (table_of context.now) emitter.old emitter.new through (ended (layout_of (table_of context.now) emitter.old.layout) (of_program context.now made_simple (inside (site_of (table_of context.now) emitter.old)) (simple_of simple.now)))) }
 {
     let mark = enter(&mut emitter.layout);
-    emit_alone(context, emitter, simple)?;
+    emit_marked(context, emitter, Part::Post, simple)?;
     leave(&mut emitter.layout, mark);
     Ok(())
 }
@@ -63,7 +81,7 @@ pub fn emit_any<'a>(
     ensures { OnOk result (Emits (table_of context.now) emitter.old emitter.new through (of_program context.now made_any (site_of (table_of context.now) emitter.old) (option_map (λ (s : _). simple_of s.now) simple.entry))) }
 {
     match simple {
-        Some(simple) => emit_alone(context, emitter, simple),
+        Some(simple) => emit_marked(context, emitter, Part::Head, simple),
         None => Ok(()),
     }
 }
@@ -80,7 +98,7 @@ pub fn emit_head<'a>(
     ensures { OnOk result (Emits (table_of context.now) emitter.old emitter.new through (of_program context.now made_any (site_of (table_of context.now) emitter.old) (head_simple (if_head_of header.now)))) }
 {
     match header {
-        IfHeader::Simple(simple) => emit_alone(context, emitter, simple),
+        IfHeader::Simple(simple) => emit_marked(context, emitter, Part::Head, simple),
         IfHeader::Bare | IfHeader::Semicolon => Ok(()),
     }
 }

@@ -3,18 +3,20 @@
 ghost use Rattle.std.specs.Prelude.{◌≡◌, ◌++◌, ◌∷◌, [], IfOk, OnOk, length};
 ghost use Rattle.bytecode.specs.declared.instr.Instr.TheVariants as instrs;
 
+use crate::marks::Marks;
 use bytecode::{Instr, PrintTable, SelectTable};
 use codegen_expression::halt::Halt;
 use codegen_expression::operand::{number, put};
 use codegen_header::layout::Layout;
 
-/// What is emitted of a function, the tables of those before it, and where its variables lie.
+/// What is emitted of a function, the tables and marks of those before it, and where its variables lie.
 #[derive(Drop)]
 pub struct Emitter<'a> {
     pub code: Vec<Instr>,
     pub prints: Vec<PrintTable>,
     pub selects: Vec<SelectTable>,
     pub layout: Layout<'a>,
+    pub marks: Marks,
 }
 
 impl Emitter<'_> {

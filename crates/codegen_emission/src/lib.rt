@@ -5,6 +5,7 @@ pub mod alone;
 pub mod body;
 pub mod context;
 pub mod emitter;
+pub mod marks;
 pub mod single;
 pub mod statement;
 pub mod turn;

@@ -21,6 +21,7 @@ ghost use Rattle.codegen_expression.specs.Contexts.{elements_of, globals_of};
 use crate::alone::{emit_any, emit_head};
 use crate::context::FunctionContext;
 use crate::emitter::{Emitter, hold_test};
+use crate::marks::Part;
 use crate::single::emit_single;
 use crate::turn::{come_round, emit_round};
 use bytecode::Instr;
@@ -54,7 +55,7 @@ pub(crate) fn emit_statements<'t, 'm, 'a>(
 {
     let mut flow = Flow::through(context.program.alloc);
     for statement in body {
-        let one = emit_statement(context, emitter, statement)?;
+        let one = emit_marked(context, emitter, statement)?;
         let goes_on = one.reaches_end;
         join(&mut flow, one)?;
         if !goes_on {
@@ -224,6 +225,22 @@ fn emit_other<'t, 'm, 'a>(
     }
 }
 
+/// What stands behind `else`, with its marks.
+#[cycle(statement)]
+#[tactic(auto, using(crate::proofs::Emitting::emits_marked))]
+fn emit_marked_other<'t, 'm, 'a>(
+    context: &'t FunctionContext<'t, 'a>,
+    emitter: &'m mut Emitter<'a>,
+    otherwise: &'a ElseNode,
+) -> Result<Flow, Halt>
+    ensures { IfOk result (λ flow. Emits (table_of context.now) emitter.old emitter.new (control flow) (of_function context.now made_other (site_of (table_of context.now) emitter.old) (otherwise_of otherwise.now))) }
+{
+    emitter.marks.begin(Part::Else, emitter.code.len())?;
+    let flow = emit_other(context, emitter, otherwise)?;
+    emitter.marks.end(emitter.code.len())?;
+    Ok(flow)
+}
+
 /// A condition with two ways.
 #[cycle(statement)]
 fn emit_two_ways<'t, 'm, 'a>(
@@ -243,7 +260,7 @@ fn emit_two_ways<'t, 'm, 'a>(
     let leads = flow.reaches_end;
     let over = begin_other(test, leads, &mut emitter.code)?;
     let otherwise = &branch.otherwise;
-    let other = emit_other(context, emitter, otherwise)?;
+    let other = emit_marked_other(context, emitter, otherwise)?;
     end_other(over, leads, &mut emitter.code)?;
     join_way(&mut flow, other)?;
     Ok(flow)
@@ -389,7 +406,24 @@ fn emit_way<'t, 'm, 'a>(
     Ok(flow)
 }
 
-/// The way of a clause, behind those before it; a default's comes last.
+/// A way of a select, with its marks.
+#[cycle(statement)]
+#[tactic(auto, using(crate::proofs::Emitting::emits_marked))]
+fn emit_marked_way<'t, 'm, 'a>(
+    context: &'t FunctionContext<'t, 'a>,
+    emitter: &'m mut Emitter<'a>,
+    body: &'a [StatementNode],
+    comm: &'a CommNode,
+) -> Result<Flow, Halt>
+    ensures { IfOk result (λ flow. Emits (table_of context.now) emitter.old emitter.new (control flow) (of_function context.now made_way (site_of (table_of context.now) emitter.old) (comm_of comm.now) (body_of body.now))) }
+{
+    emitter.marks.begin(Part::Clause, emitter.code.len())?;
+    let flow = emit_way(context, emitter, body, comm)?;
+    emitter.marks.end(emitter.code.len())?;
+    Ok(flow)
+}
+
+/// The way of a clause, after those of the clauses before it; a default's comes last.
 #[cycle(statement)]
 fn emit_clause<'t, 'm, 'w, 'a>(
     context: &'t FunctionContext<'t, 'a>,
@@ -404,7 +438,7 @@ fn emit_clause<'t, 'm, 'w, 'a>(
     };
     let place = emitter.next_place()?;
     let body = clause.body.as_slice();
-    let flow = emit_way(context, emitter, body, comm)?;
+    let flow = emit_marked_way(context, emitter, body, comm)?;
     let held = hold(flow.reaches_end, &mut emitter.code)?;
     add_way(list, place, held, flow)?;
     Ok(())
@@ -513,4 +547,20 @@ fn emit_statement<'t, 'm, 'a>(
         }
         _ => emit_single(context, emitter, statement),
     }
+}
+
+/// A statement of a block, with its marks.
+#[cycle(statement)]
+#[tactic(auto, using(crate::proofs::Emitting::emits_marked))]
+fn emit_marked<'t, 'm, 'a>(
+    context: &'t FunctionContext<'t, 'a>,
+    emitter: &'m mut Emitter<'a>,
+    statement: &'a StatementNode,
+) -> Result<Flow, Halt>
+    ensures { IfOk result (λ flow. Emits (table_of context.now) emitter.old emitter.new (control flow) (of_function context.now made (site_of (table_of context.now) emitter.old) (statement_of statement.now))) }
+{
+    emitter.marks.begin(Part::Statement, emitter.code.len())?;
+    let flow = emit_statement(context, emitter, statement)?;
+    emitter.marks.end(emitter.code.len())?;
+    Ok(flow)
 }

@@ -65,8 +65,8 @@ pub fn post_first(alloc: Global, first: NodeId, header: &ForHeader) -> NodeId {
     optional_end(middle, condition)
 }
 
-/// The number behind the nodes of a clause of a `select`.
-fn clause_end(alloc: Global, first: NodeId, clause: &ClauseNode) -> NodeId {
+/// The number after the nodes of a clause of a `select`.
+pub fn clause_end(alloc: Global, first: NodeId, clause: &ClauseNode) -> NodeId {
     let mut walk = Walk::new(alloc, NOWHERE, first);
     walk.pass_clause(clause);
     walk.end

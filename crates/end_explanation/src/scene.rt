@@ -1,41 +1,67 @@
-//! The text, and what stands where in it.
+//! The program, and what stands where in it.
 
-use diagnostic_scope::ends::top_end;
+use crate::goroutine::Call;
+use crate::notes::{Notes, Site};
+use bytecode::Code;
 use diagnostic_words::excerpt::push_excerpt;
 use diagnostic_words::words::Words;
-use go_text::{Source, Span};
+use go_text::{Position, Source, Span};
+use statement_map::StatementMap;
 use std::alloc::Global;
-use syntax::{FileNode, FunctionNode, NodeId, TopNode, Tree};
+use syntax::{NodeId, Tree};
 
-/// A program's text and tree, and the path of its file.
+/// A program's text, tree and code, and the path of its file.
 #[derive(Clone, Copy)]
 pub(crate) struct Scene<'a> {
     pub alloc: Global,
     pub path: &'a str,
     pub source: &'a Source,
     pub tree: &'a Tree,
+    /// The statements that the code's instructions come from.
+    pub map: &'a StatementMap,
+    pub code: &'a Code,
+}
+
+/// What an explanation is made from, besides the goroutines: the program, and what was noted of its run.
+#[derive(Clone, Copy)]
+pub(crate) struct Report<'a> {
+    pub scene: Scene<'a>,
+    pub notes: &'a Notes,
 }
 
 impl Scene<'_> {
-    /// Puts `FILE:LINE:COLUMN` of a node behind what is there.
-    pub(crate) fn push_place(self, said: &mut Words, node: NodeId) {
-        let position = self.source.line_column(self.span(node).from);
-        said.text(self.path);
-        said.text(":");
-        said.number(i128::from(position.line));
-        said.text(":");
-        said.number(i128::from(position.column));
+    /// The statement that an instruction comes from.
+    pub(crate) fn call(self, site: Site) -> Call {
+        Call {
+            function: site.function,
+            node: self.map.node(site.function, site.index).unwrap_or(0),
+        }
     }
 
-    /// Puts the line of the text in which a node begins, with marks under it, behind what is there.
+    /// Appends `FILE:LINE:COLUMN` of a statement.
+    pub(crate) fn push_location(self, said: &mut Words, node: NodeId) {
+        said.text(self.path);
+        said.text(":");
+        self.push_position(said, node);
+    }
+
+    /// Appends `LINE:COLUMN` of a statement.
+    pub(crate) fn push_position(self, said: &mut Words, node: NodeId) {
+        let Position { line, column } = self.source.line_column(self.span(node).from);
+        said.number(i128::from(line));
+        said.text(":");
+        said.number(i128::from(column));
+    }
+
+    /// Appends the line of the source in which a statement begins, with marks under it.
     pub(crate) fn push_line(self, said: &mut Words, node: NodeId) {
         push_excerpt(said, self.source.as_str(), self.span(node));
     }
 
-    /// Puts the name of the function in which a node stands behind what is there.
-    pub(crate) fn push_function(self, said: &mut Words, node: NodeId) {
-        if let Some(function) = function_at(self.alloc, self.tree.file(), node) {
-            said.name(&function.name);
+    /// Appends the name of a function.
+    pub(crate) fn push_function(self, said: &mut Words, function: usize) {
+        if let Some(function) = self.code.functions().get(function) {
+            said.text(function.name());
         }
     }
 
@@ -47,18 +73,4 @@ impl Scene<'_> {
             Span { from: 0, to: 0 }
         }
     }
-}
-
-/// The function of a file in which a node stands.
-fn function_at(alloc: Global, file: &FileNode, node: NodeId) -> Option<&FunctionNode> {
-    let mut end = 0;
-    for top in file.tops.as_slice() {
-        end = top_end(alloc, end, top);
-        if let TopNode::Function(function) = top {
-            if node < end {
-                return Some(function);
-            }
-        }
-    }
-    None
 }

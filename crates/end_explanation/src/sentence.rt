@@ -1,160 +1,289 @@
 //! Where goroutines stand, in lines.
 
-use crate::scene::Scene;
-use crate::watched::Placed;
+use crate::cycle::push_cycles;
+use crate::goroutine::{Call, Goroutine};
+use crate::scene::{Report, Scene};
+use crate::wish::{push_clauses, push_wish};
 use diagnostic_words::words::Words;
-use one_thread::Goroutine;
-use reference_base::task::{Frame, Task};
 use syntax::NodeId;
-use word::request::Request;
+use word::limits::{MAX_CAPACITY, MAX_CHANNELS, MAX_DEPTH, MAX_GOROUTINES};
+use word::panic::Panic;
 
-/// The most goroutines that are told of.
-const MOST_GOROUTINES: usize = 50;
+/// The most goroutines of a deadlock that are printed.
+const MOST_WAITING: usize = 50;
 
-/// The most calls of one goroutine that are told of.
+/// The most goroutines of a run that finished that are printed.
+const MOST_UNFINISHED: usize = 20;
+
+/// The most lines for the calls of one goroutine.
 const MOST_CALLS: usize = 20;
 
-/// Puts `goroutine N (FUNCTION) DOES clock C: FILE:LINE:COLUMN: ` behind what is there.
-fn push_goroutine(
-    said: &mut Words,
-    scene: Scene<'_>,
-    number: u64,
-    does: &str,
-    goroutine: &Goroutine<Placed<'_>>,
-) {
-    let node = goroutine.state.trail.last();
-    said.text("goroutine ");
-    said.number(i128::from(number));
-    said.text(" (");
-    scene.push_function(said, node);
-    said.text(does);
-    said.number(i128::from(goroutine.clock.time()));
-    said.text(": ");
-    scene.push_place(said, node);
-    said.text(": ");
+/// The units of the groups of three digits of a number, the largest first.
+const UNITS: [u64; 7] = [
+    1_000_000_000_000_000_000,
+    1_000_000_000_000_000,
+    1_000_000_000_000,
+    1_000_000_000,
+    1_000_000,
+    1_000,
+    1,
+];
+
+/// Appends the goroutines of a deadlock: cycles first, and then each one.
+pub(crate) fn push_deadlock(said: &mut Words, report: Report<'_>, goroutines: &[Goroutine]) {
+    push_cycles(said, report, goroutines);
+    for goroutine in goroutines.iter().take(MOST_WAITING) {
+        push_waiting(said, report, goroutine);
+    }
+    let left = goroutines.len().saturating_sub(MOST_WAITING);
+    push_more(
+        said,
+        left,
+        " more goroutine waits\n",
+        " more goroutines wait\n",
+    );
 }
 
-/// Puts who waits, where, for what and since which clock, and the calls that led there, behind what is there.
-pub(crate) fn push_waiting(
-    said: &mut Words,
-    scene: Scene<'_>,
-    goroutines: &[Option<Goroutine<Placed<'_>>>],
-) {
-    let mut told: usize = 0;
-    for (number, place) in goroutines.iter().enumerate() {
-        if let Some(goroutine) = place {
-            if told < MOST_GOROUTINES {
-                push_waiter(said, scene, number as u64, goroutine);
-            }
-            told = told.saturating_add(1);
+/// Appends the goroutines that had not ended when `main` returned.
+pub(crate) fn push_unfinished(said: &mut Words, report: Report<'_>, goroutines: &[Goroutine]) {
+    let count = goroutines.iter().filter(|one| one.number > 1).count();
+    if count == 0 {
+        return;
+    }
+    said.number(count as i128);
+    said.text(if count == 1 {
+        " goroutine had not ended\n"
+    } else {
+        " goroutines had not ended\n"
+    });
+    let others = goroutines.iter().filter(|one| one.number > 1);
+    for goroutine in others.take(MOST_UNFINISHED) {
+        if goroutine.wish.is_some() {
+            push_waiting(said, report, goroutine);
+        } else {
+            push_awake(said, report, goroutine);
         }
     }
-    let left = told.saturating_sub(MOST_GOROUTINES);
-    push_more(said, left, " more goroutines wait\n");
+    let left = count.saturating_sub(MOST_UNFINISHED);
+    push_more(said, left, " more goroutine\n", " more goroutines\n");
 }
 
-/// Puts that a goroutine waits behind what is there.
-fn push_waiter(said: &mut Words, scene: Scene<'_>, number: u64, goroutine: &Goroutine<Placed<'_>>) {
-    push_goroutine(said, scene, number, ") waits since clock ", goroutine);
-    push_wish(said, goroutine.state.frames.as_slice());
+/// Appends the goroutine that panicked, with the cause.
+pub(crate) fn push_panic(
+    said: &mut Words,
+    report: Report<'_>,
+    goroutine: &Goroutine,
+    cause: &str,
+    panic: Panic,
+) {
+    push_timed(said, report, " panics at clock ", goroutine);
+    said.text(": ");
+    said.text(cause);
+    push_bound(said, panic);
     said.text("\n");
-    push_calls(said, scene, goroutine);
+    push_source(said, report.scene, goroutine);
+    push_calls(said, report.scene, goroutine);
 }
 
-/// Puts that there are so many more, if any, behind what is there.
-fn push_more(said: &mut Words, left: usize, what: &str) {
+/// Appends the goroutine that came to the clock limit first.
+pub(crate) fn push_exhausted(
+    said: &mut Words,
+    report: Report<'_>,
+    goroutine: &Goroutine,
+    limit: u64,
+) {
+    push_timed(said, report, " has reached clock ", goroutine);
+    said.text(": logical time exhausted (the limit is ");
+    push_thousands(said, limit);
+    said.text("; --limit sets another one)\n");
+    push_source(said, report.scene, goroutine);
+    push_calls(said, report.scene, goroutine);
+}
+
+/// Appends a goroutine that waits, and what for.
+fn push_waiting(said: &mut Words, report: Report<'_>, goroutine: &Goroutine) {
+    push_timed(said, report, " waits since clock ", goroutine);
+    said.text(": ");
+    push_wish(said, report, goroutine);
+    said.text("\n");
+    push_source(said, report.scene, goroutine);
+    push_clauses(said, report, goroutine);
+    push_calls(said, report.scene, goroutine);
+}
+
+/// Appends a goroutine that is awake. It may have run ahead of the event that ended the run, so its clock is not printed.
+fn push_awake(said: &mut Words, report: Report<'_>, goroutine: &Goroutine) {
+    push_goroutine(said, report, goroutine);
+    said.text(" still runs: ");
+    push_location(said, report.scene, goroutine);
+    said.text("\n");
+    push_source(said, report.scene, goroutine);
+    push_calls(said, report.scene, goroutine);
+}
+
+/// Appends `goroutine N (FUNCTION, started at LINE:COLUMN) DOES C: FILE:LINE:COLUMN`, where C is the goroutine's clock.
+fn push_timed(said: &mut Words, report: Report<'_>, does: &str, goroutine: &Goroutine) {
+    push_goroutine(said, report, goroutine);
+    said.text(does);
+    said.number(i128::from(goroutine.clock));
+    said.text(": ");
+    push_location(said, report.scene, goroutine);
+}
+
+/// Appends `goroutine N (FUNCTION, started at LINE:COLUMN)`.
+fn push_goroutine(said: &mut Words, report: Report<'_>, goroutine: &Goroutine) {
+    said.text("goroutine ");
+    said.number(i128::from(goroutine.number));
+    said.text(" (");
+    if let Some(call) = goroutine.last() {
+        report.scene.push_function(said, call.function);
+    }
+    if let Some(site) = report.notes.started(goroutine.number) {
+        said.text(", started at ");
+        let node: NodeId = report.scene.call(site).node;
+        report.scene.push_position(said, node);
+    }
+    said.text(")");
+}
+
+/// Appends `FILE:LINE:COLUMN` of the statement at which a goroutine stands.
+fn push_location(said: &mut Words, scene: Scene<'_>, goroutine: &Goroutine) {
+    if let Some(call) = goroutine.last() {
+        scene.push_location(said, call.node);
+    }
+}
+
+/// Appends the line of the source at which a goroutine stands, with marks.
+fn push_source(said: &mut Words, scene: Scene<'_>, goroutine: &Goroutine) {
+    if let Some(call) = goroutine.last() {
+        scene.push_line(said, call.node);
+    }
+}
+
+/// Appends which bound of a run a panic has met, if it has met one.
+fn push_bound(said: &mut Words, panic: Panic) {
+    match panic {
+        Panic::ChannelSize => push_number_between(said, " (sizes are 0 to ", MAX_CAPACITY, ")"),
+        Panic::CallDepth => {
+            push_number_between(said, " (at most ", MAX_DEPTH as u64, " calls deep)");
+        }
+        Panic::TooManyGoroutines => {
+            push_number_between(said, " (at most ", MAX_GOROUTINES, " are alive at once)");
+        }
+        Panic::TooManyChannels => {
+            push_number_between(said, " (a run makes at most ", MAX_CHANNELS as u64, ")");
+        }
+        Panic::DivideByZero
+        | Panic::SendOnClosed
+        | Panic::CloseOfClosed
+        | Panic::CloseOfNil
+        | Panic::NegativeShift => {}
+    }
+}
+
+/// Appends a number between two texts.
+fn push_number_between(said: &mut Words, before: &str, number: u64, after: &str) {
+    said.text(before);
+    push_thousands(said, number);
+    said.text(after);
+}
+
+/// Appends a number, with commas between thousands.
+fn push_thousands(said: &mut Words, number: u64) {
+    let mut has_begun = false;
+    for unit in UNITS.iter() {
+        let group = number.checked_div(*unit).unwrap_or(0) % 1_000;
+        if has_begun {
+            push_group(said, group);
+        } else if group > 0 || *unit == 1 {
+            said.number(i128::from(group));
+            has_begun = true;
+        }
+    }
+}
+
+/// Appends a comma and three digits.
+fn push_group(said: &mut Words, group: u64) {
+    said.text(",");
+    said.number(i128::from(group / 100));
+    said.number(i128::from(group / 10 % 10));
+    said.number(i128::from(group % 10));
+}
+
+/// Equal calls in a row.
+#[derive(Clone, Copy)]
+struct CallRun {
+    call: Call,
+    times: usize,
+}
+
+/// The lines of the calls of a goroutine.
+#[derive(Drop)]
+struct CallLines {
+    /// How many lines there are, or would be without the bound.
+    lines: usize,
+    /// How many calls they show.
+    shown: usize,
+}
+
+impl CallLines {
+    /// Appends the line of calls, if there are any and the bound permits.
+    fn push(&mut self, said: &mut Words, scene: Scene<'_>, run: Option<CallRun>) {
+        let Some(run) = run else {
+            return;
+        };
+        if self.lines < MOST_CALLS {
+            push_call(said, scene, run);
+            self.shown = self.shown.saturating_add(run.times);
+        }
+        self.lines = self.lines.saturating_add(1);
+    }
+}
+
+/// Appends the calls that led a goroutine to where it stands, the last one first. Equal calls in a row take one line.
+fn push_calls(said: &mut Words, scene: Scene<'_>, goroutine: &Goroutine) {
+    let mut lines = CallLines { lines: 0, shown: 0 };
+    let mut run: Option<CallRun> = None;
+    for call in goroutine.calls.iter().rev().skip(1) {
+        run = match run {
+            Some(same) if same.call.node == call.node => Some(CallRun {
+                call: same.call,
+                times: same.times.saturating_add(1),
+            }),
+            ended => {
+                lines.push(said, scene, ended);
+                Some(CallRun {
+                    call: *call,
+                    times: 1,
+                })
+            }
+        };
+    }
+    lines.push(said, scene, run);
+    let callers = goroutine.calls.len().saturating_sub(1);
+    let left = callers.saturating_sub(lines.shown);
+    push_more(said, left, " more call\n", " more calls\n");
+}
+
+/// Appends where a function was called from, and how many times in a row if more than once.
+fn push_call(said: &mut Words, scene: Scene<'_>, run: CallRun) {
+    said.text("  called from ");
+    scene.push_function(said, run.call.function);
+    said.text(" at ");
+    scene.push_location(said, run.call.node);
+    if run.times > 1 {
+        said.text(", ");
+        push_thousands(said, run.times as u64);
+        said.text(" times");
+    }
+    said.text("\n");
+}
+
+/// Appends that there are `left` more, if any.
+fn push_more(said: &mut Words, left: usize, one: &str, many: &str) {
     if left > 0 {
         said.text("and ");
         said.number(left as i128);
-        said.text(what);
+        said.text(if left == 1 { one } else { many });
     }
-}
-
-/// Puts what a goroutine waits for behind what is there.
-fn push_wish(said: &mut Words, frames: &[Frame<'_>]) {
-    let Some(top) = frames.last() else {
-        return;
-    };
-    match top.tasks.last() {
-        Some(Task::Ask(request, _, _)) => push_request(said, request),
-        _ => said.text("waits"),
-    }
-}
-
-/// Puts what is asked behind what is there.
-fn push_request(said: &mut Words, request: &Request) {
-    match request {
-        Request::Send(chan, _) => push_channel(said, "sends to ", *chan),
-        Request::Receive(chan) => push_channel(said, "receives from ", *chan),
-        Request::Select(cases, _) => push_select(said, cases.len()),
-        _ => said.text("waits"),
-    }
-}
-
-/// Puts what is done, and a channel by its number, behind what is there.
-fn push_channel(said: &mut Words, does: &str, chan: Option<u32>) {
-    said.text(does);
-    match chan {
-        Some(number) => {
-            said.text("channel ");
-            said.number(i128::from(number));
-        }
-        None => said.text("a nil channel"),
-    }
-}
-
-/// Puts a select of so many clauses behind what is there.
-fn push_select(said: &mut Words, clauses: usize) {
-    said.text("select of ");
-    said.number(clauses as i128);
-    said.text(if clauses == 1 { " clause" } else { " clauses" });
-}
-
-/// Puts who panicked, where and why, and the calls that led there, behind what is there.
-pub(crate) fn push_panic(
-    said: &mut Words,
-    scene: Scene<'_>,
-    number: u64,
-    goroutine: &Goroutine<Placed<'_>>,
-    cause: &str,
-) {
-    push_goroutine(said, scene, number, ") panics at clock ", goroutine);
-    said.text(cause);
-    said.text("\n");
-    scene.push_line(said, goroutine.state.trail.last());
-    push_calls(said, scene, goroutine);
-}
-
-/// Puts the calls that a goroutine waits for behind what is there, the last one first.
-fn push_calls(said: &mut Words, scene: Scene<'_>, goroutine: &Goroutine<Placed<'_>>) {
-    let trail = &goroutine.state.trail;
-    for number in 0..MOST_CALLS {
-        if let Some(call) = trail.call(number) {
-            push_call(said, scene, call);
-        }
-    }
-    let left = trail.waiting().saturating_sub(MOST_CALLS);
-    push_more(said, left, " more calls\n");
-}
-
-/// Puts where a call stands behind what is there.
-fn push_call(said: &mut Words, scene: Scene<'_>, call: NodeId) {
-    said.text("  called from ");
-    scene.push_function(said, call);
-    said.text(" at ");
-    scene.push_place(said, call);
-    said.text("\n");
-}
-
-/// Puts who came to the limit first, where, and the calls that led there, behind what is there.
-pub(crate) fn push_exhausted(
-    said: &mut Words,
-    scene: Scene<'_>,
-    number: u64,
-    goroutine: &Goroutine<Placed<'_>>,
-) {
-    push_goroutine(said, scene, number, ") has reached clock ", goroutine);
-    said.text("logical time exhausted\n");
-    scene.push_line(said, goroutine.state.trail.last());
-    push_calls(said, scene, goroutine);
 }

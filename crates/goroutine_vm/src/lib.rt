@@ -15,6 +15,7 @@ mod state;
 mod step;
 mod told;
 
+pub use call_frame::frame::Frame;
 pub use sleeping::{Room, Sleeping};
 pub use state::{GoState, Stop, spawn_state};
 

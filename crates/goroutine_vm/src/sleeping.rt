@@ -1,16 +1,22 @@
 //! Goroutines that sleep.
 
-ghost use Rattle.std.specs.Prelude.{◌≡◌, IfOk};
+ghost use Rattle.std.specs.Prelude.{◌≡◌, IfOk, None, Some, cond, reverse};
+ghost use Rattle.bytecode.specs.Machine.{code_next};
 ghost use Rattle.goroutine_vm.specs.Advance.{IsQuiet};
+ghost use Rattle.goroutine_vm_base.specs.Steps.{AsksFor};
 
 use crate::frames::Frames;
 use crate::state::GoState;
 use crate::told::Told;
+use call_frame::frame::Frame;
 use go_text::Memory;
 use goroutine_vm_base::call_stack::CallStack;
+use goroutine_vm_request::request;
 use logical_clock::Clock;
 use std::alloc::Global;
 use std::marker::Model;
+use verifier::Verified;
+use word::request::Request;
 
 /// Room for the words that a goroutine is told.
 #[derive(Drop)]
@@ -62,6 +68,30 @@ impl GoState {
 }
 
 impl Sleeping {
+    /// The clock at which it fell asleep.
+    pub fn clock(&self) -> Clock
+        ensures { result ≡ self.now.clock }
+    {
+        self.clock
+    }
+
+    /// The functions that run, the one called last at the end.
+    pub fn frames(&self) -> &[Frame]
+        ensures frames { reverse result.now ≡ self.now.state }
+    {
+        self.running.as_ref().as_slice()
+    }
+
+    /// Writes the request that it sleeps at to `place`. Returns whether it stands at a request.
+    ///
+    /// Errors: out of memory.
+    pub fn ask(&self, alloc: Global, code: &Verified, place: &mut Request) -> Result<bool, Memory>
+        ensures asks { IfOk result (λ asking. AsksFor (code_next code.now self.now.state) (cond asking (Some place.new) None)) }
+    {
+        let asking = request(alloc, code.code(), self.running.as_ref(), place)?;
+        Ok(asking)
+    }
+
     /// It is awake again, with this room.
     pub fn get_up(self, room: Room) -> GoState
         ensures { result ≡ self }

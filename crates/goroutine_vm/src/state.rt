@@ -1,17 +1,19 @@
 //! A goroutine's state, and its local steps.
 
-ghost use Rattle.std.specs.Prelude.{◌≡◌, ◌+◌, ◌<◌, ◌≤◌, ◌^◌, ◌↔◌, ◌++◌, ◌∷◌, [], false, true, IsTrue, IfOk, OnErr, OnOk, None, Some, cond, length, option_map};
+ghost use Rattle.std.specs.Prelude.{◌≡◌, ◌+◌, ◌<◌, ◌≤◌, ◌^◌, ◌↔◌, ◌++◌, ◌∷◌, [], false, true, IsTrue, IfOk, List, OnErr, OnOk, None, Some, cond, length, option_map, reverse};
 ghost use Rattle.std.specs.Option.{is_some};
 ghost use Rattle.bytecode.specs.Code.{Code};
 ghost use Rattle.bytecode.specs.Machine.{code_begin, code_kind, code_next, frames_told, reply_words};
 ghost use Rattle.bytecode.specs.Rules.{IsFrameOf, IsVerified};
 ghost use Rattle.call_frame.specs.Steps.{Does};
+ghost use Rattle.goroutine_vm.specs.Told.{with_told};
 ghost use Rattle.goroutine_vm.specs.Advance.{Advances, Bursts, Goes, IsFew, IsStateOf, IsStop, Turns, steps};
 ghost use Rattle.word.specs.Kinds.{asks, at, told};
 ghost use Rattle.word.specs.Views.{reply_of, request_of};
 
 use crate::frames::Frames;
 use crate::told::words_of;
+use call_frame::frame::Frame;
 use call_frame::outcome::Stepped;
 use go_text::Memory;
 use logical_clock::Clock;
@@ -95,6 +97,13 @@ impl GoState {
         ensures { result ≡ self.now.clock }
     {
         self.clock
+    }
+
+    /// The functions that run, the one called last at the end. The words that the goroutine was told are not on its stack yet.
+    pub fn frames(&self) -> &[Frame]
+        ensures frames { (words : List Word) × (self.now.state ≡ with_told words (reverse result.now)) }
+    {
+        self.frames.as_slice()
     }
 
     /// A second state that is the same.

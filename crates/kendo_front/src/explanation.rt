@@ -1,6 +1,6 @@
 //! What is said of the end of a run.
 
-ghost use Rattle.std.specs.Prelude.{◌≡◌, ◌≤◌, ◌^◌, ◌⊎◌, ◌↔◌, [], IfErr, IfOk, IsErrOf};
+ghost use Rattle.std.specs.Prelude.{◌≡◌, ◌≤◌, ◌^◌, ◌⊎◌, ◌↔◌, IfErr, IsErrOf};
 ghost use Rattle.whole_run.specs.Runs.{IsLimit};
 ghost use Rattle.kendo_reading.specs.Reading.{HasNoReading, IsRefusal, IsWhy};
 
@@ -11,8 +11,8 @@ use kendo_report::text_of_panic;
 use std::alloc::Global;
 use word::end::End;
 
-/// Where the goroutines of a text stand at this end of its run up to the clock limit, in lines; nothing of a run that finished.
-/// FILE in them is the path as it was typed.
+/// Where the goroutines of a text stand at this end of its run up to the clock limit, in lines; of a run that finished those that
+/// had not ended. FILE in them is the path as it was typed.
 ///
 /// Errors: `BadLimit`; by the numbers 1 to 10 why the text has no reading; `Memory`.
 pub fn explain_end(
@@ -23,7 +23,6 @@ pub fn explain_end(
     end: End,
 ) -> Result<Vec<u8>, Fault>
     ensures limit { IsErrOf result Fault.BadLimit ↔ (IsLimit limit → ⊥) }
-    ensures finished { end ≡ End.Finished → IfOk result (λ told. told.items ≡ []) }
     ensures refused { IfErr result (λ fault. IsRefusal fault → HasNoReading bytes.items) }
     ensures why { IfErr result (λ fault. IsRefusal fault → IsWhy bytes.items fault) }
     ensures only { IfErr result (λ fault. IsRefusal fault ⊎ ((fault ≡ Fault.Memory) ⊎ (fault ≡ Fault.BadLimit))) }
@@ -32,13 +31,13 @@ pub fn explain_end(
         return Err(Fault::BadLimit);
     }
     match end {
-        End::Finished => Ok(Vec::new(alloc)),
         End::Panicked(cause) => explain(alloc, path, bytes, limit, text_of_panic(cause)),
-        End::Deadlock | End::Exhausted => explain(alloc, path, bytes, limit, ""),
+        End::Finished | End::Deadlock | End::Exhausted => explain(alloc, path, bytes, limit, ""),
     }
 }
 
-/// The same of a run that did not finish: of a panic for this cause.
+/// Like `explain_end`, of a run with a panic for this cause, or with no panic.
+#[tactic(auto, using(kendo_reading::proofs::Spelled::grammatical, kendo_reading::proofs::Spelled::limited))]
 fn explain(
     alloc: Global,
     path: &str,
@@ -46,7 +45,7 @@ fn explain(
     limit: u64,
     cause: &str,
 ) -> Result<Vec<u8>, Fault>
-    requires { limit ≤ 2 ^ 62 }
+    requires { (1 ≤ limit) × (limit ≤ 2 ^ 62) }
     ensures refused { IfErr result (λ fault. IsRefusal fault → HasNoReading bytes.items) }
     ensures why { IfErr result (λ fault. IsRefusal fault → IsWhy bytes.items fault) }
     ensures only { IfErr result (λ fault. IsRefusal fault ⊎ (fault ≡ Fault.Memory)) }

@@ -39,8 +39,8 @@ pub(crate) fn picture(
     Ok(picture.into_bytes())
 }
 
-/// What `--explain` says of a text in the file of this name, `.go` left out, or of the end of its run up to this limit: nothing
-/// where it is a program that finishes.
+/// What `--explain` prints of a text in the file of this name, `.go` left out, or of the end of its run up to this limit: nothing
+/// if it is a program that finishes and leaves no goroutines.
 pub(crate) fn explained(
     alloc: Global,
     name: &str,

@@ -4,16 +4,17 @@ ghost use Rattle.std.specs.Prelude.{◌≡◌, ◌≢◌, ℕ, ◌+◌, ◌<◌,
 ghost use Rattle.std.specs.Option.{is_some};
 ghost use Rattle.bytecode.specs.Rules.{IsVerified};
 ghost use Rattle.logical_clock.specs.Order.{keys, least};
+ghost use Rattle.turn_rule.specs.declared.Row.{Row};
 ghost use Rattle.turn_rule.specs.Schedule.{has_turn};
 ghost use Rattle.word.specs.Views.{event_of};
 ghost use Rattle.world_core_base.specs.Cores.{Asks, FitsCore, IsAway, HasLease, IsHere, Performs, Works, bytes_of, most_partners, no_event, opened_core, put_back, state_of, taken_out, to_lend};
-ghost use Rattle.awake_rows.specs.Slots.{FitsAll, FitsRow, IsAwake, IsBefore, IsFreeIn, IsNobodyAwake, back_row, lent_row, raised_row, stepped_rows, waiting_clock};
+ghost use Rattle.awake_rows.specs.Slots.{FitsAll, FitsRow, State, IsAwake, IsBefore, IsFreeIn, IsNobodyAwake, back_row, lent_row, raised_row, stepped_rows, waiting_clock};
 
 use crate::situation::Situation;
 use crate::waking::Spare;
 use awake_rows::{Among, Slot, put_at, take_at};
 use go_text::Memory;
-use goroutine_vm::GoState;
+use goroutine_vm::{GoState, Sleeping};
 use logical_clock::{Clock, Key};
 use std::alloc::Global;
 use std::marker::Model;
@@ -173,6 +174,28 @@ impl Core {
         ensures { result ≡ is_some (to_lend self.now) }
     {
         self.ending().is_none() && self.situation.least_free().is_some()
+    }
+
+    /// The state of goroutine `number`, if it is awake and not lent.
+    pub fn awake(&self, number: u64) -> Option<&GoState>
+        ensures none { IfNone result (IfSome (slice_index_or self.now.rows number None) (λ row. is_some row.lease ≡ true)) }
+        ensures some { IfSome result (λ state. (row : Row State) × (slice_index_or self.now.rows number None ≡ Some row) × (row.lease ≡ None) × (state.now ≡ row.state)) }
+    {
+        match self.situation.rows.as_slice().get(number as usize) {
+            Some(Some(slot)) => slot.here(),
+            _ => None,
+        }
+    }
+
+    /// Goroutine `number`, if it is asleep.
+    pub fn asleep(&self, number: u64) -> Option<&Sleeping>
+        ensures none { IfNone result (slice_index_or self.now.beds number None ≡ None) }
+        ensures some { IfSome result (λ sleeping. slice_index_or self.now.beds number None ≡ Some sleeping.now) }
+    {
+        match self.situation.beds.get(number as usize) {
+            Some(Some(sleeping)) => Some(sleeping),
+            _ => None,
+        }
     }
 
     /// Whether goroutine `number` is awake, and lent.

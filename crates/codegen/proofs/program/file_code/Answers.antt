@@ -14,6 +14,6 @@ returns-clause-code c =
     let file : File = tree_of (tree_in c.args.typed.now) in
     let written : List Top = map top_of c.as_slice-tops.result.now in
     let same : written ≡ file.tops = ap (map top_of) c.as_slice-tops.ensures.value ∙ ap (λ (f : File). f.tops) (c.file.ensures.file ∙ ap tree_of c.tree.ensures.tree) in
-    c.in_ok-code.ensures
+    c.in_ok-made.ensures
     ∙ ap (λ (g : Globals). code_with g (noting_tops g.types written []) written) c.in_ok-table.ensures
     ∙ ap (λ (tops : List Top). code_with (globals_of file.tops) (noting_tops (globals_of file.tops).types tops []) tops) same

@@ -16,6 +16,6 @@ returns c =
     let table = c.args.context.now.program.now.table.now in
     let e0 = c.args.emitter.now in
     let e1 = c.emit_all.new.emitter in
-    let e2 : Emitter = record { code = c.fill.new.code; prints = e1.prints; selects = e1.selects; layout = e1.layout } in
+    let e2 : Emitter = record { code = c.fill.new.code; prints = e1.prints; selects = e1.selects; layout = e1.layout; marks = e1.marks } in
     let made = made_body (globals_in table) c.args.context.now.program.now.elements.now (yield_of (types_of table) c.args.context.now.result_type) (site_of table e0) (body_of c.args.body.now) in
     finishes table made e0 e1 e2 (control c.in_ok-flow.flow) c.in_ok-flow.ensures (c.fill.ensures ∙ ap (λ (ws : List Wait). filled ws 0 0 e1.code.items) c.as_slice.ensures.value) (record { prints = refl; selects = refl; layout = refl })

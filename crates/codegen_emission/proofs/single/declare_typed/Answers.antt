@@ -12,7 +12,7 @@ pub returns : goal.returns
 returns c = λ yields.
     let table = c.args.context.now.program.now.table.now in
     let e0 = c.args.emitter.now in
-    let e1 : Emitter = record { code = c.emit_typed.new.code; prints = e0.prints; selects = e0.selects; layout = c.emit_typed.new.layout } in
+    let e1 : Emitter = record { code = c.emit_typed.new.code; prints = e0.prints; selects = e0.selects; layout = c.emit_typed.new.layout; marks = e0.marks } in
     let kind = known (type_in (types_of table) (scope_of table e0.layout.visible) (type_of c.args.kind.now)) in
     let emitted = c.in_ok-emit_typed.ensures in
     emits_typed table (globals_in table) c.args.context.now.program.now.elements.now yields (map name_of c.args.names.now) kind (option_map right_of c.args.right.now) e0 e1 through refl emitted.emitted refl refl emitted.after emitted.kept

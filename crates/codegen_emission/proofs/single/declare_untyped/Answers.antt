@@ -13,7 +13,7 @@ returns c = λ yields.
     let globals = globals_in table in
     let elements = c.args.context.now.program.now.elements.now in
     let e0 = c.args.emitter.now in
-    let e1 : Emitter = record { code = c.emit_untyped.new.code; prints = e0.prints; selects = e0.selects; layout = c.emit_untyped.new.layout } in
+    let e1 : Emitter = record { code = c.emit_untyped.new.code; prints = e0.prints; selects = e0.selects; layout = c.emit_untyped.new.layout; marks = e0.marks } in
     let names = map name_of c.args.names.now in
     let right = right_of c.args.right.now in
     let emitted = c.in_ok-emit_untyped.ensures in

@@ -13,5 +13,5 @@ returns c = λ yields.
     let table = c.args.context.now.program.now.table.now in
     let globals = globals_in table in
     let e0 = c.args.emitter.now in
-    let e1 : Emitter = record { code = c.emit_go.new.code; prints = e0.prints; selects = e0.selects; layout = e0.layout } in
+    let e1 : Emitter = record { code = c.emit_go.new.code; prints = e0.prints; selects = e0.selects; layout = e0.layout; marks = e0.marks } in
     on_ok_weaker c.emit_go.result (λ put. emits_go table globals c.args.context.now.program.now.elements.now yields (number_of globals (name_of c.args.name.now)) (map expression_of c.args.arguments.now.values.items) e0 e1 through refl put (record { prints = refl; selects = refl; layout = refl })) c.emit_go.ensures

@@ -49,14 +49,14 @@ pub emit_block-returns : goal.emit_block-returns
 emit_block-returns t c =
     let e0 = c.args.emitter.now in
     let e2 = c.emit_statements.new.emitter in
-    emits_block c.args.context.now.program.now.table.now (globals_in c.args.context.now.program.now.table.now) c.args.context.now.program.now.elements.now (yield_of (types_of c.args.context.now.program.now.table.now) c.args.context.now.result_type) (body_of c.args.body.now) e0 (record { code = e0.code; prints = e0.prints; selects = e0.selects; layout = c.enter-mark.new.layout }) e2
-    (record { code = e2.code; prints = e2.prints; selects = e2.selects; layout = c.leave.new.layout }) c.enter-mark.result.count c.enter-mark.result.outer (control c.in_ok-flow.flow) refl refl refl (c.enter-mark.ensures.layout c.args.context.now.program.now.table.now) c.enter-mark.ensures.kept
+    emits_block c.args.context.now.program.now.table.now (globals_in c.args.context.now.program.now.table.now) c.args.context.now.program.now.elements.now (yield_of (types_of c.args.context.now.program.now.table.now) c.args.context.now.result_type) (body_of c.args.body.now) e0 (record { code = e0.code; prints = e0.prints; selects = e0.selects; layout = c.enter-mark.new.layout; marks = e0.marks }) e2
+    (record { code = e2.code; prints = e2.prints; selects = e2.selects; layout = c.leave.new.layout; marks = e2.marks }) c.enter-mark.result.count c.enter-mark.result.outer (control c.in_ok-flow.flow) refl refl refl (c.enter-mark.ensures.layout c.args.context.now.program.now.table.now) c.enter-mark.ensures.kept
     c.enter-mark.ensures.count c.enter-mark.ensures.outer c.in_ok-flow.ensures refl refl refl c.leave.ensures.entries c.leave.ensures.outer c.leave.ensures.words c.leave.ensures.locals
 
 pub emit_statements-returns-then-not-goes_on : goal.emit_statements-returns-then-not-goes_on
 emit_statements-returns-then-not-goes_on t c =
     let table = c.args.context.now.program.now.table.now in
-    begins_cut table (globals_in table) c.args.context.now.program.now.elements.now (yield_of (types_of table) c.args.context.now.result_type) c.args.emitter.now c.loop-statement.emitter c.emit_statement.new.emitter (control c.loop-statement.flow) (control c.in_ok-one.one) (control c.join.new.flow) (statement_of c.statement-item.result)
+    begins_cut table (globals_in table) c.args.context.now.program.now.elements.now (yield_of (types_of table) c.args.context.now.result_type) c.args.emitter.now c.loop-statement.emitter c.emit_marked.new.emitter (control c.loop-statement.flow) (control c.in_ok-one.one) (control c.join.new.flow) (statement_of c.statement-item.result)
     (body_of (drop (c.loop-statement.statement-index + 1) c.args.body.now)) (body_of (drop c.loop-statement.statement-index c.args.body.now)) (body_of c.args.body.now) (next_statement c.loop-statement.statement-index c.statement-item.result c.args.body.now c.loop-statement-test.true c.statement-item.is) c.loop-statement.invariant c.if-not-goes_on.true c.in_ok-one.ensures c.in_ok-join.ensures
 
 pub emit_statements-loop-statement-preserved : goal.emit_statements-loop-statement-preserved
@@ -64,7 +64,7 @@ emit_statements-loop-statement-preserved t c =
     let table = c.args.context.now.program.now.table.now in
     let all = c.args.body.now in
     let i = c.loop-statement.statement-index in
-    begins_more table (globals_in table) c.args.context.now.program.now.elements.now (yield_of (types_of table) c.args.context.now.result_type) c.args.emitter.now c.loop-statement.emitter c.emit_statement.new.emitter (control c.loop-statement.flow) (control c.in_ok-one.one) (control c.join.new.flow) (statement_of c.statement-item.result)
+    begins_more table (globals_in table) c.args.context.now.program.now.elements.now (yield_of (types_of table) c.args.context.now.result_type) c.args.emitter.now c.loop-statement.emitter c.emit_marked.new.emitter (control c.loop-statement.flow) (control c.in_ok-one.one) (control c.join.new.flow) (statement_of c.statement-item.result)
     (body_of (drop (i + 1) all)) (body_of (drop i all)) (body_of all) (next_statement i c.statement-item.result all c.loop-statement-test.true c.statement-item.is) c.loop-statement.invariant c.if-not-goes_on.false c.in_ok-one.ensures c.in_ok-join.ensures
 
 pub emit_statements-returns : goal.emit_statements-returns
@@ -80,7 +80,7 @@ emit_endless-returns t c =
     let e0 = c.args.emitter.now in
     let e1 = c.emit_block.new.emitter in
     let e2 = c.emit_round.new.emitter in
-    let e3 : Emitter = record { code = c.fill.new.code; prints = e2.prints; selects = e2.selects; layout = e2.layout } in
+    let e3 : Emitter = record { code = c.fill.new.code; prints = e2.prints; selects = e2.selects; layout = e2.layout; marks = e2.marks } in
     let flow = control c.in_ok-within.within in
     let post = option_map (λ (s : _). simple_of s.now) c.args.post in
     let stop = c.in_ok-stop.stop in
@@ -93,11 +93,11 @@ pub emit_tested-returns : goal.emit_tested-returns
 emit_tested-returns t c =
     let table = c.args.context.now.program.now.table.now in
     let e0 = c.args.emitter.now in
-    let e1 : Emitter = record { code = c.push_test.new.code; prints = e0.prints; selects = e0.selects; layout = e0.layout } in
-    let e2 : Emitter = record { code = c.hold_test.new.code; prints = e0.prints; selects = e0.selects; layout = e0.layout } in
+    let e1 : Emitter = record { code = c.push_test.new.code; prints = e0.prints; selects = e0.selects; layout = e0.layout; marks = e0.marks } in
+    let e2 : Emitter = record { code = c.hold_test.new.code; prints = e0.prints; selects = e0.selects; layout = e0.layout; marks = e0.marks } in
     let e3 = c.emit_block.new.emitter in
     let e4 = c.emit_round.new.emitter in
-    let e5 : Emitter = record { code = c.fill.new.code; prints = e4.prints; selects = e4.selects; layout = e4.layout } in
+    let e5 : Emitter = record { code = c.fill.new.code; prints = e4.prints; selects = e4.selects; layout = e4.layout; marks = e4.marks } in
     let flow = control c.in_ok-within.within in
     let post = option_map (λ (s : _). simple_of s.now) c.args.post in
     let stop = c.in_ok-stop.stop in
@@ -116,10 +116,10 @@ emit_clauses-returns t c =
     let elements = c.args.context.now.program.now.elements.now in
     let result = yield_of (types_of table) c.args.context.now.result_type in
     let e0 = c.args.emitter.now in
-    let e1 : Emitter = record { code = e0.code; prints = e0.prints; selects = e0.selects; layout = c.enter-mark.new.layout } in
+    let e1 : Emitter = record { code = e0.code; prints = e0.prints; selects = e0.selects; layout = c.enter-mark.new.layout; marks = e0.marks } in
     let e2 = c.emit_any.new.emitter in
     let e3 = c.emit_turns.new.emitter in
-    let e4 : Emitter = record { code = e3.code; prints = e3.prints; selects = e3.selects; layout = c.leave.new.layout } in
+    let e4 : Emitter = record { code = e3.code; prints = e3.prints; selects = e3.selects; layout = c.leave.new.layout; marks = e3.marks } in
     let first = option_map (λ (s : _). simple_of s.now) c.args.first in
     let condition = option_map (λ (e : _). expression_of e.now) c.args.condition in
     let post = option_map (λ (s : _). simple_of s.now) c.args.post in
@@ -138,10 +138,10 @@ emit_branch-returns t c =
     let result = yield_of (types_of table) c.args.context.now.result_type in
     let branch = c.args.branch.now in
     let e0 = c.args.emitter.now in
-    let e1 : Emitter = record { code = e0.code; prints = e0.prints; selects = e0.selects; layout = c.enter-mark.new.layout } in
+    let e1 : Emitter = record { code = e0.code; prints = e0.prints; selects = e0.selects; layout = c.enter-mark.new.layout; marks = e0.marks } in
     let e2 = c.emit_head.new.emitter in
     let e3 = c.emit_ways.new.emitter in
-    let e4 : Emitter = record { code = e3.code; prints = e3.prints; selects = e3.selects; layout = c.leave.new.layout } in
+    let e4 : Emitter = record { code = e3.code; prints = e3.prints; selects = e3.selects; layout = c.leave.new.layout; marks = e3.marks } in
     let flow = control c.in_ok-flow.flow in
     let mark = c.enter-mark.result in
     let entered : Entered table e0 e1 mark.count mark.outer =
@@ -159,10 +159,10 @@ emit_one_way-returns t c =
     let elements = c.args.context.now.program.now.elements.now in
     let result = yield_of (types_of table) c.args.context.now.result_type in
     let e0 = c.args.emitter.now in
-    let e1 : Emitter = record { code = c.push_test.new.code; prints = e0.prints; selects = e0.selects; layout = e0.layout } in
-    let e2 : Emitter = record { code = c.hold_test.new.code; prints = e0.prints; selects = e0.selects; layout = e0.layout } in
+    let e1 : Emitter = record { code = c.push_test.new.code; prints = e0.prints; selects = e0.selects; layout = e0.layout; marks = e0.marks } in
+    let e2 : Emitter = record { code = c.hold_test.new.code; prints = e0.prints; selects = e0.selects; layout = e0.layout; marks = e0.marks } in
     let e3 = c.emit_block.new.emitter in
-    let e4 : Emitter = record { code = c.end_test.new.code; prints = e3.prints; selects = e3.selects; layout = e3.layout } in
+    let e4 : Emitter = record { code = c.end_test.new.code; prints = e3.prints; selects = e3.selects; layout = e3.layout; marks = e3.marks } in
     let so = made_within globals elements result (site_of table e0) (body_of c.args.branch.now.body.items) in
     let within = subst (λ (b : List StatementNode). Emits table e2 e3 (control c.in_ok-flow.flow) (made_within globals elements result (site_of table e0) (body_of b))) c.as_slice-body.ensures.value c.in_ok-flow.ensures in
     let next = length e3.code.items in
@@ -177,12 +177,12 @@ emit_two_ways-returns t c =
     let elements = c.args.context.now.program.now.elements.now in
     let result = yield_of (types_of table) c.args.context.now.result_type in
     let e0 = c.args.emitter.now in
-    let e1 : Emitter = record { code = c.push_test.new.code; prints = e0.prints; selects = e0.selects; layout = e0.layout } in
-    let e2 : Emitter = record { code = c.hold_test.new.code; prints = e0.prints; selects = e0.selects; layout = e0.layout } in
+    let e1 : Emitter = record { code = c.push_test.new.code; prints = e0.prints; selects = e0.selects; layout = e0.layout; marks = e0.marks } in
+    let e2 : Emitter = record { code = c.hold_test.new.code; prints = e0.prints; selects = e0.selects; layout = e0.layout; marks = e0.marks } in
     let e3 = c.emit_block.new.emitter in
-    let e4 : Emitter = record { code = c.begin_other.new.code; prints = e3.prints; selects = e3.selects; layout = e3.layout } in
-    let e5 = c.emit_other.new.emitter in
-    let e6 : Emitter = record { code = c.end_other.new.code; prints = e5.prints; selects = e5.selects; layout = e5.layout } in
+    let e4 : Emitter = record { code = c.begin_other.new.code; prints = e3.prints; selects = e3.selects; layout = e3.layout; marks = e3.marks } in
+    let e5 = c.emit_marked_other.new.emitter in
+    let e6 : Emitter = record { code = c.end_other.new.code; prints = e5.prints; selects = e5.selects; layout = e5.layout; marks = e5.marks } in
     let f = control c.in_ok-flow.flow in
     let so = made_within globals elements result (site_of table e0) (body_of c.args.branch.now.body.items) in
     let over = cond f.ends (instrs.Jump 0 ∷ []) [] in
@@ -201,10 +201,10 @@ emit_item-returns t c =
     let elements = c.args.context.now.program.now.elements.now in
     let result = yield_of (types_of table) c.args.context.now.result_type in
     let e0 = c.args.emitter.now in
-    let e1 : Emitter = record { code = e0.code; prints = e0.prints; selects = e0.selects; layout = c.enter-mark.new.layout } in
-    let e2 : Emitter = record { code = c.take_item.new.code; prints = e0.prints; selects = e0.selects; layout = c.take_item.new.layout } in
+    let e1 : Emitter = record { code = e0.code; prints = e0.prints; selects = e0.selects; layout = c.enter-mark.new.layout; marks = e0.marks } in
+    let e2 : Emitter = record { code = c.take_item.new.code; prints = e0.prints; selects = e0.selects; layout = c.take_item.new.layout; marks = e0.marks } in
     let e3 = c.emit_block.new.emitter in
-    let e4 : Emitter = record { code = e3.code; prints = e3.prints; selects = e3.selects; layout = c.leave.new.layout } in
+    let e4 : Emitter = record { code = e3.code; prints = e3.prints; selects = e3.selects; layout = c.leave.new.layout; marks = e3.marks } in
     let mark = c.enter-mark.result in
     let entered : Entered table e0 e1 mark.count mark.outer =
     record { code = refl; prints = refl; selects = refl; layout = c.enter-mark.ensures.layout table; entries = c.enter-mark.ensures.kept; count_is = c.enter-mark.ensures.count; outer_is = c.enter-mark.ensures.outer } in
@@ -219,12 +219,12 @@ emit_items-returns t c = λ around channel place_is kind_is.
     let elements = c.args.context.now.program.now.elements.now in
     let result = yield_of (types_of table) c.args.context.now.result_type in
     let e0 = c.args.emitter.now in
-    let e1 : Emitter = record { code = c.emit_next.new.code; prints = e0.prints; selects = e0.selects; layout = e0.layout } in
-    let e2 : Emitter = record { code = c.hold_test.new.code; prints = e0.prints; selects = e0.selects; layout = e0.layout } in
+    let e1 : Emitter = record { code = c.emit_next.new.code; prints = e0.prints; selects = e0.selects; layout = e0.layout; marks = e0.marks } in
+    let e2 : Emitter = record { code = c.hold_test.new.code; prints = e0.prints; selects = e0.selects; layout = e0.layout; marks = e0.marks } in
     let e3 = c.emit_item.new.emitter in
-    let e4 : Emitter = record { code = c.come_round.new.code; prints = e3.prints; selects = e3.selects; layout = e3.layout } in
-    let e5 : Emitter = record { code = c.emit_unused.new.code; prints = e3.prints; selects = e3.selects; layout = e3.layout } in
-    let e6 : Emitter = record { code = c.fill.new.code; prints = e3.prints; selects = e3.selects; layout = e3.layout } in
+    let e4 : Emitter = record { code = c.come_round.new.code; prints = e3.prints; selects = e3.selects; layout = e3.layout; marks = e3.marks } in
+    let e5 : Emitter = record { code = c.emit_unused.new.code; prints = e3.prints; selects = e3.selects; layout = e3.layout; marks = e3.marks } in
+    let e6 : Emitter = record { code = c.fill.new.code; prints = e3.prints; selects = e3.selects; layout = e3.layout; marks = e3.marks } in
     let flow = control c.in_ok-within.within in
     let target = target_of c.args.target.now in
     let body = body_of c.args.body.now in
@@ -245,11 +245,11 @@ emit_range-returns t c =
     let elements = c.args.context.now.program.now.elements.now in
     let result = yield_of (types_of table) c.args.context.now.result_type in
     let e0 = c.args.emitter.now in
-    let e1 : Emitter = record { code = c.emit_kept.new.code; prints = e0.prints; selects = e0.selects; layout = e0.layout } in
-    let e2 : Emitter = record { code = c.emit_kept.new.code; prints = e0.prints; selects = e0.selects; layout = c.enter-mark.new.layout } in
-    let e3 : Emitter = record { code = c.emit_kept.new.code; prints = e0.prints; selects = e0.selects; layout = c.declare_kept.new.layout } in
+    let e1 : Emitter = record { code = c.emit_kept.new.code; prints = e0.prints; selects = e0.selects; layout = e0.layout; marks = e0.marks } in
+    let e2 : Emitter = record { code = c.emit_kept.new.code; prints = e0.prints; selects = e0.selects; layout = c.enter-mark.new.layout; marks = e0.marks } in
+    let e3 : Emitter = record { code = c.emit_kept.new.code; prints = e0.prints; selects = e0.selects; layout = c.declare_kept.new.layout; marks = e0.marks } in
     let e4 = c.emit_items.new.emitter in
-    let e5 : Emitter = record { code = e4.code; prints = e4.prints; selects = e4.selects; layout = c.leave.new.layout } in
+    let e5 : Emitter = record { code = e4.code; prints = e4.prints; selects = e4.selects; layout = c.leave.new.layout; marks = e4.marks } in
     let mark = c.enter-mark.result in
     let around = layout_of table e0.layout in
     let channel = expression_of c.args.channel.now in
@@ -269,10 +269,10 @@ emit_way-returns t c =
     let elements = c.args.context.now.program.now.elements.now in
     let result = yield_of (types_of table) c.args.context.now.result_type in
     let e0 = c.args.emitter.now in
-    let e1 : Emitter = record { code = e0.code; prints = e0.prints; selects = e0.selects; layout = c.enter-mark.new.layout } in
-    let e2 : Emitter = record { code = c.take_comm.new.code; prints = e0.prints; selects = e0.selects; layout = c.take_comm.new.layout } in
+    let e1 : Emitter = record { code = e0.code; prints = e0.prints; selects = e0.selects; layout = c.enter-mark.new.layout; marks = e0.marks } in
+    let e2 : Emitter = record { code = c.take_comm.new.code; prints = e0.prints; selects = e0.selects; layout = c.take_comm.new.layout; marks = e0.marks } in
     let e3 = c.emit_statements.new.emitter in
-    let e4 : Emitter = record { code = e3.code; prints = e3.prints; selects = e3.selects; layout = c.leave.new.layout } in
+    let e4 : Emitter = record { code = e3.code; prints = e3.prints; selects = e3.selects; layout = c.leave.new.layout; marks = e3.marks } in
     let mark = c.enter-mark.result in
     let entered : Entered table e0 e1 mark.count mark.outer =
     record { code = refl; prints = refl; selects = refl; layout = c.enter-mark.ensures.layout table; entries = c.enter-mark.ensures.kept; count_is = c.enter-mark.ensures.count; outer_is = c.enter-mark.ensures.outer } in
@@ -288,8 +288,8 @@ emit_clause-returns t c = λ whole left all first reaches.
     let result = yield_of (types_of table) c.args.context.now.result_type in
     let clause = c.args.clause.now in
     let e0 = c.args.emitter.now in
-    let e1 = c.emit_way.new.emitter in
-    let e2 : Emitter = record { code = c.hold.new.code; prints = e1.prints; selects = e1.selects; layout = e1.layout } in
+    let e1 = c.emit_marked_way.new.emitter in
+    let e2 : Emitter = record { code = c.hold.new.code; prints = e1.prints; selects = e1.selects; layout = e1.layout; marks = e1.marks } in
     let f = control c.in_ok-flow.flow in
     let list = c.args.list.now in
     let next = c.add_way.new.list in
@@ -400,7 +400,7 @@ emit_all_ways-returns t c =
     let e0 = c.args.emitter.now in
     let e1 = c.emit_each_way.new.emitter in
     let e2 = c.emit_default.new.emitter in
-    let e3 : Emitter = record { code = c.close.new.code; prints = e2.prints; selects = e2.selects; layout = e2.layout } in
+    let e3 : Emitter = record { code = c.close.new.code; prints = e2.prints; selects = e2.selects; layout = e2.layout; marks = e2.marks } in
     let list = c.in_ok-list.list in
     let default = option_map control c.in_ok-default.default in
     let there : c.is_some-there.result ≡ is_some default = search rules in
@@ -419,10 +419,10 @@ emit_select-returns t c =
     let result = yield_of (types_of table) c.args.context.now.result_type in
     let all = clauses (map clause_of c.args.all.now) in
     let e0 = c.args.emitter.now in
-    let e1 : Emitter = record { code = c.push_clauses.new.code; prints = e0.prints; selects = e0.selects; layout = e0.layout } in
-    let e2 : Emitter = record { code = c.hold_select.new.code; prints = e0.prints; selects = c.hold_select.new.tables; layout = e0.layout } in
+    let e1 : Emitter = record { code = c.push_clauses.new.code; prints = e0.prints; selects = e0.selects; layout = e0.layout; marks = e0.marks } in
+    let e2 : Emitter = record { code = c.hold_select.new.code; prints = e0.prints; selects = c.hold_select.new.tables; layout = e0.layout; marks = e0.marks } in
     let e3 = c.emit_all_ways.new.emitter in
-    let e4 : Emitter = record { code = c.leave_select.new.code; prints = e3.prints; selects = c.set_table.new.tables; layout = e3.layout } in
+    let e4 : Emitter = record { code = c.leave_select.new.code; prints = e3.prints; selects = c.set_table.new.tables; layout = e3.layout; marks = e3.marks } in
     let list = c.in_ok-list.list in
     let flow = option_map control list.flow in
     let at_is : c.len-at.result ≡ length e1.selects.items = search rules in

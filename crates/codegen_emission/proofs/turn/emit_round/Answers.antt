@@ -19,7 +19,7 @@ returns c =
     let elements = c.args.context.now.program.now.elements.now in
     let e0 = c.args.emitter.now in
     let e1 = c.emit_post.new.emitter in
-    let e2 : Emitter = record { code = c.come_back.new.code; prints = e1.prints; selects = e1.selects; layout = e1.layout } in
+    let e2 : Emitter = record { code = c.come_back.new.code; prints = e1.prints; selects = e1.selects; layout = e1.layout; marks = e1.marks } in
     let post = option_map (λ (s : _). simple_of s.now) c.args.post in
     let behind : c.len-behind.result ≡ length e0.code.items = search rules in
     let head = c.args.head in

@@ -1,0 +1,8 @@
+//! Which statement of a program each instruction of its code comes from.
+#![tactic(auto)]
+
+mod map;
+mod nodes;
+mod walk;
+
+pub use map::StatementMap;
