@@ -12,7 +12,7 @@ use std::alloc::Global;
 use std::collections::VecDeque;
 use timeline::{Lanes, Recording, Site};
 use word::end::End;
-use word::request::Event;
+use word::request::{Event, EventOutcome};
 
 /// How many local steps a goroutine makes before it is checked whether the next event is there.
 const QUANTUM: u32 = 65_536;
@@ -308,9 +308,23 @@ impl Latest {
     }
 }
 
-/// The instruction that made the request of the event that the book has just committed; none if it is not known.
-fn site_of<B: BookName>(_book: &Book<B>, _event: &Event) -> Option<Site> {
-    None
+/// The instruction that made the request of the event that the book has just committed; none if its goroutine has ended.
+fn site_of<B: BookName>(book: &Book<B>, event: &Event) -> Option<Site> {
+    let frames = match book.asleep(event.number) {
+        Some(sleeping) => sleeping.frames(),
+        None => book.awake(event.number)?.frames(),
+    };
+    let frame = frames.last()?;
+    let next = frame.place();
+    // A goroutine whose request is done has gone on to the next instruction.
+    let index = match &event.outcome {
+        EventOutcome::Done(_) => next.saturating_sub(1),
+        EventOutcome::Sleeps | EventOutcome::Panics(..) => next,
+    };
+    Some(Site {
+        function: frame.function(),
+        index,
+    })
 }
 
 /// The next event of the run, or its end; where a goroutine stands before it, it makes steps.
