@@ -12,7 +12,7 @@ use std::alloc::Global;
 use std::collections::VecDeque;
 use timeline::{Lanes, Recording, Site};
 use word::end::End;
-use word::request::{Event, EventOutcome};
+use word::request::{Event, EventOutcome, Request};
 
 /// How many local steps a goroutine makes before it is checked whether the next event is there.
 const QUANTUM: u32 = 65_536;
@@ -308,8 +308,11 @@ impl Latest {
     }
 }
 
-/// The instruction that made the request of the event that the book has just committed; none if its goroutine has ended.
+/// The instruction that made the request of the event that the book has just committed; none of an end.
 fn site_of<B: BookName>(book: &Book<B>, event: &Event) -> Option<Site> {
+    if matches!(&event.request, Request::End | Request::Exit) {
+        return None;
+    }
     let frames = match book.asleep(event.number) {
         Some(sleeping) => sleeping.frames(),
         None => book.awake(event.number)?.frames(),
