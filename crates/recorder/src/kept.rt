@@ -1,6 +1,6 @@
 //! The events that are kept of a run, and what the events before them leave.
 
-ghost use Rattle.std.specs.Prelude.{◌≡◌, ◌≤◌, ◌<◌, ◌⊎◌, ◌∷◌, ◌++◌, [], IfNone, IfOk, IfSome, IsTrue, OnOk, Some, length, map};
+ghost use Rattle.std.specs.Prelude.{◌≡◌, ◌+◌, ◌≤◌, ◌<◌, ◌⊎◌, ◌∷◌, ◌++◌, [], IfNone, IfOk, IfSome, IsTrue, OnOk, Some, length, map};
 ghost use Rattle.std.specs.Option.{is_some};
 ghost use Rattle.bytecode.specs.Machine.{code_kind};
 ghost use Rattle.word.specs.Views.{event_of};
@@ -46,6 +46,45 @@ impl Drop for Kept {
 }
 
 impl Kept {
+    /// Takes an event: of the first `skip` of the run it goes into the past.
+    fn take(&mut self, event: Event, site: Option<Site>, skip: u64) -> Result<(), Memory>
+        requires begins { (self.old.before ≡ skip) ⊎ ((self.old.before ≤ skip) × (self.old.events.items ≡ [])) }
+        ensures moves { OnOk result (Moves self.old.before (self.old.events.items ++ event ∷ []) self.new.before self.new.events.items) }
+        ensures begins { OnOk result ((self.new.before ≡ skip) ⊎ ((self.new.before ≤ skip) × (self.new.events.items ≡ []))) }
+        ensures skips { OnOk result (self.old.before < skip → self.new.events.items ≡ []) }
+        ensures more { OnOk result (length self.new.events.items ≤ length self.old.events.items + 1) }
+        ensures end { self.new.end ≡ self.old.end }
+    {
+        if self.before < skip {
+            self.past.take(&event, site)?;
+            self.before += 1;
+            return Ok(());
+        }
+        self.sites.push(site)?;
+        self.events.push(event)?;
+        Ok(())
+    }
+
+    /// The run has ended.
+    fn ended(self, end: End) -> Kept
+        ensures { (result.before ≡ self.before) × (result.events.items ≡ self.events.items) × (result.end ≡ Some end) }
+    {
+        let Kept {
+            before,
+            past,
+            events,
+            sites,
+            end: _,
+        } = self;
+        Kept {
+            before,
+            past,
+            events,
+            sites,
+            end: Some(end),
+        }
+    }
+
     /// The recording of these events, of a program whose functions have these names. No lines are known.
     pub(crate) fn recording(self, alloc: Global, functions: Vec<String>) -> Recording
         ensures { (result.before ≡ self.before) × (result.events.items ≡ self.events.items) × (result.end ≡ self.end) }
@@ -64,42 +103,6 @@ impl Kept {
             events,
             sites,
             lines: Vec::new(alloc),
-            end,
-        }
-    }
-}
-
-/// Events that follow each other, and the end of the run if it has no more.
-pub(crate) struct Collected {
-    pub events: Vec<Event>,
-    /// For each event, the instruction that made its request, if it is known.
-    pub sites: Vec<Option<Site>>,
-    pub end: Option<End>,
-}
-
-impl Drop for Collected {
-    fn drop(self) {
-        let Collected {
-            events,
-            sites,
-            end: _,
-        } = self;
-        drop(events);
-        drop(sites);
-    }
-}
-
-impl Collected {
-    /// These events, before which the run had `before`, which left this.
-    fn after(self, before: u64, past: Lanes) -> Kept
-        ensures { (result.before ≡ before) × (result.events.items ≡ self.events.items) × (result.end ≡ self.end) }
-    {
-        let Collected { events, sites, end } = self;
-        Kept {
-            before,
-            past,
-            events,
-            sites,
             end,
         }
     }
@@ -131,6 +134,7 @@ impl Drop for Latest {
 }
 
 /// Commits `skip` events of a book that has committed none, and keeps the next ones, at most `most`.
+#[tactic(auto, using(crate::proofs::Books::taken, crate::proofs::Books::waiting, crate::proofs::Books::all_there))]
 pub(crate) fn keep_from<B: BookName>(
     alloc: Global,
     book: &mut Book<B>,
@@ -144,96 +148,31 @@ pub(crate) fn keep_from<B: BookName>(
     ensures few { IfOk result (λ kept. length kept.events.items ≤ most) }
     ensures cut { IfOk result (λ kept. IfNone kept.end (most ≤ length kept.events.items)) }
 {
-    let mut past = Lanes::new(alloc)?;
-    let (before, end) = pass(book, &mut past, skip)?;
-    if end.is_some() {
-        return Ok(Kept {
-            before,
-            past,
-            events: Vec::new(alloc),
-            sites: Vec::new(alloc),
-            end,
-        });
-    }
-    let collected = collect(alloc, book, before, most)?;
-    Ok(collected.after(before, past))
-}
-
-/// Commits `skip` events of a book that has committed none: how many it had, and its end if it had no more.
-#[tactic(auto, using(crate::proofs::Books::passed, crate::proofs::Books::waiting, crate::proofs::Books::all_there))]
-fn pass<B: BookName>(
-    book: &mut Book<B>,
-    past: &mut Lanes,
-    skip: u64,
-) -> Result<(u64, Option<End>), Memory>
-    requires { HasRecorded book.old.code book.old.limit book.old 0 [] }
-    ensures recorded { IfOk result (λ made. IfNone made.1 (HasRecorded book.old.code book.old.limit book.new made.0 [])) }
-    ensures few { IfOk result (λ made. made.0 ≤ skip) }
-    ensures all { IfOk result (λ made. IfNone made.1 (made.0 ≡ skip)) }
-    ensures next { IfOk result (λ made. AreNext (code_kind book.old.code) book.old.limit made.0 []) }
-    ensures rest { IfOk result (λ made. IfSome made.1 (AreRest (code_kind book.old.code) book.old.limit made.0 [])) }
-{
-    let mut before = 0;
+    let mut kept = Kept {
+        before: 0,
+        past: Lanes::new(alloc)?,
+        events: Vec::new(alloc),
+        sites: Vec::new(alloc),
+        end: None,
+    };
     'rounds: for _ in 0..u64::MAX {
-        if before >= skip {
-            return Ok((before, None));
+        if kept.before >= skip && kept.events.len() >= most {
+            return Ok(kept);
         }
         match next(book)? {
             Settled::Committed(event) => {
-                past.take(&event, site_of(book, &event))?;
-                before += 1;
+                let site = site_of(book, &event);
+                kept.take(event, site, skip)?;
             }
             Settled::Waiting(_) => {}
-            Settled::Ended(end) => return Ok((before, Some(end))),
-        }
-    }
-    Err(Memory)
-}
-
-/// The next events of the run of a book that has committed `before`, at most `most`, and its end if it has no more of them.
-#[tactic(auto, using(crate::proofs::Books::committed, crate::proofs::Books::waiting, crate::proofs::Books::all_there))]
-fn collect<B: BookName>(
-    alloc: Global,
-    book: &mut Book<B>,
-    before: u64,
-    most: usize,
-) -> Result<Collected, Memory>
-    requires { HasRecorded book.old.code book.old.limit book.old before [] }
-    ensures next { IfOk result (λ made. AreNext (code_kind book.old.code) book.old.limit before (map event_of made.events.items)) }
-    ensures rest { IfOk result (λ made. IfSome made.end (AreRest (code_kind book.old.code) book.old.limit before (map event_of made.events.items))) }
-    ensures few { IfOk result (λ made. length made.events.items ≤ most) }
-    ensures cut { IfOk result (λ made. IfNone made.end (most ≤ length made.events.items)) }
-{
-    let mut events = Vec::new(alloc);
-    let mut sites = Vec::new(alloc);
-    'rounds: for _ in 0..u64::MAX {
-        if events.len() >= most {
-            return Ok(Collected {
-                events,
-                sites,
-                end: None,
-            });
-        }
-        match next(book)? {
-            Settled::Committed(event) => {
-                sites.push(site_of(book, &event))?;
-                events.push(event)?;
-            }
-            Settled::Waiting(_) => {}
-            Settled::Ended(end) => {
-                return Ok(Collected {
-                    events,
-                    sites,
-                    end: Some(end),
-                });
-            }
+            Settled::Ended(end) => return Ok(kept.ended(end)),
         }
     }
     Err(Memory)
 }
 
 /// The last events of the run of a book that has committed none, at most `most`, and its end.
-#[tactic(auto, using(crate::proofs::Books::moved, crate::proofs::Books::waiting, crate::proofs::Books::all_there))]
+#[tactic(auto, using(crate::proofs::Books::taken, crate::proofs::Books::waiting, crate::proofs::Books::all_there))]
 pub(crate) fn keep_last<B: BookName>(
     alloc: Global,
     book: &mut Book<B>,
