@@ -1,6 +1,7 @@
 //! What is made of a program's code beside a run of it: its listing, and the recording of its run for pictures.
 #![tactic(auto)]
 
+mod lines;
 mod listing;
 mod recording;
 

@@ -12,9 +12,10 @@ ghost use Rattle.codegen_base.specs.Grammar.{IsGrammatical, IsLimited};
 ghost use Rattle.checker.specs.Trees.{tree_in};
 ghost use Rattle.syntax.specs.Spans.{tree_of};
 
+use crate::lines::lines_of;
 use checker::Typed;
-use codegen::compile;
-use go_text::Fault;
+use codegen::compile_marked;
+use go_text::{Fault, Source};
 use kendo_reading::read;
 use recorder::record;
 use std::alloc::Global;
@@ -68,14 +69,15 @@ pub fn timeline_window(
     if limit < 1 || limit > 1 << 62 {
         return Err(Fault::BadLimit);
     }
-    let (_source, typed) = read(alloc, bytes)?;
-    let recording = recorded(alloc, &typed, limit, window, most)?;
+    let (source, typed) = read(alloc, bytes)?;
+    let recording = recorded(alloc, &source, &typed, limit, window, most)?;
     Ok(recording)
 }
 
 /// The events of a window of the run of a checked program.
 fn recorded(
     alloc: Global,
+    source: &Source,
     typed: &Typed,
     limit: u64,
     window: Window,
@@ -90,8 +92,10 @@ fn recorded(
     ensures cut { IfOk result (λ made. IfNone made.end (most ≤ length made.events.items)) }
     ensures only { IfErr result (λ fault. fault ≡ Fault.Memory) }
 {
-    let code = compile(alloc, typed)?;
+    let (code, marks) = compile_marked(alloc, typed)?;
+    let lines = lines_of(alloc, source, typed.tree(), &code, &marks)?;
     let verified = verify(alloc, code)?;
     let program = Arc::new(alloc, verified)?;
-    record(alloc, program, limit, window, most)
+    let recording = record(alloc, program, limit, window, most)?;
+    Ok(recording.with_lines(lines))
 }

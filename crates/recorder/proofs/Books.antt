@@ -112,5 +112,8 @@ moved code limit before later d events left kept moves =
       next = next_later (code_kind code) limit before later gone (map event_of left) counts (subst (AreNext (code_kind code) limit before) all kept.next);
     }
 
-pub passed : (code : Code) (limit before : ℕ) (d : Desk) (event : Recorded) → HasRecorded code limit d before (event ∷ []) → HasRecorded code limit d (before + 1) []
-passed code limit before d event kept = moved code limit before (before + 1) d (event ∷ []) [] kept (event ∷ [], refl, refl)
+-- the next event, and what goes into the past with it
+pub taken : (code : Code) (limit before later : ℕ) (old new : Desk) (events left : List Recorded) (settled : Settled) (event : Recorded) → HasRecorded code limit old before events → Comes old settled new → settled ≡ Committed event
+    → Moves before (events ++ event ∷ []) later left → HasRecorded code limit new later left
+taken code limit before later old new events left settled event kept comes is moves =
+    moved code limit before later new (events ++ event ∷ []) left (committed code limit before old new events settled kept comes event is) moves

@@ -1,6 +1,6 @@
 //! The events that are kept of a run, and what the events before them leave.
 
-ghost use Rattle.std.specs.Prelude.{◌≡◌, ◌≤◌, ◌<◌, ◌⊎◌, ◌∷◌, ◌++◌, [], IfNone, IfOk, IfSome, IsTrue, OnOk, Some, length, map};
+ghost use Rattle.std.specs.Prelude.{◌≡◌, ◌+◌, ◌≤◌, ◌<◌, ◌⊎◌, ◌∷◌, ◌++◌, [], IfNone, IfOk, IfSome, IsTrue, OnOk, Some, length, map};
 ghost use Rattle.std.specs.Option.{is_some};
 ghost use Rattle.bytecode.specs.Machine.{code_kind};
 ghost use Rattle.word.specs.Views.{event_of};
@@ -12,7 +12,7 @@ use std::alloc::Global;
 use std::collections::VecDeque;
 use timeline::{Lanes, Recording, Site};
 use word::end::End;
-use word::request::Event;
+use word::request::{Event, EventOutcome, Request};
 
 /// How many local steps a goroutine makes before it is checked whether the next event is there.
 const QUANTUM: u32 = 65_536;
@@ -46,6 +46,45 @@ impl Drop for Kept {
 }
 
 impl Kept {
+    /// Takes an event: of the first `skip` of the run it goes into the past.
+    fn take(&mut self, event: Event, site: Option<Site>, skip: u64) -> Result<(), Memory>
+        requires begins { (self.old.before ≡ skip) ⊎ ((self.old.before ≤ skip) × (self.old.events.items ≡ [])) }
+        ensures moves { OnOk result (Moves self.old.before (self.old.events.items ++ event ∷ []) self.new.before self.new.events.items) }
+        ensures begins { OnOk result ((self.new.before ≡ skip) ⊎ ((self.new.before ≤ skip) × (self.new.events.items ≡ []))) }
+        ensures skips { OnOk result (self.old.before < skip → self.new.events.items ≡ []) }
+        ensures more { OnOk result (length self.new.events.items ≤ length self.old.events.items + 1) }
+        ensures end { self.new.end ≡ self.old.end }
+    {
+        if self.before < skip {
+            self.past.take(&event, site)?;
+            self.before += 1;
+            return Ok(());
+        }
+        self.sites.push(site)?;
+        self.events.push(event)?;
+        Ok(())
+    }
+
+    /// The run has ended.
+    fn ended(self, end: End) -> Kept
+        ensures { (result.before ≡ self.before) × (result.events.items ≡ self.events.items) × (result.end ≡ Some end) }
+    {
+        let Kept {
+            before,
+            past,
+            events,
+            sites,
+            end: _,
+        } = self;
+        Kept {
+            before,
+            past,
+            events,
+            sites,
+            end: Some(end),
+        }
+    }
+
     /// The recording of these events, of a program whose functions have these names. No lines are known.
     pub(crate) fn recording(self, alloc: Global, functions: Vec<String>) -> Recording
         ensures { (result.before ≡ self.before) × (result.events.items ≡ self.events.items) × (result.end ≡ self.end) }
@@ -66,26 +105,6 @@ impl Kept {
             lines: Vec::new(alloc),
             end,
         }
-    }
-}
-
-/// Events that follow each other, and the end of the run if it has no more.
-pub(crate) struct Collected {
-    pub events: Vec<Event>,
-    /// For each event, the instruction that made its request, if it is known.
-    pub sites: Vec<Option<Site>>,
-    pub end: Option<End>,
-}
-
-impl Drop for Collected {
-    fn drop(self) {
-        let Collected {
-            events,
-            sites,
-            end: _,
-        } = self;
-        drop(events);
-        drop(sites);
     }
 }
 
@@ -115,6 +134,7 @@ impl Drop for Latest {
 }
 
 /// Commits `skip` events of a book that has committed none, and keeps the next ones, at most `most`.
+#[tactic(auto, using(crate::proofs::Books::taken, crate::proofs::Books::waiting, crate::proofs::Books::all_there))]
 pub(crate) fn keep_from<B: BookName>(
     alloc: Global,
     book: &mut Book<B>,
@@ -128,102 +148,31 @@ pub(crate) fn keep_from<B: BookName>(
     ensures few { IfOk result (λ kept. length kept.events.items ≤ most) }
     ensures cut { IfOk result (λ kept. IfNone kept.end (most ≤ length kept.events.items)) }
 {
-    let mut past = Lanes::new(alloc)?;
-    let (before, end) = pass(book, &mut past, skip)?;
-    if end.is_some() {
-        return Ok(Kept {
-            before,
-            past,
-            events: Vec::new(alloc),
-            sites: Vec::new(alloc),
-            end,
-        });
-    }
-    let Collected { events, sites, end } = collect(alloc, book, before, most)?;
-    Ok(Kept {
-        before,
-        past,
-        events,
-        sites,
-        end,
-    })
-}
-
-/// Commits `skip` events of a book that has committed none: how many it had, and its end if it had no more.
-#[tactic(auto, using(crate::proofs::Books::passed, crate::proofs::Books::waiting, crate::proofs::Books::all_there))]
-fn pass<B: BookName>(
-    book: &mut Book<B>,
-    past: &mut Lanes,
-    skip: u64,
-) -> Result<(u64, Option<End>), Memory>
-    requires { HasRecorded book.old.code book.old.limit book.old 0 [] }
-    ensures recorded { IfOk result (λ made. IfNone made.1 (HasRecorded book.old.code book.old.limit book.new made.0 [])) }
-    ensures few { IfOk result (λ made. made.0 ≤ skip) }
-    ensures all { IfOk result (λ made. IfNone made.1 (made.0 ≡ skip)) }
-    ensures next { IfOk result (λ made. AreNext (code_kind book.old.code) book.old.limit made.0 []) }
-    ensures rest { IfOk result (λ made. IfSome made.1 (AreRest (code_kind book.old.code) book.old.limit made.0 [])) }
-{
-    let mut before = 0;
+    let mut kept = Kept {
+        before: 0,
+        past: Lanes::new(alloc)?,
+        events: Vec::new(alloc),
+        sites: Vec::new(alloc),
+        end: None,
+    };
     'rounds: for _ in 0..u64::MAX {
-        if before >= skip {
-            return Ok((before, None));
+        if kept.before >= skip && kept.events.len() >= most {
+            return Ok(kept);
         }
         match next(book)? {
             Settled::Committed(event) => {
-                past.take(&event, site_of(book, event.number))?;
-                before += 1;
+                let site = site_of(book, &event);
+                kept.take(event, site, skip)?;
             }
             Settled::Waiting(_) => {}
-            Settled::Ended(end) => return Ok((before, Some(end))),
-        }
-    }
-    Err(Memory)
-}
-
-/// The next events of the run of a book that has committed `before`, at most `most`, and its end if it has no more of them.
-#[tactic(auto, using(crate::proofs::Books::committed, crate::proofs::Books::waiting, crate::proofs::Books::all_there))]
-fn collect<B: BookName>(
-    alloc: Global,
-    book: &mut Book<B>,
-    before: u64,
-    most: usize,
-) -> Result<Collected, Memory>
-    requires { HasRecorded book.old.code book.old.limit book.old before [] }
-    ensures next { IfOk result (λ made. AreNext (code_kind book.old.code) book.old.limit before (map event_of made.events.items)) }
-    ensures rest { IfOk result (λ made. IfSome made.end (AreRest (code_kind book.old.code) book.old.limit before (map event_of made.events.items))) }
-    ensures few { IfOk result (λ made. length made.events.items ≤ most) }
-    ensures cut { IfOk result (λ made. IfNone made.end (most ≤ length made.events.items)) }
-{
-    let mut events = Vec::new(alloc);
-    let mut sites = Vec::new(alloc);
-    'rounds: for _ in 0..u64::MAX {
-        if events.len() >= most {
-            return Ok(Collected {
-                events,
-                sites,
-                end: None,
-            });
-        }
-        match next(book)? {
-            Settled::Committed(event) => {
-                sites.push(site_of(book, event.number))?;
-                events.push(event)?;
-            }
-            Settled::Waiting(_) => {}
-            Settled::Ended(end) => {
-                return Ok(Collected {
-                    events,
-                    sites,
-                    end: Some(end),
-                });
-            }
+            Settled::Ended(end) => return Ok(kept.ended(end)),
         }
     }
     Err(Memory)
 }
 
 /// The last events of the run of a book that has committed none, at most `most`, and its end.
-#[tactic(auto, using(crate::proofs::Books::moved, crate::proofs::Books::waiting, crate::proofs::Books::all_there))]
+#[tactic(auto, using(crate::proofs::Books::taken, crate::proofs::Books::waiting, crate::proofs::Books::all_there))]
 pub(crate) fn keep_last<B: BookName>(
     alloc: Global,
     book: &mut Book<B>,
@@ -245,7 +194,7 @@ pub(crate) fn keep_last<B: BookName>(
     'rounds: for _ in 0..u64::MAX {
         match next(book)? {
             Settled::Committed(event) => {
-                let site = site_of(book, event.number);
+                let site = site_of(book, &event);
                 latest.push(event, site, most)?;
             }
             Settled::Waiting(_) => {}
@@ -298,10 +247,26 @@ impl Latest {
     }
 }
 
-/// The instruction that made the request of the event that the book has just committed, whose actor has this number; none if it is not
-/// known.
-fn site_of<B: BookName>(_book: &Book<B>, _number: u64) -> Option<Site> {
-    None
+/// The instruction that made the request of the event that the book has just committed; none of an end.
+fn site_of<B: BookName>(book: &Book<B>, event: &Event) -> Option<Site> {
+    if matches!(&event.request, Request::End | Request::Exit) {
+        return None;
+    }
+    let frames = match book.asleep(event.number) {
+        Some(sleeping) => sleeping.frames(),
+        None => book.awake(event.number)?.frames(),
+    };
+    let frame = frames.last()?;
+    let next = frame.place();
+    // A goroutine whose request is done has gone on to the next instruction.
+    let index = match &event.outcome {
+        EventOutcome::Done(_) => next.saturating_sub(1),
+        EventOutcome::Sleeps | EventOutcome::Panics(..) => next,
+    };
+    Some(Site {
+        function: frame.function(),
+        index,
+    })
 }
 
 /// The next event of the run, or its end; where a goroutine stands before it, it makes steps.

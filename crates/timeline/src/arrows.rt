@@ -34,7 +34,10 @@ fn push_arrow(
     push_class(text, arrow.passes)?;
     match arrow.passes {
         Passes::Item(channel) => {
-            write!(text, ")\"><title>item of channel {channel}</title></line>\n")
+            write!(
+                text,
+                ")\"><title>item of channel {channel}</title></line>\n"
+            )
         }
         _ => text.push_str(")\"/>\n"),
     }

@@ -2,7 +2,7 @@
 
 use crate::arrows::push_arrows;
 use crate::label::{count_label, end_label, event_label};
-use crate::lane_drawing::{push_lanes, push_names};
+use crate::lane_drawing::{push_lanes, push_names, waits_label};
 use crate::lanes::Lanes;
 use crate::marks::{HEAD, LEGEND, mark_of};
 use crate::recording::{Recording, push_line_number};
@@ -21,10 +21,13 @@ const TOP: u64 = 120;
 /// The pixels left of the first clock, for the names of lanes.
 pub(crate) const LEFT: u64 = 160;
 
-/// The pixels right of the lanes, and those for what the goroutines of a deadlock wait for.
+/// The pixels right of the lanes: at least, and at most if there stands what the goroutines of a deadlock wait for.
 const MARGIN: u64 = 24;
 
-const WAITS: u64 = 260;
+const WAITS: u64 = 460;
+
+/// How wide a letter of that is reckoned, in pixels.
+const LETTER: u64 = 7;
 
 /// The pixels between two numbers of an axis.
 const TICKS: u64 = 70;
@@ -76,7 +79,12 @@ fn push_all(text: &mut String, drawing: &Drawing) -> Result<(), AllocError> {
     push_arrows(text, drawing)?;
     push_events(text, drawing)?;
     push_names(text, drawing)?;
-    push_axis(text, lowest(drawing).saturating_sub(4), false, drawing.scale)?;
+    push_axis(
+        text,
+        lowest(drawing).saturating_sub(4),
+        false,
+        drawing.scale,
+    )?;
     push_edges(text, drawing)?;
     text.push_str("</svg>\n")
 }
@@ -93,11 +101,7 @@ fn lowest(drawing: &Drawing) -> u64 {
 
 /// All that stands before the lanes: what the picture shows, and what its marks mean.
 fn push_head(text: &mut String, drawing: &Drawing) -> Result<(), AllocError> {
-    let margin = match drawing.recording.end {
-        Some(End::Deadlock) => WAITS,
-        _ => MARGIN,
-    };
-    let width = drawing.scale.right().saturating_add(margin);
+    let width = drawing.scale.right().saturating_add(margin(drawing)?);
     let tall = lowest(drawing).saturating_add(40);
     write!(
         text,
@@ -106,6 +110,22 @@ fn push_head(text: &mut String, drawing: &Drawing) -> Result<(), AllocError> {
     text.push_str(HEAD)?;
     push_caption(text, drawing)?;
     text.push_str(LEGEND)
+}
+
+/// The pixels right of the lanes, enough for what the goroutines of a deadlock wait for.
+fn margin(drawing: &Drawing) -> Result<u64, AllocError> {
+    let mut margin = MARGIN;
+    if !matches!(drawing.recording.end, Some(End::Deadlock)) {
+        return Ok(margin);
+    }
+    for lane in drawing.lanes.lanes.iter() {
+        if let Some(asleep) = &lane.asleep {
+            let waits = waits_label(drawing, asleep)?;
+            let letters = (waits.len() as u64).saturating_add(2);
+            margin = margin.max(letters.saturating_mul(LETTER));
+        }
+    }
+    Ok(margin.min(WAITS))
 }
 
 /// Which events are shown, and how the run ended.
@@ -176,12 +196,7 @@ fn push_title(
 }
 
 /// An axis at this height, with the clocks of some events above it or below it.
-fn push_axis(
-    text: &mut String,
-    y: u64,
-    is_above: bool,
-    scale: &Scale,
-) -> Result<(), AllocError> {
+fn push_axis(text: &mut String, y: u64, is_above: bool, scale: &Scale) -> Result<(), AllocError> {
     push_line(text, "axis", (LEFT, y), (scale.right(), y))?;
     let base = y.saturating_add(4);
     write!(
@@ -236,7 +251,7 @@ fn push_edges(text: &mut String, drawing: &Drawing) -> Result<(), AllocError> {
         push_edge(text, drawing, LEFT, "start", note.as_str())?;
     }
     match drawing.recording.end {
-        None => push_edge(text, drawing, right, "end", "cut here"),
+        None => push_edge(text, drawing, right, "end", "cut here: the run goes on"),
         Some(_) => Ok(()),
     }
 }

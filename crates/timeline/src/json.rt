@@ -90,11 +90,7 @@ fn push_last_sleep(
 }
 
 /// The name of a sleep that goes on: at a deadlock what its goroutine waits for.
-fn sleep_name(
-    alloc: Global,
-    recording: &Recording,
-    asleep: &Asleep,
-) -> Result<String, AllocError> {
+fn sleep_name(alloc: Global, recording: &Recording, asleep: &Asleep) -> Result<String, AllocError> {
     if !matches!(recording.end, Some(End::Deadlock)) {
         return String::from_str(alloc, "asleep");
     }
@@ -105,12 +101,7 @@ fn sleep_name(
 }
 
 /// A slice of a thread.
-fn push_slice(
-    text: &mut String,
-    number: u64,
-    name: &str,
-    span: Sleep,
-) -> Result<(), AllocError> {
+fn push_slice(text: &mut String, number: u64, name: &str, span: Sleep) -> Result<(), AllocError> {
     let (from, length) = (span.from, span.to.saturating_sub(span.from));
     write!(
         text,

@@ -13,6 +13,9 @@ use word::value::Word;
 /// How many bytes of a print are shown at most: of a longer one only the number of its bytes.
 const SHOWN: usize = 80;
 
+/// How many clauses of a select are shown at most.
+const CLAUSES: usize = 4;
+
 /// What an event is, as `sends to channel 3, wakes goroutine 2`, and `, sleeps` if its goroutine fell asleep.
 pub(crate) fn event_label(
     alloc: Global,
@@ -84,32 +87,33 @@ fn push_on(label: &mut String, what: &str, channel: Option<u32>) -> Result<(), A
 /// A select: the clause that it did with its channel, or what it waits for.
 fn push_select(label: &mut String, cases: &[Case], event: &Event) -> Result<(), AllocError> {
     let count = cases.len();
-    write!(label, "select of {count} clauses")?;
     match &event.outcome {
-        EventOutcome::Done(Reply::Default) => label.push_str(", default"),
         EventOutcome::Done(Reply::Clause(number, received)) => {
             let what = match received {
                 Some(_) => "receives from",
                 None => "sends to",
             };
-            write!(label, ", clause {number}: ")?;
+            write!(label, "selects clause {number} of {count}: ")?;
             push_on(label, what, channel_of(cases, *number))
         }
-        EventOutcome::Sleeps => push_clauses(label, cases),
-        _ => Ok(()),
+        EventOutcome::Done(_) => label.push_str("selects the default"),
+        _ => {
+            write!(label, "selects among {count} clauses")?;
+            push_clauses(label, cases)
+        }
     }
 }
 
-/// The clauses of a select that waits, if they are few.
+/// The clauses of a select, the first ones if there are many.
 fn push_clauses(label: &mut String, cases: &[Case]) -> Result<(), AllocError> {
-    for (index, case) in cases.iter().take(4).enumerate() {
-        let before = if index == 0 { ": " } else { ", " };
+    for (index, case) in cases.iter().take(CLAUSES).enumerate() {
+        let before = if index == 0 { ": " } else { " or " };
         label.push_str(before)?;
         let clause = clause_of(case);
         push_on(label, label_of(clause), clause.channel)?;
     }
-    if cases.len() > 4 {
-        label.push_str(", ..")?;
+    if cases.len() > CLAUSES {
+        label.push_str(" or ..")?;
     }
     Ok(())
 }
@@ -129,7 +133,7 @@ fn push_reply(label: &mut String, event: &Event, reply: &Reply) -> Result<(), Al
         Reply::Received(_, false) | Reply::Clause(_, Some((_, false))) => {
             label.push_str(", which is closed")?;
         }
-        Reply::Word(Word::Int(value)) => write!(label, ": {value}")?,
+        Reply::Word(Word::Int(value)) => write!(label, " ({value})")?,
         _ => {}
     }
     match &event.request {
@@ -152,11 +156,7 @@ fn push_woken(label: &mut String, partners: &[u64]) -> Result<(), AllocError> {
 
 /// Which events of the run a picture shows.
 pub(crate) fn count_label(alloc: Global, recording: &Recording) -> Result<String, AllocError> {
-    let (count, before, after) = (
-        recording.events.len(),
-        recording.before,
-        recording.after(),
-    );
+    let (count, before, after) = (recording.events.len(), recording.before, recording.after());
     match (recording.end, count) {
         (_, 0) if before > 0 => format!(in alloc; "no events: the run has {before}"),
         (Some(_), 1) if before == 0 => String::from_str(alloc, "1 event"),

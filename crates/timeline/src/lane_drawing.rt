@@ -69,12 +69,7 @@ fn push_span(
 }
 
 /// The line of a life, and how it goes on after its last event: it has ended, sleeps, or runs on.
-fn push_life(
-    text: &mut String,
-    drawing: &Drawing,
-    lane: &Lane,
-    y: u64,
-) -> Result<(), AllocError> {
+fn push_life(text: &mut String, drawing: &Drawing, lane: &Lane, y: u64) -> Result<(), AllocError> {
     let scale = drawing.scale;
     let mut from = scale.place(lane.from);
     for sleep in lane.sleeps.iter() {
@@ -96,10 +91,10 @@ fn push_life(
             (end, y.saturating_add(8)),
         );
     }
-    match drawing.recording.end {
-        Some(End::Panicked(_)) if lane.to >= drawing.lanes.last => Ok(()),
-        _ => push_line(text, "on", (end, y), (scale.right(), y)),
+    if drawing.recording.panics(lane.number) {
+        return Ok(());
     }
+    push_line(text, "on", (end, y), (scale.right(), y))
 }
 
 /// A sleep that goes on: at a deadlock with what the goroutine waits for, in red.
@@ -116,13 +111,18 @@ fn push_asleep(
     push_span(text, "stuck", (since, right), y)?;
     push_line(text, "tail", (since, y), (right, y))?;
     let (x, base) = (right.saturating_add(8), y.saturating_add(4));
-    let waits = asleep.wait.label(drawing.alloc)?;
+    let waits = waits_label(drawing, asleep)?;
     write!(
         text,
-        "<text class=\"waits\" x=\"{x}\" y=\"{base}\">{waits}"
-    )?;
-    push_line_number(text, drawing.recording.line(asleep.site))?;
-    text.push_str("</text>\n")
+        "<text class=\"waits\" x=\"{x}\" y=\"{base}\">{waits}</text>\n"
+    )
+}
+
+/// What a goroutine waits for, and on which line, as `waits to receive from channel 3 at line 7`.
+pub(crate) fn waits_label(drawing: &Drawing, asleep: &Asleep) -> Result<String, AllocError> {
+    let mut waits = asleep.wait.label(drawing.alloc)?;
+    push_line_number(&mut waits, drawing.recording.line(asleep.site))?;
+    Ok(waits)
 }
 
 /// The names of the lanes once more in each gutter, of those goroutines that are there.
@@ -153,7 +153,10 @@ fn push_repeated(
     lane: &Lane,
     (x, y): (u64, u64),
 ) -> Result<(), AllocError> {
-    let (from, to) = (x.saturating_add(8), x.saturating_add(GUTTER).saturating_sub(8));
+    let (from, to) = (
+        x.saturating_add(8),
+        x.saturating_add(GUTTER).saturating_sub(8),
+    );
     push_span(text, "ground", (from, to), y)?;
     push_name(text, drawing, lane, (from.saturating_add(4), y), SHORT)
 }

@@ -204,12 +204,7 @@ impl Lanes {
     }
 
     /// What an event does to the lane of its actor.
-    fn move_actor(
-        &mut self,
-        event: &Event,
-        site: Option<Site>,
-        later: u64,
-    ) -> Result<(), Memory> {
+    fn move_actor(&mut self, event: &Event, site: Option<Site>, later: u64) -> Result<(), Memory> {
         let Some(row) = self.row(event.number) else {
             return Ok(());
         };

@@ -9,7 +9,7 @@ pub(crate) const CHANNEL_COLORS: u32 = 6;
 pub(crate) const HEAD: &str =
     "<style>text{font:12px sans-serif;fill:#222}.caption{font-size:15px;font-weight:bold}.small{font-size:10px;fill:#666}.note{font-style:italic}\
 .waits{fill:#d01515}.run{stroke:#4a78b0;stroke-width:3}.on{stroke:#4a78b0;stroke-width:3;stroke-dasharray:2 5}.sleep{fill:#e3e3e3}.stuck{fill:#fbdcdc}\
-.tail{stroke:#d01515;stroke-width:3}.rail{stroke:#eee}.ground{fill:white}.arrow{stroke-width:1.2}.close{stroke:#7b3fa0;fill:#7b3fa0}\
+.tail{stroke:#d01515;stroke-width:3}.rail{stroke:#eee}.ground{fill:white}.arrow{stroke-width:1.2}.close{stroke:#444;fill:#444}\
 .start{stroke:#3c8d40;fill:#3c8d40}.c0{stroke:#8c6a00;fill:#8c6a00}.c1{stroke:#c2571a;fill:#c2571a}.c2{stroke:#008b8b;fill:#008b8b}\
 .c3{stroke:#b5179e;fill:#b5179e}.c4{stroke:#5b4bd6;fill:#5b4bd6}.c5{stroke:#7a4a2a;fill:#7a4a2a}.dot{fill:#4a78b0}.print{fill:#111}\
 .panic{stroke:#d01515;stroke-width:3}.end{stroke:#222;stroke-width:2}.axis{stroke:#bbb}.cut{stroke:#222;stroke-dasharray:6 4}</style>\n<defs>\
@@ -50,6 +50,10 @@ pub(crate) fn mark_of(event: &Event, is_dense: bool) -> Mark {
         (EventOutcome::Panics(..), _) => Mark {
             class: "panic",
             shape: "m-5 -5l10 10m0 -10l-10 10",
+        },
+        (_, Request::Print(_)) if is_dense => Mark {
+            class: "print",
+            shape: "m-1 -4h2v8h-2z",
         },
         (_, Request::Print(_)) => Mark {
             class: "print",

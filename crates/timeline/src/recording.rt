@@ -1,5 +1,7 @@
 //! What a picture shows.
 
+ghost use Rattle.std.specs.Prelude.{◌≡◌};
+
 use crate::lanes::Lanes;
 use std::alloc::AllocError;
 use word::end::End;
@@ -51,6 +53,31 @@ impl Drop for Recording {
 }
 
 impl Recording {
+    /// The same recording, of a program whose instructions come from these lines.
+    pub fn with_lines(self, lines: Vec<Vec<u32>>) -> Recording
+        ensures { (result.before ≡ self.before) × (result.events.items ≡ self.events.items) × (result.end ≡ self.end) }
+    {
+        let Recording {
+            functions,
+            before,
+            past,
+            events,
+            sites,
+            lines: unknown,
+            end,
+        } = self;
+        drop(unknown);
+        Recording {
+            functions,
+            before,
+            past,
+            events,
+            sites,
+            lines,
+            end,
+        }
+    }
+
     /// The name of the function that a goroutine begins with: `main` for goroutine 1, which has no `number` here.
     pub(crate) fn first_function(&self, number: Option<u32>) -> &str {
         match number {
@@ -81,6 +108,14 @@ impl Recording {
     /// The number of the event at this index, counted from 1 over the whole run.
     pub(crate) fn event_number(&self, index: usize) -> u64 {
         self.before.saturating_add(index as u64).saturating_add(1)
+    }
+
+    /// Whether the run ended by a panic of this goroutine.
+    pub(crate) fn panics(&self, number: u64) -> bool {
+        match (self.end, self.events.last()) {
+            (Some(End::Panicked(_)), Some(event)) => event.number == number,
+            _ => false,
+        }
     }
 
     /// How many events the run has had after the last of these.

@@ -7,7 +7,7 @@ use std::alloc::Global;
 /// How wide a unit of time is if there is room for it, and how wide all units are at most, in pixels.
 const UNIT: u64 = 14;
 
-const MOST: u64 = 3_280;
+const MOST: u64 = 3_150;
 
 /// How many units of time are drawn at most between two events that follow each other, from the most generous to the least: the
 /// first of these with which the picture is no wider than `MOST` is taken, or the last.

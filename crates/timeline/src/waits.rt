@@ -5,7 +5,7 @@ use std::alloc::{AllocError, Global};
 use word::request::{Case, Request};
 
 /// How many clauses of a select are named at most: of more only their number.
-const NAMED: usize = 3;
+const NAMED: usize = 2;
 
 /// A clause of a select that waits, or a send or receive that does. A channel is named by its number, counted from 1; `None` is `nil`.
 #[derive(Clone, Copy)]
