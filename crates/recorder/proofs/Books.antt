@@ -1,5 +1,5 @@
 -- What a book has committed, step by step.
-use Rattle.std.proofs.Common.{◌≡◌, ℕ, ◌+◌, List, [], ◌∷◌, ◌++◌, Bool, true, false, cond, map, length, refl, sym, ap, ◌∙◌, subst, arith, length-append}
+use Rattle.std.proofs.Common.{◌≡◌, ℕ, ◌+◌, ◌<◌, ◌≤◌, ◌⊎◌, inl, inr, List, [], ◌∷◌, ◌++◌, Bool, true, false, cond, map, length, refl, sym, ap, ◌∙◌, subst, arith, length-append}
 use Rattle.std.proofs.lemmas.List.{length-map, map-append}
 use Rattle.std.specs.Option.{is_some}
 use Rattle.book.specs.Desks.{Desk, Held, IsEvent, Settles, Looks, Sighting, brought, opened_desk}
@@ -117,3 +117,16 @@ pub taken : (code : Code) (limit before later : ℕ) (old new : Desk) (events le
     → Moves before (events ++ event ∷ []) later left → HasRecorded code limit new later left
 taken code limit before later old new events left settled event kept comes is moves =
     moved code limit before later new (events ++ event ∷ []) left (committed code limit before old new events settled kept comes event is) moves
+
+none_there : (items : List Recorded) → length items ≡ 0 → items ≡ []
+none_there [] e = refl
+none_there (x ∷ xs) e = absurd cc
+
+none_yet : (before skip : ℕ) (items : List Recorded) → before < skip → (before ≡ skip) ⊎ ((before ≤ skip) × (items ≡ [])) → length items ≡ 0
+none_yet before skip items less (inl same) = omega (arith, less, same)
+none_yet before skip items less (inr none) = ap length none.1
+
+-- one of the first events goes into the past
+pub first_goes : (before skip : ℕ) (items : List Recorded) (event : Recorded) → before < skip → (before ≡ skip) ⊎ ((before ≤ skip) × (items ≡ [])) → Moves before (items ++ event ∷ []) (before + 1) items
+first_goes before skip items event less begins =
+    subst (λ (xs : List Recorded). Moves before (xs ++ event ∷ []) (before + 1) xs) (sym (none_there items (none_yet before skip items less begins))) (event ∷ [], refl, refl)

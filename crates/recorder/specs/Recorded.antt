@@ -1,5 +1,5 @@
 -- The events of a run that were kept.
-use Rattle.std.specs.Prelude.{◌≡◌, ◌≤◌, ◌⊎◌, ◌×◌, ℕ, ◌+◌, ◌-◌, ◌++◌, [], min, IfSome, IsTrue, List, Option, Some, length, map, take}
+use Rattle.std.specs.Prelude.{◌≡◌, ◌≤◌, ◌⊎◌, ℕ, ◌+◌, ◌-◌, ◌++◌, [], min, IfSome, IsTrue, List, Option, Some, length, map, take}
 use Rattle.std.specs.Option.{is_some}
 use Rattle.book.specs.Desks.{Desk, IsEvent}
 use Rattle.book.specs.declared.settled.Settled.{Settled}
