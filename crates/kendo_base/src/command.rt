@@ -37,8 +37,6 @@ pub fn run_text(
     ensures { Finds (subcommands.Run workers limit) bytes.items result }
 {
     let Outputs { standard, file } = outputs;
-    let end = run_bytes(
-        leave, alloc, bytes, limit, workers, &Open, standard, file,
-    )?;
+    let end = run_bytes(leave, alloc, bytes, limit, workers, &Open, standard, file)?;
     Ok(end)
 }

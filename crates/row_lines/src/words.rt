@@ -66,7 +66,9 @@ fn told(alloc: Global, asked: &Invocation<'_, '_>) -> Result<String, AllocError>
         more.push_str(other.as_str())?;
     }
     let events = events(alloc, from, last)?;
-    format!(in alloc; "file {file:?} {more}trace {trace:?} out {out:?} {events}explains {explains}: {done}")
+    format!(in alloc;
+        "file {file:?} {more}trace {trace:?} out {out:?} {events}explains {explains}: {done}"
+    )
 }
 
 /// The events that a picture shows, if they are chosen.

@@ -12,22 +12,22 @@ pub rounds-preserved : goal.rounds-preserved
 rounds-preserved g c =
     elim c.match-branch-3.branch [
       | in-Committed+in_ok-take-in-Committed w ↦
-        let few : length w.take.new.self.events.items ≤ c.args.most =
-        elim c.else-kept-skip.branch [
-          | else-kept-skip-via-then-kept-skip+else-len-most v ↦ omega (arith, v.if-len-most.false, v.len.ensures, w.in_ok-take-in-Committed.ensures.more)
-          | else-kept-skip-via-else-kept-skip v ↦ rw (w.in_ok-take-in-Committed.ensures.skips (omega (arith, v.if-kept-skip.false))) (omega arith)
-        ] in
-        rw w.kept-is (
-          taken c.args.book.now.code c.args.book.now.limit c.rounds.kept.before w.take.new.self.before c.rounds.book c.next.new.book c.rounds.kept.events.items w.take.new.self.events.items
-            c.in_ok-event.field-0 w.in-Committed.event c.rounds.invariant.0 c.in_ok-event.ensures w.in-Committed.is w.in_ok-take-in-Committed.ensures.moves,
-          few,
-          w.in_ok-take-in-Committed.ensures.begins,
-          w.take.ensures.end ∙ c.rounds.invariant.3,
-        )
+          let few : length w.take.new.self.events.items ≤ c.args.most =
+          elim c.else-kept-skip.branch [
+            | else-kept-skip-via-then-kept-skip+else-len-most v ↦ omega (arith, v.if-len-most.false, v.len.ensures, w.in_ok-take-in-Committed.ensures.more)
+            | else-kept-skip-via-else-kept-skip v ↦ rw (w.in_ok-take-in-Committed.ensures.skips (omega (arith, v.if-kept-skip.false))) (omega arith)
+          ] in
+          rw w.kept-is (
+            taken c.args.book.now.code c.args.book.now.limit c.rounds.kept.before w.take.new.self.before c.rounds.book c.next.new.book c.rounds.kept.events.items w.take.new.self.events.items
+                c.in_ok-event.field-0 w.in-Committed.event c.rounds.invariant.0 c.in_ok-event.ensures w.in-Committed.is w.in_ok-take-in-Committed.ensures.moves,
+            few,
+            w.in_ok-take-in-Committed.ensures.begins,
+            w.take.ensures.end ∙ c.rounds.invariant.3,
+          )
       | in-Waiting w ↦ rw w.kept-is (
-          waiting c.args.book.now.code c.args.book.now.limit c.rounds.kept.before c.rounds.book c.next.new.book c.rounds.kept.events.items c.in_ok-event.field-0 c.rounds.invariant.0 c.in_ok-event.ensures w.in-Waiting.field-0 w.in-Waiting.is,
-          c.rounds.invariant.1,
-          c.rounds.invariant.2,
-          c.rounds.invariant.3,
-        )
+        waiting c.args.book.now.code c.args.book.now.limit c.rounds.kept.before c.rounds.book c.next.new.book c.rounds.kept.events.items c.in_ok-event.field-0 c.rounds.invariant.0 c.in_ok-event.ensures w.in-Waiting.field-0 w.in-Waiting.is,
+        c.rounds.invariant.1,
+        c.rounds.invariant.2,
+        c.rounds.invariant.3,
+      )
     ]
