@@ -1,10 +1,10 @@
 //! Goroutines at the end of a run.
 
 use crate::notes::Site;
-use crate::scene::Scene;
 use book::{Book, BookName};
 use go_text::Memory;
 use goroutine_vm::Frame;
+use statement_map::StatementMap;
 use std::alloc::Global;
 use syntax::NodeId;
 use verifier::Verified;
@@ -16,6 +16,16 @@ use word::value::Word;
 pub(crate) struct Call {
     pub function: usize,
     pub node: NodeId,
+}
+
+impl Call {
+    /// The function and the statement that an instruction comes from.
+    pub(crate) fn at(map: &StatementMap, site: Site) -> Call {
+        Call {
+            function: site.function,
+            node: map.node(site.function, site.index).unwrap_or(0),
+        }
+    }
 }
 
 /// A goroutine that has not ended.
@@ -37,29 +47,30 @@ impl Goroutine {
     ///
     /// Errors: out of memory.
     pub(crate) fn all<B: BookName>(
-        scene: Scene<'_>,
+        alloc: Global,
+        map: &StatementMap,
         book: &Book<B>,
         program: &Verified,
     ) -> Result<Vec<Goroutine>, Memory> {
-        let mut all = Vec::new(scene.alloc);
+        let mut all = Vec::new(alloc);
         for number in 1..book.next_number() {
             if let Some(sleeping) = book.asleep(number) {
                 let mut request = Request::End;
-                let _stands = sleeping.ask(scene.alloc, program, &mut request)?;
+                let _stands = sleeping.ask(alloc, program, &mut request)?;
                 all.push(Goroutine {
                     number,
                     clock: sleeping.clock().time(),
                     wish: Some(request),
-                    calls: calls_of(scene, sleeping.frames())?,
-                    held: held_by(scene.alloc, sleeping.frames())?,
+                    calls: calls_of(alloc, map, sleeping.frames())?,
+                    held: held_by(alloc, sleeping.frames())?,
                 })?;
             } else if let Some(state) = book.awake(number) {
                 all.push(Goroutine {
                     number,
                     clock: state.clock().time(),
                     wish: None,
-                    calls: calls_of(scene, state.frames())?,
-                    held: Vec::new(scene.alloc),
+                    calls: calls_of(alloc, map, state.frames())?,
+                    held: Vec::new(alloc),
                 })?;
             }
         }
@@ -73,8 +84,8 @@ impl Goroutine {
 }
 
 /// The functions that run, and their statements. Each but the last one waits after its call.
-fn calls_of(scene: Scene<'_>, frames: &[Frame]) -> Result<Vec<Call>, Memory> {
-    let mut calls = Vec::new(scene.alloc);
+fn calls_of(alloc: Global, map: &StatementMap, frames: &[Frame]) -> Result<Vec<Call>, Memory> {
+    let mut calls = Vec::new(alloc);
     let callers = frames.len().saturating_sub(1);
     for (depth, frame) in frames.iter().enumerate() {
         let next = frame.place();
@@ -86,7 +97,7 @@ fn calls_of(scene: Scene<'_>, frames: &[Frame]) -> Result<Vec<Call>, Memory> {
                 next
             },
         };
-        calls.push(scene.call(site))?;
+        calls.push(Call::at(map, site))?;
     }
     Ok(calls)
 }

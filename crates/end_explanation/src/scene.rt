@@ -32,10 +32,7 @@ pub(crate) struct Report<'a> {
 impl Scene<'_> {
     /// The statement that an instruction comes from.
     pub(crate) fn call(self, site: Site) -> Call {
-        Call {
-            function: site.function,
-            node: self.map.node(site.function, site.index).unwrap_or(0),
-        }
+        Call::at(self.map, site)
     }
 
     /// Appends `FILE:LINE:COLUMN` of a statement.
