@@ -1,5 +1,5 @@
 -- The recording of code is that of the source which it is compiled from.
-use Rattle.std.proofs.Common.{◌≡◌, ℕ, ◌×◌, List, [], ◌∷◌, ◌++◌, Option, Some, None, IfSome, Result, Ok, Err, IfOk, length, map, take, refl, sym, ◌∙◌, subst}
+use Rattle.std.proofs.Common.{◌≡◌, ℕ, List, [], ◌∷◌, ◌++◌, Option, Some, None, IfSome, Result, Ok, Err, IfOk, length, map, take, refl, sym, ◌∙◌, subst}
 use Rattle.bytecode.specs.Code.{Code}
 use Rattle.bytecode.specs.Machine.{code_kind}
 use Rattle.meaning.specs.Source.{source_kind}
@@ -32,7 +32,7 @@ rest_if : (K M : GoroutineKind) (limit before : ℕ) (events : List Event) (end 
 rest_if K M limit before events None e a = tt
 rest_if K M limit before events (Some ending) e a = (a.0, a.1, all_also K M limit (a.0 ++ events) ending e a.2)
 
-recorded_code : (K : GoroutineKind) (code code' : Code) (limit before : ℕ) (events : List Event) (end : Option Ending) → code' ≡ code → Equal K (code_kind code)
+pub recorded_code : (K : GoroutineKind) (code code' : Code) (limit before : ℕ) (events : List Event) (end : Option Ending) → code' ≡ code → Equal K (code_kind code)
     → AreNext (code_kind code') limit before events → IfSome end (AreRest (code_kind code') limit before events) → IsWindow K limit before events end
 recorded_code K code code' limit before events end is e next rest = record {
   next = next_also K (code_kind code) limit before events e (subst (λ (x : Code). AreNext (code_kind x) limit before events) is next);

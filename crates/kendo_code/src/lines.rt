@@ -49,7 +49,7 @@ impl Text<'_> {
         }
         let from = self.tree.span(node).from;
         let before = self.ends.as_slice().partition_point(|end| *end < from);
-        (before as u32).saturating_add(1)
+        u32::try_from(before).unwrap_or(u32::MAX).saturating_add(1)
     }
 }
 
