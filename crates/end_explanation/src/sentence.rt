@@ -5,6 +5,8 @@ use crate::goroutine::{Call, Goroutine};
 use crate::scene::{Report, Scene};
 use crate::wish::{push_clauses, push_wish};
 use diagnostic_words::words::Words;
+use go_text::Memory;
+use std::alloc::Global;
 use syntax::NodeId;
 use word::limits::{MAX_CAPACITY, MAX_CHANNELS, MAX_DEPTH, MAX_GOROUTINES};
 use word::panic::Panic;
@@ -17,6 +19,9 @@ const MOST_UNFINISHED: usize = 20;
 
 /// The most lines for the calls of one goroutine.
 const MOST_CALLS: usize = 20;
+
+/// The most calls of which a repetition is found: functions that call one another in turn.
+const MOST_PERIOD: usize = 4;
 
 /// The units of the groups of three digits of a number, the largest first.
 const UNITS: [u64; 7] = [
@@ -210,73 +215,108 @@ fn push_group(said: &mut Words, group: u64) {
     said.number(i128::from(group % 10));
 }
 
-/// Equal calls in a row.
+/// Appends the calls that led a goroutine to where it stands, the last one first. Calls that repeat are printed once.
+fn push_calls(said: &mut Words, scene: Scene<'_>, goroutine: &Goroutine) {
+    let Ok(callers) = callers_of(scene.alloc, goroutine) else {
+        said.refuse();
+        return;
+    };
+    let mut rest = callers.as_slice();
+    let mut lines: usize = 0;
+    for _ in 0..MOST_CALLS {
+        if rest.is_empty() || lines >= MOST_CALLS {
+            break;
+        }
+        let repetition = Repetition::first(rest);
+        lines = lines.saturating_add(repetition.period);
+        repetition.push(said, scene, rest);
+        rest = rest.get(repetition.length()..).unwrap_or(&[]);
+    }
+    push_more(said, rest.len(), " more call\n", " more calls\n");
+}
+
+/// The functions that wait for one that they called, the last one first.
+fn callers_of(alloc: Global, goroutine: &Goroutine) -> Result<Vec<Call>, Memory> {
+    let mut callers = Vec::new(alloc);
+    for call in goroutine.calls.iter().rev().skip(1) {
+        callers.push(*call)?;
+    }
+    Ok(callers)
+}
+
+/// Calls that repeat: `period` of them, `times` times in a row.
 #[derive(Clone, Copy)]
-struct CallRun {
-    call: Call,
+struct Repetition {
+    period: usize,
     times: usize,
 }
 
-/// The lines of the calls of a goroutine.
-#[derive(Drop)]
-struct CallLines {
-    /// How many lines there are, or would be without the bound.
-    lines: usize,
-    /// How many calls they show.
-    shown: usize,
-}
-
-impl CallLines {
-    /// Appends the line of calls, if there are any and the bound permits.
-    fn push(&mut self, said: &mut Words, scene: Scene<'_>, run: Option<CallRun>) {
-        let Some(run) = run else {
-            return;
+impl Repetition {
+    /// The repetition with which calls begin that covers most of them; the first call alone if nothing repeats.
+    fn first(calls: &[Call]) -> Repetition {
+        let mut best = Repetition {
+            period: 1,
+            times: 1,
         };
-        if self.lines < MOST_CALLS {
-            push_call(said, scene, run);
-            self.shown = self.shown.saturating_add(run.times);
-        }
-        self.lines = self.lines.saturating_add(1);
-    }
-}
-
-/// Appends the calls that led a goroutine to where it stands, the last one first. Equal calls in a row take one line.
-fn push_calls(said: &mut Words, scene: Scene<'_>, goroutine: &Goroutine) {
-    let mut lines = CallLines { lines: 0, shown: 0 };
-    let mut run: Option<CallRun> = None;
-    for call in goroutine.calls.iter().rev().skip(1) {
-        run = match run {
-            Some(same) if same.call.node == call.node => Some(CallRun {
-                call: same.call,
-                times: same.times.saturating_add(1),
-            }),
-            ended => {
-                lines.push(said, scene, ended);
-                Some(CallRun {
-                    call: *call,
-                    times: 1,
-                })
+        for period in 1..=MOST_PERIOD {
+            let times = times_of(calls, period);
+            let other = Repetition { period, times };
+            if times > 1 && other.length() > best.length() {
+                best = other;
             }
-        };
+        }
+        best
     }
-    lines.push(said, scene, run);
-    let callers = goroutine.calls.len().saturating_sub(1);
-    let left = callers.saturating_sub(lines.shown);
-    push_more(said, left, " more call\n", " more calls\n");
+
+    /// How many calls these are.
+    fn length(self) -> usize {
+        self.period.saturating_mul(self.times)
+    }
+
+    /// Appends the first calls, as many as repeat, and how many times they do.
+    fn push(self, said: &mut Words, scene: Scene<'_>, calls: &[Call]) {
+        for call in calls.iter().take(self.period) {
+            push_call(said, scene, *call);
+            if self.period == 1 && self.times > 1 {
+                said.text(", ");
+                push_thousands(said, self.times as u64);
+                said.text(" times");
+            }
+            said.text("\n");
+        }
+        if self.period > 1 {
+            said.text("  these ");
+            said.number(self.period as i128);
+            said.text(" calls ");
+            push_thousands(said, self.times as u64);
+            said.text(" times in a row\n");
+        }
+    }
 }
 
-/// Appends where a function was called from, and how many times in a row if more than once.
-fn push_call(said: &mut Words, scene: Scene<'_>, run: CallRun) {
-    said.text("  called from ");
-    scene.push_function(said, run.call.function);
-    said.text(" at ");
-    scene.push_location(said, run.call.node);
-    if run.times > 1 {
-        said.text(", ");
-        push_thousands(said, run.times as u64);
-        said.text(" times");
+/// How many times the first calls, as many as the period, stand in a row.
+fn times_of(calls: &[Call], period: usize) -> usize {
+    let first = calls.get(..period).unwrap_or(&[]);
+    let mut times: usize = 0;
+    for (index, call) in calls.iter().enumerate() {
+        let place = index.checked_rem(period).unwrap_or(0);
+        match first.get(place) {
+            Some(same) if same.node == call.node => {}
+            _ => break,
+        }
+        if place.saturating_add(1) == period {
+            times = times.saturating_add(1);
+        }
     }
-    said.text("\n");
+    times
+}
+
+/// Appends where a function was called from.
+fn push_call(said: &mut Words, scene: Scene<'_>, call: Call) {
+    said.text("  called from ");
+    scene.push_function(said, call.function);
+    said.text(" at ");
+    scene.push_location(said, call.node);
 }
 
 /// Appends that there are `left` more, if any.
