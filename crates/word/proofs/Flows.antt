@@ -8,11 +8,12 @@ use Rattle.std.proofs.lemmas.Bool.Decides.{nat_tests}
 use Rattle.std.proofs.lemmas.Option.{same_Some}
 use Rattle.std.proofs.lemmas.List.{get_or_past, get_or_append_left, get_or-append_right}
 use Rattle.word.specs.Values.{Word, Int, Chan, Item, Case, Request, Make, Go, Send, Receive, Close, Select, Len, Cap, Print, End, Exit, Panic, Exhausted, Reply, Nothing, Value, Clause, Default, EventOutcome, Ending, Finished, Panicked, RanOut, Done, Sleeps, Panics, Event, Sleeper, Offer, Channel, Shared, ChannelSize, CloseOfClosed, CloseOfNil, SendOnClosed, TooManyChannels, TooManyGoroutines}
-use Rattle.word.specs.Requests.{GoesOn, happened, no_channel, channel_of, with_offer, clause_offers, offers, first_offer, or_else, partner, without, without_all, sent, got, done, sleeps, ends, panics, with_channel, send_to, do_send, receive_from, do_receive, send_ready, receive_ready, is_ready, choose, do_clause, do_select, do_make, do_go, do_close, close_reply, partners, act}
+use Rattle.word.specs.Requests.{GoesOn, happened, no_channel, channel_of, with_offer, clause_offers, offers, first_offer, or_else, partner, without, without_all, sent, got, done, sleeps, ends, panics, with_channel, send_to, do_send, receive_from, do_receive, send_ready, receive_ready, is_ready, ready_clauses, choose, do_clause, do_select, do_make, do_go, do_close, close_reply, partners, act}
 use Rattle.word.specs.Kinds.{GoroutineKind}
 use Rattle.word.specs.Worlds.{opening, moment}
-use Rattle.word.specs.Flow.{clause_deal, Deal, Gives, Takes, NoDeal, reply_deal, case_deal, deal, latest, is_sleeps, dozed, slept, item_of, offered, enters, leaves, accepted_after, accepted, received, InOrder}
+use Rattle.word.specs.Flow.{clause_deal, Deal, Gives, Takes, NoDeal, reply_deal, deal, latest, is_sleeps, dozed, slept, item_of, offered, enters, leaves, accepted_after, accepted, received, InOrder}
 use Rattle.word.proofs.Found.{In}
+use Rattle.word.proofs.Chosen.{chosen, deals_at, none_ready}
 use Rattle.word.proofs.Kept.{moment_keeps}
 use Rattle.word.proofs.Fair.{partner_is, in_without, in_without_all, in_back}
 
@@ -286,12 +287,12 @@ module _ (w : Shared) (n c : ℕ) (q : Request) (sw : IsSound w) where
       go (x ∷ xs) true e = cc
       go (x ∷ xs) false e = let z : nat_lt 0 (suc (length xs)) ≡ true = grind (arith, nat_tests) in absurd (true≢false (sym (ap (λ t. t || is_some (partner k true w.asleep)) z) ∙ e))
 
-  -- where no clause is ready, buffers of its receives are empty
-  quiet_clauses : (xs : List Case) (i : ℕ) → choose w n c q i xs ≡ None → (k : ℕ) (f : Offer) → first_offer k false (clause_offers i xs) ≡ Some f → its k ≡ []
+  -- if no clause is ready, buffers of its receives are empty
+  quiet_clauses : (xs : List Case) (i : ℕ) → ready_clauses w n c q i xs ≡ [] → (k : ℕ) (f : Offer) → first_offer k false (clause_offers i xs) ≡ Some f → its k ≡ []
   quiet_clauses [] i h k f t = cc
   quiet_clauses (x ∷ xs) i h k f t = go (quiet_clauses xs (suc i)) x.chan x.item (is_ready w n c q x.chan x.item) refl h t
     where
-      go : (choose w n c q (suc i) xs ≡ None → (m : ℕ) (g : Offer) → first_offer m false (clause_offers (suc i) xs) ≡ Some g → its m ≡ []) → (a : Option ℕ) (b : Option Item) (r : Bool) → is_ready w n c q a b ≡ r → cond r (Some (i, x)) (choose w n c q (suc i) xs) ≡ None → first_offer k false (with_offer i a b (clause_offers (suc i) xs)) ≡ Some f → its k ≡ []
+      go : (ready_clauses w n c q (suc i) xs ≡ [] → (m : ℕ) (g : Offer) → first_offer m false (clause_offers (suc i) xs) ≡ Some g → its m ≡ []) → (a : Option ℕ) (b : Option Item) (r : Bool) → is_ready w n c q a b ≡ r → cond r ((i, x) ∷ ready_clauses w n c q (suc i) xs) (ready_clauses w n c q (suc i) xs) ≡ [] → first_offer k false (with_offer i a b (clause_offers (suc i) xs)) ≡ Some f → its k ≡ []
       go rec a b true re h' t' = cc
       go rec None b false re h' t' = rec h' k f t'
       go rec (Some m) (Some y) false re h' t' = rec h' k f (by_chan m k (λ u. cond (u && false) (Some (record { case = i; chan = m; item = Some y })) (first_offer k false (clause_offers (suc i) xs)) ≡ Some f → first_offer k false (clause_offers (suc i) xs) ≡ Some f) (λ z p. p) (λ p. p) t')
@@ -321,27 +322,13 @@ module _ (w : Shared) (n c : ℕ) (q : Request) (sw : IsSound w) where
       go true = sound_ends (Panics TooManyGoroutines 0) (Panicked TooManyGoroutines) refl refl
       go false = sound_on w.asleep w.channels (Done Nothing) ((w.made + 1) ∷ []) refl (λ x i. i) (λ k x f i t. sw.calm k x f i t) (λ j. subst (λ z. Ord j z ((w.made + 1) ∷ []) (its j)) (sym d) (idle (accepted j w.events) (received j w.events) (its j) (sw.order j)))
 
-pub record Chosen (w : Shared) (n c : ℕ) (q : Request) (xs : List Case) (j : ℕ) (y : ℕ × Case) : Type 0 where
-  pub k : ℕ
-  pub is : y.0 ≡ suc (j + k)
-  pub deals : (g : Option (Item × Bool)) → case_deal xs (suc k) g ≡ clause_deal y.1.chan y.1.item g
-  pub ready : is_ready w n c q y.1.chan y.1.item ≡ true
-
-pub chosen : (w : Shared) (n c : ℕ) (q : Request) (xs : List Case) (j : ℕ) (y : ℕ × Case) → choose w n c q (suc j) xs ≡ Some y → Chosen w n c q xs j y
-chosen w n c q [] j y h = cc
-chosen w n c q (x ∷ xs) j y h = go (chosen w n c q xs (suc j) y) (is_ready w n c q x.chan x.item) refl h
-  where
-    go : (choose w n c q (suc (suc j)) xs ≡ Some y → Chosen w n c q xs (suc j) y) → (b : Bool) → is_ready w n c q x.chan x.item ≡ b → cond b (Some (suc j, x)) (choose w n c q (suc (suc j)) xs) ≡ Some y → Chosen w n c q (x ∷ xs) j y
-    go rec true r h' = subst (λ (t : ℕ × Case). Chosen w n c q (x ∷ xs) j t) (same_Some (suc j, x) y h') (record { k = 0; is = omega arith; deals = λ g. refl; ready = r })
-    go rec false r h' = let z = rec h' in record { k = suc z.k; is = omega (arith, z.is); deals = z.deals; ready = z.ready }
-
-sound_select : (w : Shared) (n c : ℕ) (cases : List Case) (default : Bool) → IsSound w → (o : Option (ℕ × Case)) → choose w n c (Select cases default) 1 cases ≡ o → IsSound (do_select w n c (Select cases default) default o).shared
+sound_select : (w : Shared) (n c : ℕ) (cases : List Case) (default : Bool) → IsSound w → (o : Option (ℕ × Case)) → choose w n c (Select cases default) cases ≡ o → IsSound (do_select w n c (Select cases default) default o).shared
 sound_select w n c cases default sw (Some y) e =
-    let z = chosen w n c (Select cases default) cases 0 y e in
+    let z = chosen w n c (Select cases default) cases y e in
     let i : y.0 ≡ suc z.k = omega (arith, z.is) in
-    subst (λ i. IsSound (do_clause w n c (Select cases default) i y.1.chan y.1.item).shared) (sym i) (sound_clause w n c (Select cases default) sw z.k y.1.chan y.1.item z.deals z.ready)
+    subst (λ i. IsSound (do_clause w n c (Select cases default) i y.1.chan y.1.item).shared) (sym i) (sound_clause w n c (Select cases default) sw z.k y.1.chan y.1.item (deals_at cases z.k y.1 z.stands) z.ready)
 sound_select w n c cases true sw None e = sound_idle w n c (Select cases true) sw w refl (λ x i. i) Default [] refl (λ j. refl)
-sound_select w n c cases false sw None e = sound_sleeps w n c (Select cases false) sw (quiet_clauses w n c (Select cases false) sw cases 1 e)
+sound_select w n c cases false sw None e = sound_sleeps w n c (Select cases false) sw (quiet_clauses w n c (Select cases false) sw cases 1 (none_ready w n c (Select cases false) cases e))
 
 no_receive : (k m i : ℕ) (x : Item) (f : Offer) → first_offer m false (record { case = i; chan = k; item = Some x } ∷ []) ≡ Some f → ⊥
 no_receive k m i x f h = go (k == m) h
@@ -367,7 +354,7 @@ sound_act w n c (Receive (Some k)) sw = go (receive_ready w n c (Receive (Some k
     go false e = sound_sleeps w n c (Receive (Some k)) sw (λ m f t. by_chan w n c (Receive (Some k)) sw k m (λ u. cond (u && true) (Some (record { case = 0; chan = k; item = None })) None ≡ Some f → (channel_of w.channels m).items ≡ []) (λ z p. ap (λ i. (channel_of w.channels i).items) (sym z) ∙ not_ready_empty w n c (Receive (Some k)) sw k e) (λ p. cc) t)
 sound_act w n c (Close None) sw = sound_ends w n c (Close None) sw (Panics CloseOfNil 0) (Panicked CloseOfNil) refl refl
 sound_act w n c (Close (Some k)) sw = sound_close w n c (Close (Some k)) sw k refl
-sound_act w n c (Select cases default) sw = sound_select w n c cases default sw (choose w n c (Select cases default) 1 cases) refl
+sound_act w n c (Select cases default) sw = sound_select w n c cases default sw (choose w n c (Select cases default) cases) refl
 sound_act w n c (Len None) sw = sound_idle w n c (Len None) sw w refl (λ x i. i) (Value (Int (pos 0))) [] refl (λ j. refl)
 sound_act w n c (Len (Some k)) sw = sound_idle w n c (Len (Some k)) sw w refl (λ x i. i) (Value (Int (pos (length (channel_of w.channels k).items)))) [] refl (λ j. refl)
 sound_act w n c (Cap None) sw = sound_idle w n c (Cap None) sw w refl (λ x i. i) (Value (Int (pos 0))) [] refl (λ j. refl)

@@ -59,7 +59,7 @@ module _ (w : Shared) (n c : ℕ) (q : Request) where
   longer_act (Receive (Some k)) = longer_cond (receive_ready w n c q k) (do_receive w n c q k 0) (sleeps w n c q) (longer_receive_from k (channel_of w.channels k) 0 (channel_of w.channels k).items (partner k true w.asleep)) kept
   longer_act (Close None) = kept
   longer_act (Close (Some k)) = longer_cond (channel_of w.channels k).closed (panics w n c q CloseOfClosed 0) _ kept kept
-  longer_act (Select cases default) = longer_select default (choose w n c q 1 cases)
+  longer_act (Select cases default) = longer_select default (choose w n c q cases)
   longer_act (Len None) = kept
   longer_act (Len (Some k)) = kept
   longer_act (Cap None) = kept

@@ -56,7 +56,7 @@ module _ (w : Shared) (n c : ℕ) (q : Request) where
   one_act (Receive (Some k)) = one_cond (receive_ready w n c q k) (do_receive w n c q k 0) (sleeps w n c q) (one_receive_from k (channel_of w.channels k) 0 (channel_of w.channels k).items (partner k true w.asleep)) (_, refl)
   one_act (Close None) = (_, refl)
   one_act (Close (Some k)) = one_cond (channel_of w.channels k).closed (panics w n c q CloseOfClosed 0) _ (_, refl) (_, refl)
-  one_act (Select cases default) = one_select default (choose w n c q 1 cases)
+  one_act (Select cases default) = one_select default (choose w n c q cases)
   one_act (Len None) = (_, refl)
   one_act (Len (Some k)) = (_, refl)
   one_act (Cap None) = (_, refl)

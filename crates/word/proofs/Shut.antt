@@ -7,14 +7,15 @@ use Rattle.std.proofs.lemmas.Bool.{and_parts, eqb-true, ne_eqb, true≢false, ca
 use Rattle.std.proofs.lemmas.Bool.Decides.{nat_tests}
 use Rattle.std.proofs.lemmas.List.{get_or_past, get_or_append_left, get_or-append_right, set_past, append-nil}
 use Rattle.word.specs.Values.{Cause, Int, Chan, Item, Case, Request, Make, Go, Send, Receive, Close, Select, Len, Cap, Print, End, Exit, Panic, Exhausted, Reply, Nothing, Value, Clause, Default, EventOutcome, Ending, Finished, Panicked, RanOut, Done, Sleeps, Panics, Event, Sleeper, Offer, Channel, Shared, ChannelSize, CloseOfClosed, CloseOfNil, SendOnClosed, TooManyChannels, TooManyGoroutines}
-use Rattle.word.specs.Requests.{GoesOn, happened, no_channel, channel_of, with_offer, clause_offers, offers, first_offer, first_on, also, partner, without, without_all, sent, got, done, sleeps, ends, panics, with_channel, send_to, do_send, receive_from, do_receive, send_ready, receive_ready, is_ready, choose, do_clause, do_select, do_make, do_close, close_reply, partners, act}
+use Rattle.word.specs.Requests.{GoesOn, happened, no_channel, channel_of, with_offer, clause_offers, offers, first_offer, first_on, also, partner, without, without_all, sent, got, done, sleeps, ends, panics, with_channel, send_to, do_send, receive_from, do_receive, send_ready, receive_ready, is_ready, ready_clauses, choose, do_clause, do_select, do_make, do_close, close_reply, partners, act}
 use Rattle.word.specs.Kinds.{GoroutineKind}
 use Rattle.word.specs.Worlds.{opening, moment}
 use Rattle.word.specs.Flow.{clause_deal, Gives, Takes, NoDeal, reply_deal, deal, slept, offered, enters}
 use Rattle.word.specs.Closing.{is_done, is_make, is_close, makes, made_in, closes, closed_after, is_closed_in, ShutAfter, IsShut}
 use Rattle.word.proofs.Found.{In}
 use Rattle.word.proofs.Fair.{IsApart, partner_is, in_without, in_without_all, in_back, without_gone}
-use Rattle.word.proofs.Flows.{chosen, partner_first}
+use Rattle.word.proofs.Chosen.{chosen, deals_at, none_ready}
+use Rattle.word.proofs.Flows.{partner_first}
 use Rattle.word.proofs.Kept.{moment_keeps}
 
 -- ---- lists of events
@@ -293,7 +294,7 @@ module _ (w : Shared) (n c : ℕ) (q : Request) (tw : IsTight w) where
   tight_idle : is_make q ≡ false → ((j : ℕ) → is_close j q ≡ false) → (reply : Reply) → reply_deal q reply ≡ NoDeal → IsTight (done w n c q w reply []).shared
   tight_idle make close reply d = tight_done make close w.channels reply [] refl (λ j. refl) (λ j h. ap (λ x. enters j w.events x []) d)
 
-  -- where no clause is ready, none is on a closed channel
+  -- if no clause is ready, none is on a closed channel
   not_ready : (k : ℕ) (item : Option Item) → is_ready w n c q (Some k) item ≡ false → its k ≡ false
   not_ready k None h = go (its k) h
     where
@@ -306,11 +307,11 @@ module _ (w : Shared) (n c : ℕ) (q : Request) (tw : IsTight w) where
       go true e = e
       go false e = refl
 
-  none_closed : (xs : List Case) (i : ℕ) → choose w n c q i xs ≡ None → (j : ℕ) → its j ≡ true → first_on j (clause_offers i xs) ≡ None
+  none_closed : (xs : List Case) (i : ℕ) → ready_clauses w n c q i xs ≡ [] → (j : ℕ) → its j ≡ true → first_on j (clause_offers i xs) ≡ None
   none_closed [] i h j closed = refl
   none_closed (x ∷ xs) i h j closed = go (none_closed xs (suc i)) x.chan x.item (is_ready w n c q x.chan x.item) refl h
     where
-      go : (choose w n c q (suc i) xs ≡ None → (m : ℕ) → its m ≡ true → first_on m (clause_offers (suc i) xs) ≡ None) → (a : Option ℕ) (b : Option Item) (r : Bool) → is_ready w n c q a b ≡ r → cond r (Some (i, x)) (choose w n c q (suc i) xs) ≡ None
+      go : (ready_clauses w n c q (suc i) xs ≡ [] → (m : ℕ) → its m ≡ true → first_on m (clause_offers (suc i) xs) ≡ None) → (a : Option ℕ) (b : Option Item) (r : Bool) → is_ready w n c q a b ≡ r → cond r ((i, x) ∷ ready_clauses w n c q (suc i) xs) (ready_clauses w n c q (suc i) xs) ≡ []
           → first_on j (with_offer i a b (clause_offers (suc i) xs)) ≡ None
       go rec a b true re h' = cc
       go rec None b false re h' = rec h' j closed
@@ -321,13 +322,13 @@ module _ (w : Shared) (n c : ℕ) (q : Request) (tw : IsTight w) where
   other_chan : (k : ℕ) (item : Option Item) → its k ≡ false → (j : ℕ) → its j ≡ true → first_on j (record { case = 0; chan = k; item = item } ∷ []) ≡ None
   other_chan k item free j closed = ap (λ t. cond t (Some (record { case = 0; chan = k; item = item })) None) (ne_eqb k j (λ e. true≢false (sym closed ∙ ap its (sym e) ∙ free)))
 
-tight_select : (w : Shared) (n c : ℕ) (cases : List Case) (default : Bool) → IsTight w → (o : Option (ℕ × Case)) → choose w n c (Select cases default) 1 cases ≡ o → IsTight (do_select w n c (Select cases default) default o).shared
+tight_select : (w : Shared) (n c : ℕ) (cases : List Case) (default : Bool) → IsTight w → (o : Option (ℕ × Case)) → choose w n c (Select cases default) cases ≡ o → IsTight (do_select w n c (Select cases default) default o).shared
 tight_select w n c cases default tw (Some y) e =
-    let z = chosen w n c (Select cases default) cases 0 y e in
+    let z = chosen w n c (Select cases default) cases y e in
     let i : y.0 ≡ suc z.k = omega (arith, z.is) in
-    subst (λ i. IsTight (do_clause w n c (Select cases default) i y.1.chan y.1.item).shared) (sym i) (tight_clause w n c (Select cases default) tw refl (λ j. refl) z.k y.1.chan y.1.item z.deals z.ready)
+    subst (λ i. IsTight (do_clause w n c (Select cases default) i y.1.chan y.1.item).shared) (sym i) (tight_clause w n c (Select cases default) tw refl (λ j. refl) z.k y.1.chan y.1.item (deals_at cases z.k y.1 z.stands) z.ready)
 tight_select w n c cases true tw None e = tight_idle w n c (Select cases true) tw refl (λ j. refl) Default refl
-tight_select w n c cases false tw None e = tight_sleeps w n c (Select cases false) tw refl (λ j. refl) (none_closed w n c (Select cases false) tw cases 1 e)
+tight_select w n c cases false tw None e = tight_sleeps w n c (Select cases false) tw refl (λ j. refl) (none_closed w n c (Select cases false) tw cases 1 (none_ready w n c (Select cases false) cases e))
 
 pub tight_act : (w : Shared) (n c : ℕ) (q : Request) → IsTight w → IsTight (act w n c q q).shared
 tight_act w n c (Make size z) tw = tight_make w n c (Make size z) tw size z refl
@@ -350,7 +351,7 @@ tight_act w n c (Receive (Some k)) tw = go (receive_ready w n c (Receive (Some k
     go false e = tight_sleeps w n c (Receive (Some k)) tw refl (λ j. refl) (other_chan w n c (Receive (Some k)) tw k None (not_ready w n c (Receive (Some k)) tw k None e))
 tight_act w n c (Close None) tw = tight_panics w n c (Close None) tw CloseOfNil 0
 tight_act w n c (Close (Some k)) tw = tight_close w n c (Close (Some k)) tw k refl
-tight_act w n c (Select cases default) tw = tight_select w n c cases default tw (choose w n c (Select cases default) 1 cases) refl
+tight_act w n c (Select cases default) tw = tight_select w n c cases default tw (choose w n c (Select cases default) cases) refl
 tight_act w n c (Len None) tw = tight_idle w n c (Len None) tw refl (λ j. refl) (Value (Int (pos 0))) refl
 tight_act w n c (Len (Some k)) tw = tight_idle w n c (Len (Some k)) tw refl (λ j. refl) (Value (Int (pos (length (channel_of w.channels k).items)))) refl
 tight_act w n c (Cap None) tw = tight_idle w n c (Cap None) tw refl (λ j. refl) (Value (Int (pos 0))) refl

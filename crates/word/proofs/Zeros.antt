@@ -14,7 +14,8 @@ use Rattle.word.specs.Flow.{clause_deal, Deal, Gives, Takes, NoDeal, reply_deal,
 use Rattle.word.specs.Closing.{is_close, made_in, closes, closed_after, is_closed_in}
 use Rattle.word.specs.Zeros.{ZeroAfter, IsZeroLast, any_receives, gives_zero, is_receive, is_zero, receives}
 use Rattle.word.proofs.Found.{In}
-use Rattle.word.proofs.Flows.{IsSound, chosen, opening_sound, sound_act}
+use Rattle.word.proofs.Chosen.{chosen, deals_at}
+use Rattle.word.proofs.Flows.{IsSound, opening_sound, sound_act}
 use Rattle.word.proofs.Kept.{moment_keeps}
 use Rattle.word.proofs.Shut.{IsTight, closed_kept, closed_snoc, made_open, opening_tight, or_cases, or_false, tight_act}
 
@@ -212,11 +213,11 @@ module _ (w : Shared) (n c : ℕ) (q : Request) (l : Late w) where
           adds_done (λ j. ap (is_close j) e) (record w { channels = w.channels ++ record { capacity = size; items = []; closed = false; zero = z } ∷ [] }) (Value (Chan (Some (length w.channels)))) [] NoDeal refl
           (made_open w.channels (record { capacity = size; items = []; closed = false; zero = z }) refl) (ap (λ p. reply_deal p (Value (Chan (Some (length w.channels))))) e) (λ j. refl)
 
-adds_select : (w : Shared) (n c : ℕ) (cases : List Case) (default : Bool) → Late w → (o : Option (ℕ × Case)) → choose w n c (Select cases default) 1 cases ≡ o → Adds w (do_select w n c (Select cases default) default o).shared
+adds_select : (w : Shared) (n c : ℕ) (cases : List Case) (default : Bool) → Late w → (o : Option (ℕ × Case)) → choose w n c (Select cases default) cases ≡ o → Adds w (do_select w n c (Select cases default) default o).shared
 adds_select w n c cases default l (Some y) e =
-    let z = chosen w n c (Select cases default) cases 0 y e in
+    let z = chosen w n c (Select cases default) cases y e in
     let i : y.0 ≡ suc z.k = omega (arith, z.is) in
-    subst (λ i. Adds w (do_clause w n c (Select cases default) i y.1.chan y.1.item).shared) (sym i) (adds_clause w n c (Select cases default) l (λ j. refl) z.k y.1.chan y.1.item z.deals z.ready)
+    subst (λ i. Adds w (do_clause w n c (Select cases default) i y.1.chan y.1.item).shared) (sym i) (adds_clause w n c (Select cases default) l (λ j. refl) z.k y.1.chan y.1.item (deals_at cases z.k y.1 z.stands) z.ready)
 adds_select w n c cases true l None e = adds_done w n c (Select cases true) l (λ j. refl) w Default [] NoDeal refl (λ j. refl) refl (λ j. refl)
 adds_select w n c cases false l None e = adds_sleeps w n c (Select cases false) l
 
@@ -241,7 +242,7 @@ adds_act w n c (Receive (Some k)) l = go (receive_ready w n c (Receive (Some k))
     go false e = adds_sleeps w n c (Receive (Some k)) l
 adds_act w n c (Close None) l = adds_panics w n c (Close None) l CloseOfNil 0
 adds_act w n c (Close (Some k)) l = adds_close w n c (Close (Some k)) l k refl
-adds_act w n c (Select cases default) l = adds_select w n c cases default l (choose w n c (Select cases default) 1 cases) refl
+adds_act w n c (Select cases default) l = adds_select w n c cases default l (choose w n c (Select cases default) cases) refl
 adds_act w n c (Len None) l = adds_still w n c (Len None) l _ (Done (Value (Int (pos 0)))) [] refl (λ j. refl) (λ j. refl)
 adds_act w n c (Len (Some k)) l = adds_still w n c (Len (Some k)) l _ (Done (Value (Int (pos (length (channel_of w.channels k).items))))) [] refl (λ j. refl) (λ j. refl)
 adds_act w n c (Cap None) l = adds_still w n c (Cap None) l _ (Done (Value (Int (pos 0)))) [] refl (λ j. refl) (λ j. refl)
