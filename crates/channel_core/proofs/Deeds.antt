@@ -2,21 +2,20 @@
 use Rattle.std.proofs.Common.{◌≡◌, ◌∙◌, ℕ, zero, suc, Bool, true, false, List, [], ◌∷◌, ◌++◌, Option, Some, None, Result, Ok, Err, OnErr, OnOk, refl, sym, ap, subst, arith, length}
 use Rattle.std.specs.Global.{Vec}
 use Rattle.std.specs.Vec.{with_items}
-use Rattle.word.specs.declared.request.Case.{Case}
 use Rattle.word.specs.declared.request.EventOutcome.{EventOutcome as Fate}
 use Rattle.word.specs.declared.request.EventOutcome.TheVariants as fates
 use Rattle.word.specs.declared.panic.Panic.TheVariants.{SendOnClosed}
-use Rattle.word.specs.Values.{Item, Request, Send, Receive, Select}
+use Rattle.word.specs.Values.{Item, Request, Send, Receive}
 use Rattle.word.specs.Views.{outcome_of, reply_of}
-use Rattle.word.specs.Requests.{choose, receive_ready, send_ready, without}
+use Rattle.word.specs.Requests.{receive_ready, send_ready, without}
 use Rattle.std.specs.Prelude.{◌-◌, drop, nat_lt, map, option_map, slice_index_or, slice_set, unwrap_or}
 use Rattle.std.proofs.lemmas.List.{length-set, set-get_or, with_items_is}
 use Rattle.std.proofs.lemmas.Option.{none-some}
-use Rattle.std.proofs.Common.{◌+◌, ◌<◌, ◌≤◌, get_or, length-append}
+use Rattle.std.proofs.Common.{◌<◌, ◌≤◌, length-append}
 use Rattle.std.proofs.lemmas.Bool.{lt-ltb}
 use Rattle.word.specs.Requests.{Deed, GoesOn, act, channel_of, do_send, got, happened, no_channel, partner, partners, receive_from, send_to, sent, without_all}
 use Rattle.word.specs.Values.{Channel, Close, Done, Nothing, Offer, Reply, Shared, Sleeper}
-use Rattle.channel_core.specs.Channels.{ChannelsValue, IsAlone, IsServed, Others, Partner, after_passing, came, deed_of, given, clause_at, closed_for, partner_of, shared_with, Does, DoesAlone, Sends, Receives, Serves}
+use Rattle.channel_core.specs.Channels.{ChannelsValue, IsAlone, IsServed, Others, Partner, after_passing, came, deed_of, given, closed_for, partner_of, shared_with, Does, DoesAlone, Sends, Receives}
 use Rattle.channel_core.specs.declared.outcome.Outcome.{Outcome}
 use Rattle.channel_core.specs.declared.outcome.Outcome.TheVariants as outcomes
 
@@ -236,30 +235,3 @@ send_nil old n item o c = refl
 
 pub receive_nil : (old : ChannelsValue) (n : ℕ) → Does old n (Receive None) outcomes.Sleeps (with_sleeper old n (Receive None))
 receive_nil old n o c = refl
-
--- ---- select
-
--- the first clause that is ready
-abbrev pub Chooses : ChannelsValue → List Case → Option (ℕ × Case) → Type 0
-Chooses old cases found = (o : Others) (m c : ℕ) (q : Request) → choose (shared_with o old) m c q 1 cases ≡ found
-
-select_done : (old new : ChannelsValue) (n i : ℕ) (x : Case) (cases : List Case) (default : Bool) (outcome : Outcome) → Chooses old cases (Some (i, x)) → Serves old n x i outcome new → Does old n (Select cases default) outcome new
-select_done old new n i x cases default outcome first serves o c = rw (first o n c (Select cases default)) (serves o c (Select cases default))
-
-at_place : (cases : List Case) (i : ℕ) (x y : Case) → i < length cases → x ≡ get_or cases i x → slice_index_or cases i y ≡ x
-at_place [] i x y within is = absurd (omega (arith, within))
-at_place (z ∷ zs) zero x y within is = sym is
-at_place (z ∷ zs) (suc i) x y within is = at_place zs i x y (omega (arith, within)) is
-
--- it is the one that stands at this place
-pub chosen : (old : ChannelsValue) (i : ℕ) (x : Case) (cases : List Case) → i < length cases → x ≡ get_or cases i x → Chooses old cases (Some (suc i, clause_at cases i)) → Chooses old cases (Some (suc i, x))
-chosen old i x cases within is first o m c q = first o m c q ∙ ap (λ (y : Case). Some (suc i, y)) (at_place cases i x _ within is)
-
-pub select_served : (old new : ChannelsValue) (n i : ℕ) (x : Case) (cases : List Case) (default : Bool) (outcome : Outcome) → i < length cases → x ≡ get_or cases i x → Chooses old cases (Some (suc i, clause_at cases i)) → Serves old n x (i + 1) outcome new
-    → Does old n (Select cases default) outcome new
-select_served old new n i x cases default outcome within is first serves =
-    let more : i + 1 ≡ suc i = omega arith in
-    select_done old new n (suc i) x cases default outcome (chosen old i x cases within is first) (subst (λ (k : ℕ). Serves old n x k outcome new) more serves)
-
-pub select_nil : (old : ChannelsValue) (n i : ℕ) (x : Case) (cases : List Case) (default : Bool) → Chooses old cases (Some (i, x)) → x.chan ≡ None → Does old n (Select cases default) outcomes.Sleeps (with_sleeper old n (Select cases default))
-select_nil old n i x cases default first nil o c = rw (first o n c (Select cases default)) (rw nil refl)

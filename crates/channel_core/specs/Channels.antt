@@ -91,6 +91,10 @@ module _ (o : Others) (n c : ℕ) (q : Request) where
 abbrev pub Does : ChannelsValue → ℕ → Request → Outcome → ChannelsValue → Type 0
 Does old n q outcome new = (o : Others) (c : ℕ) → act (shared_with o old) n c q q ≡ deed_of o n c q outcome new
 
+-- like `Does`, at this clock of goroutine n
+abbrev pub DoesAt : ChannelsValue → ℕ → ℕ → Request → Outcome → ChannelsValue → Type 0
+DoesAt old n c q outcome new = (o : Others) → act (shared_with o old) n c q q ≡ deed_of o n c q outcome new
+
 -- the same, where nobody is woken
 abbrev pub DoesAlone : ChannelsValue → ℕ → Request → Fate → ChannelsValue → Type 0
 DoesAlone old n q fate new = (w : Vec (ℕ × Reply)) → w.items ≡ [] → Does old n q (came fate w) new
@@ -134,6 +138,11 @@ IsOfChannels (Select cases default) = Unit {0}
 IsOfChannels (Len c) = Unit {0}
 IsOfChannels (Cap c) = Unit {0}
 IsOfChannels q = ⊥
+
+-- a request to one channel: any but a select
+abbrev pub IsOfOneChannel : Request → Type 0
+IsOfOneChannel (Select cases default) = ⊥
+IsOfOneChannel q = IsOfChannels q
 
 -- it is told this number
 abbrev pub IsTold : Fate → ℤ → Type 0

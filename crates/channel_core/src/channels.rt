@@ -1,15 +1,15 @@
 //! The channels of a world, and those who sleep at them.
 
 ghost use Rattle.std.specs.Prelude.{◌≡◌, ℕ, ◌+◌, ◌<◌, ◌≤◌, ◌∷◌, [], ◌++◌, IfOk, IfNone, IfSome, OnErr, OnOk, Some, None, drop, nat_lt, option_copied, option_map, pos, suc, false, true, length, slice_index_or, slice_set, unwrap_or};
-ghost use Rattle.word.specs.Requests.{channel_of, choose, got, is_ready, no_channel, receive_ready, send_ready, without};
+ghost use Rattle.std.specs.Option.{is_some};
+ghost use Rattle.word.specs.Requests.{channel_of, got, is_ready, no_channel, receive_ready, send_ready, without};
 ghost use Rattle.word.specs.Values.{Close, Done, Make, Receive, Request as AnyRequest, Select, Send};
 ghost use Rattle.word.specs.Views.{outcome_of, request_of};
 ghost use Rattle.word.specs.declared.request.EventOutcome.TheVariants as outcomes;
-ghost use Rattle.channel_core.specs.Channels.{Does, DoesAlone, IsAlone, IsOfChannels, IsTold, Others, Receives, Sends, Serves, after_passing, came, capacity_of, clause_at, front_after, length_of, shared_with};
+ghost use Rattle.channel_core.specs.Channels.{Does, DoesAlone, IsAlone, IsOfOneChannel, IsTold, Others, Receives, Sends, Serves, after_passing, came, capacity_of, clause_at, front_after, length_of, shared_with};
 
 use crate::channel::Channel;
 use crate::outcome::{Outcome, Woken, sent, tell_got, tell_sent, wake, wake_with};
-use crate::rows::copy_of;
 use crate::sleepers::Sleepers;
 use go_text::Memory;
 use std::alloc::Global;
@@ -65,9 +65,9 @@ impl Channels {
         })
     }
 
-    /// What goroutine `number` asks of channels: one of the requests below.
+    /// Performs a request of goroutine `number` to one channel: one of the requests below.
     pub fn perform(&mut self, number: u64, request: &Request) -> Result<Outcome, Memory>
-        requires { IsOfChannels (request_of request.now) }
+        requires { IsOfOneChannel (request_of request.now) }
         ensures does { IfOk result (λ outcome. Does self.old number (request_of request.now) outcome self.new) }
         ensures memory { OnErr result (self.new ≡ self.old) }
     {
@@ -86,7 +86,7 @@ impl Channels {
         outcome: &mut EventOutcome,
         woken: &mut Vec<Woken>,
     ) -> Result<(), Memory>
-        requires { IsOfChannels (request_of request.now) }
+        requires { IsOfOneChannel (request_of request.now) }
         ensures does { OnOk result (Does self.old number (request_of request.now) (came outcome.new woken.new) self.new) }
         ensures memory { OnErr result (self.new ≡ self.old) }
     {
@@ -97,9 +97,6 @@ impl Channels {
             }
             Request::Receive(chan) => self.receive_asked(number, request, *chan, outcome, woken),
             Request::Close(chan) => self.close_asked(*chan, outcome, woken),
-            Request::Select(cases, default) => {
-                self.select_asked(number, request, cases.as_slice(), *default, outcome, woken)
-            }
             Request::Len(chan) => Ok(tell(outcome, self.len(*chan), woken)),
             Request::Cap(chan) => Ok(tell(outcome, self.cap(*chan), woken)),
             _ => unreachable!(),
@@ -277,60 +274,9 @@ impl Channels {
         }
     }
 
-    /// A select by goroutine `number` (Go: Select statements): the first clause in source order that is ready is done, else
-    /// the default, else it sleeps with all its clauses, and being served withdraws them all.
-    pub fn select(&mut self, number: u64, cases: &[Case], default: bool) -> Result<Outcome, Memory>
-        ensures does { IfOk result (λ outcome. Does self.old number (Select cases.now default) outcome self.new) }
-        ensures memory { OnErr result (self.new ≡ self.old) }
-    {
-        let copy = copy_of_cases(self.alloc, cases)?;
-        self.perform(number, &Request::Select(copy, default))
-    }
-
-    /// The same of goroutine `number`, which asks this.
-    #[inline(never)]
-    fn select_asked(
-        &mut self,
-        number: u64,
-        request: &Request,
-        cases: &[Case],
-        default: bool,
-        outcome: &mut EventOutcome,
-        woken: &mut Vec<Woken>,
-    ) -> Result<(), Memory>
-        requires { request_of request.now ≡ Select cases.now default }
-        ensures does { OnOk result (Does self.old number (Select cases.now default) (came outcome.new woken.new) self.new) }
-        ensures memory { OnErr result (self.new ≡ self.old) }
-    {
-        let Some(place) = self.first_ready(cases) else {
-            if default {
-                woken.clear();
-                *outcome = EventOutcome::Done(Reply::Default);
-                return Ok(());
-            }
-            return self.sleep(number, request, outcome);
-        };
-        if self.serve(number, &cases[place], place + 1, outcome, woken)? {
-            return Ok(());
-        }
-        self.sleep(number, request, outcome)
-    }
-
-    /// The first clause that is ready, counted from 0.
-    fn first_ready(&self, cases: &[Case]) -> Option<usize>
-        ensures within { IfSome result (λ i. i < length cases.now) }
-        ensures first { (o : Others) (n c : ℕ) (q : AnyRequest) → choose (shared_with o self.now) n c q 1 cases.now ≡ option_map (λ i. (suc i, clause_at cases.now i)) result }
-    {
-        for i in 0..cases.len() {
-            if self.is_ready(&cases[i]) {
-                return Some(i);
-            }
-        }
-        None
-    }
-
-    /// Whether a clause is ready.
-    fn is_ready(&self, case: &Case) -> bool
+    /// Whether a clause of a select is ready (Go: Select statements): a send if the channel is closed, has room or a receiver sleeps at
+    /// it, a receive if it is closed, holds items or a sender sleeps at it; on `nil` neither.
+    pub fn ready(&self, case: &Case) -> bool
         ensures { (o : Others) (n c : ℕ) (q : AnyRequest) → result ≡ is_ready (shared_with o self.now) n c q case.now.chan case.now.item }
     {
         let Some(chan) = case.chan else {
@@ -342,27 +288,42 @@ impl Channels {
         }
     }
 
-    /// A clause that is ready, of this number; no where it is on `nil`.
-    fn serve(
+    /// Does a ready clause of a select by goroutine `number`; `clause` is the clause's number, counted from 1.
+    pub fn serve(
         &mut self,
         number: u64,
         case: &Case,
         clause: usize,
         outcome: &mut EventOutcome,
         woken: &mut Vec<Woken>,
-    ) -> Result<bool, Memory>
-        ensures yes { IfOk result (λ served. served ≡ true → Serves self.old number case.now clause (came outcome.new woken.new) self.new) }
-        ensures no { IfOk result (λ served. served ≡ false → (case.now.chan ≡ None) × (self.new ≡ self.old)) }
+    ) -> Result<(), Memory>
+        requires { is_some case.now.chan ≡ true }
+        ensures serves { OnOk result (Serves self.old number case.now clause (came outcome.new woken.new) self.new) }
         ensures memory { OnErr result (self.new ≡ self.old) }
     {
         let Some(chan) = case.chan else {
-            return Ok(false);
+            unreachable!();
         };
         match &case.item {
-            Some(item) => self.send_now(number, chan, item, clause, outcome, woken)?,
-            None => self.receive_now(chan, clause, outcome, woken)?,
+            Some(item) => self.send_now(number, chan, item, clause, outcome, woken),
+            None => self.receive_now(chan, clause, outcome, woken),
         }
-        Ok(true)
+    }
+
+    /// Goroutine `number` falls asleep at this request, with all its offers, after those that sleep already. An offer of an
+    /// earlier request of this goroutine is withdrawn.
+    pub fn enter(&mut self, number: u64, request: &Request) -> Result<(), Memory>
+        ensures asleep { OnOk result (self.new ≡ record self.old { asleep = without self.old.asleep number ++ record { number = number; request = request_of request.now } ∷ [] }) }
+        ensures memory { OnErr result (self.new ≡ self.old) }
+    {
+        self.asleep.enter(number, request)
+    }
+
+    /// Goroutine `number` sleeps no more: all its offers are withdrawn, and no others.
+    pub fn withdraw(&mut self, number: u64)
+        ensures { self.new ≡ record self.old { asleep = without self.old.asleep number } }
+    {
+        self.asleep.leave(number);
     }
 
     /// How many goroutines are asleep.
@@ -481,7 +442,7 @@ impl Channels {
         ensures asleep { OnOk result (self.new ≡ record self.old { asleep = without self.old.asleep number ++ record { number = number; request = request_of request.now } ∷ [] }) }
         ensures memory { OnErr result (self.new ≡ self.old) }
     {
-        self.asleep.enter(number, request)?;
+        self.enter(number, request)?;
         *outcome = EventOutcome::Sleeps;
         Ok(())
     }
@@ -534,20 +495,6 @@ fn close_channel(channels: &mut [Channel], chan: u32)
     if (chan as usize) < channels.len() {
         channels[chan as usize].close();
     }
-}
-
-/// The clauses once more.
-fn copy_of_cases(alloc: Global, cases: &[Case]) -> Result<Vec<Case>, Memory>
-    ensures { IfOk result (λ copy. copy.items ≡ cases.now) }
-{
-    let mut copy = Vec::new(alloc);
-    for case in cases {
-        copy.push(Case {
-            chan: case.chan,
-            item: copy_of(&case.item),
-        })?;
-    }
-    Ok(copy)
 }
 
 /// Puts an item at the back of a channel's buffer. It is a call, so that nothing else makes room for an item.

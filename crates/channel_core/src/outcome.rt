@@ -107,8 +107,8 @@ pub enum Outcome {
 }
 
 impl Outcome {
-    /// The outcome that stands at this place, where these were woken.
-    pub(crate) fn of(fate: &EventOutcome, woken: Vec<Woken>) -> Outcome
+    /// The outcome of an event, if these goroutines were woken.
+    pub fn of(fate: &EventOutcome, woken: Vec<Woken>) -> Outcome
         ensures { result ≡ came fate.now woken }
     {
         match fate {

@@ -131,14 +131,3 @@ fn leave_counted<L: Ledger>(queues: &mut SleepQueues, key: u64, blank: Blank)
     let mut steps = Steps::<L>::new(blank);
     queues.leave_all(key, &mut steps);
 }
-
-/// A second item that is the same.
-#[inline(always)]
-pub(crate) fn copy_of(item: &Option<Item>) -> Option<Item>
-    ensures { result ≡ item.now }
-{
-    match item {
-        Some(item) => Some(item.copy()),
-        None => None,
-    }
-}

@@ -5,7 +5,7 @@ use Rattle.std.proofs.lemmas.Bool.{eq-eqb}
 use Rattle.bytecode.specs.Code.{Code}
 use Rattle.bytecode.proofs.Options.{some_inj}
 use Rattle.bytecode.specs.Machine.{NextFrames, code_begin, code_next}
-use Rattle.channel_core.specs.Channels.{ChannelsValue, Does, IsOfChannels, Others, shared_with}
+use Rattle.channel_core.specs.Channels.{ChannelsValue, DoesAt, IsOfChannels, Others, shared_with}
 use Rattle.channel_core.specs.declared.outcome.Outcome.{Outcome}
 use Rattle.goroutine_vm.proofs.Quiet.{asking_quiet}
 use Rattle.goroutine_vm.specs.Advance.{IsQuiet}
@@ -157,7 +157,7 @@ module _ (code : Code) (limit : ℕ) (core : CoreValue) (event : Recorded) (new 
       let below = go_below code limit core event.number event.clock (request_of event.request) a go in
       made [] (go_quiet event.request go) (leaves_started code limit core event.number event.clock (request_of event.request) a f args later (event_of event) new went room one below left (stands (Done Nothing) (length core.rows ∷ []) came started))
 
-  pub made_met : (outcome : Outcome) (channels : ChannelsValue) → IsOfChannels (request_of event.request) → Does core.channels event.number (request_of event.request) outcome channels
+  pub made_met : (outcome : Outcome) (channels : ChannelsValue) → IsOfChannels (request_of event.request) → DoesAt core.channels event.number event.clock (request_of event.request) outcome channels
       → LeavesBy code limit core event.number event.clock (request_of event.request) a outcome channels (event_of event) new → Made code limit core event new
   made_met outcome channels meets does left =
       made [] (channels_quiet event.request meets) (leaves_met code limit core event.number event.clock (request_of event.request) a outcome channels (event_of event) new does left)

@@ -5,7 +5,7 @@ use Rattle.std.proofs.lemmas.Bool.{ne_eqb}
 use Rattle.std.proofs.lemmas.List.{append-nil, get_or_append_left, length-map, set-append_left}
 use Rattle.bytecode.specs.Code.{Code}
 use Rattle.bytecode.specs.Machine.{code_begin, code_kind}
-use Rattle.channel_core.specs.Channels.{ChannelsValue, Others, shared_with, Does, deed_of}
+use Rattle.channel_core.specs.Channels.{ChannelsValue, Others, shared_with, DoesAt, deed_of}
 use Rattle.channel_core.specs.declared.outcome.Outcome.{Outcome}
 use Rattle.channel_core.specs.declared.outcome.Outcome.TheVariants as outcomes
 use Rattle.turn_rule.specs.declared.Row.{Row}
@@ -90,12 +90,12 @@ module _ (code : Code) (limit : ℕ) (core : CoreValue) (n clock : ℕ) (means :
       IsLeft (Panics cause k) event new (record core { rows = slice_set core.rows n (option_map (λ (row : Row State). free_row row.state) (slice_index_or core.rows n None)); channels = channels; events = core.events + 1; ending = Some (Panicked cause) })
 
   -- a request to channels that is done
-  pub leaves_met : (outcome : Outcome) (channels : ChannelsValue) (event : Event) (new : CoreValue) → Does core.channels n means outcome channels → LeavesBy outcome channels event new → LeavesAll code limit core n clock means a.row.state event [] new
+  pub leaves_met : (outcome : Outcome) (channels : ChannelsValue) (event : Event) (new : CoreValue) → DoesAt core.channels n clock means outcome channels → LeavesBy outcome channels event new → LeavesAll code limit core n clock means a.row.state event [] new
   leaves_met (outcomes.Done reply woken) channels event new does h o b =
-      leaves_done (reply_of reply) woken.items channels h.later event new (λ o. deed_of o n clock means (outcomes.Done reply woken) channels) (λ o. does o clock) (λ o. refl) h.is h.below h.new h.event o b
+      leaves_done (reply_of reply) woken.items channels h.later event new (λ o. deed_of o n clock means (outcomes.Done reply woken) channels) does (λ o. refl) h.is h.below h.new h.event o b
   leaves_met outcomes.Sleeps channels event new does h o b = record {
     deed = deed_of o n clock means outcomes.Sleeps channels;
-    is = does o clock;
+    is = does o;
     left = counted (slice_set core.rows n None) (slice_set core.beds n (Some a.row.state)) channels o b
         ∙ ap (λ (s : Option State). record core { rows = slice_set core.rows n None; beds = slice_set core.beds n s; channels = channels; events = core.events + 1 }) (ap (option_map (λ (row : Row State). row.state)) (sym a.here)) ∙ sym h.new;
     quiet = (refl, refl);
@@ -105,7 +105,7 @@ module _ (code : Code) (limit : ℕ) (core : CoreValue) (n clock : ℕ) (means :
   }
   leaves_met (outcomes.Panics cause k) channels event new does h o b = record {
     deed = deed_of o n clock means (outcomes.Panics cause k) channels;
-    is = does o clock;
+    is = does o;
     left = ap (λ l. record { rows = slice_set core.rows n (Some (free_row a.row.state)); beds = core.beds; taken = core.taken; channels = channels; live = l; events = core.events + 1; ending = Some (Panicked cause) }) b.live
         ∙ ap (λ (s : Option (Row State)). record core { rows = slice_set core.rows n s; channels = channels; events = core.events + 1; ending = Some (Panicked cause) }) (ap (option_map (λ (row : Row State). free_row row.state)) (sym a.here)) ∙ sym h.new;
     quiet = (refl, refl);
@@ -186,13 +186,13 @@ woken_of outcomes.Sleeps = []
 woken_of (outcomes.Panics cause k) = []
 
 -- a request wakes no more than it may
-pub few_woken : (channels : ChannelsValue) (n : ℕ) (means : Request) (outcome : Outcome) (new : ChannelsValue) → Does channels n means outcome new → length (woken_of outcome) ≤ most_woken means (length channels.asleep)
-few_woken channels n means (outcomes.Done reply woken) new does =
+pub few_woken : (channels : ChannelsValue) (n c : ℕ) (means : Request) (outcome : Outcome) (new : ChannelsValue) → DoesAt channels n c means outcome new → length (woken_of outcome) ≤ most_woken means (length channels.asleep)
+few_woken channels n c means (outcomes.Done reply woken) new does =
     let o : Others = record { output = []; live = 0; made = 0; events = []; ending = None } in
-    let ord : Orderly (shared_with o channels) (most_woken means (length channels.asleep)) (deed_of o n 0 means (outcomes.Done reply woken) new) = subst (Orderly (shared_with o channels) (most_woken means (length channels.asleep))) (does o 0) (orderly (shared_with o channels) n 0 means means) in
+    let ord : Orderly (shared_with o channels) (most_woken means (length channels.asleep)) (deed_of o n c means (outcomes.Done reply woken) new) = subst (Orderly (shared_with o channels) (most_woken means (length channels.asleep))) (does o) (orderly (shared_with o channels) n c means means) in
     ord.few
-few_woken channels n means outcomes.Sleeps new does = omega arith
-few_woken channels n means (outcomes.Panics cause k) new does = omega arith
+few_woken channels n c means outcomes.Sleeps new does = omega arith
+few_woken channels n c means (outcomes.Panics cause k) new does = omega arith
 
 -- whom a request wakes are at most those who are asleep, or one
 most_within : (means : Request) (n : ℕ) → most_woken means n ≤ max n 1
@@ -211,10 +211,10 @@ most_within (Panic cause) n = omega arith
 most_within Exhausted n = omega arith
 
 -- so the numbers of those whom it wakes are as few
-pub few_partners : (channels : ChannelsValue) (n : ℕ) (means : Request) (outcome : Outcome) (new : ChannelsValue) → Does channels n means outcome new → (partners : List ℕ) → partners ≡ map (λ (w : ℕ × Reply). w.0) (woken_of outcome)
+pub few_partners : (channels : ChannelsValue) (n c : ℕ) (means : Request) (outcome : Outcome) (new : ChannelsValue) → DoesAt channels n c means outcome new → (partners : List ℕ) → partners ≡ map (λ (w : ℕ × Reply). w.0) (woken_of outcome)
     → length partners ≤ max (length channels.asleep) 1
-few_partners channels n means outcome new does partners is =
-    let few = few_woken channels n means outcome new does in
+few_partners channels n c means outcome new does partners is =
+    let few = few_woken channels n c means outcome new does in
     let within = most_within means (length channels.asleep) in
     let long = ap length is ∙ length-map (woken_of outcome) (λ (w : ℕ × Reply). w.0) in
     omega (arith, few, within, long)

@@ -3,7 +3,7 @@
 ghost use Rattle.std.specs.Prelude.{◌≡◌, ℕ, ◌+◌, ◌-◌, ◌<◌, ◌≤◌, ◌^◌, [], ◌∷◌, ◌++◌, IfNone, IfOk, IfSome, OnErr, OnOk, None, Some, length, map, option_map, slice_index_or, slice_set, vec_capacity, vec_len};
 ghost use Rattle.bytecode.specs.Machine.{code_begin, code_kind};
 ghost use Rattle.bytecode.specs.Rules.{IsFrameOf, IsVerified};
-ghost use Rattle.channel_core.specs.Channels.{Does, IsOfChannels, came};
+ghost use Rattle.channel_core.specs.Channels.{DoesAt, IsOfChannels, came};
 ghost use Rattle.goroutine_vm.specs.Advance.{IsQuiet};
 ghost use Rattle.logical_clock.specs.Order.{keys, least};
 ghost use Rattle.word.specs.Kinds.{at};
@@ -321,7 +321,11 @@ impl Situation {
         make_rooms(alloc, &mut spare.rooms, most)?;
         event.partners.reserve(most)?;
         let woken = &mut spare.woken;
-        self.ask(event.number, &event.request, &mut event.outcome, woken)?;
+        let actor = Key {
+            clock: event.clock,
+            number: event.number,
+        };
+        self.ask(actor, &event.request, &mut event.outcome, woken)?;
         match &event.outcome {
             EventOutcome::Done(reply) => {
                 let later = next_time(event.clock, limit);
@@ -426,20 +430,21 @@ impl Situation {
         Ok(())
     }
 
-    /// What comes of a request to channels, and who is woken, is written to these places; nobody is told yet.
+    /// Performs a request to channels of the goroutine of this number, at this clock: writes the outcome to `outcome` and the woken
+    /// goroutines to `woken`; none of them has its reply yet.
     fn ask(
         &mut self,
-        number: u64,
+        actor: Key,
         request: &Request,
         outcome: &mut EventOutcome,
         woken: &mut Vec<Woken>,
     ) -> Result<(), Memory>
         requires { IsOfChannels (request_of request.now) }
-        ensures does { OnOk result (Does self.old.channels number (request_of request.now) (came outcome.new woken.new) self.new.channels) }
+        ensures does { OnOk result (DoesAt self.old.channels actor.number actor.clock (request_of request.now) (came outcome.new woken.new) self.new.channels) }
         ensures rest { self.new ≡ record self.old { channels = self.new.channels } }
         ensures memory { OnErr result (self.new ≡ self.old) }
     {
-        self.channels.meet(number, request, outcome, woken)
+        select_core::meet(&mut self.channels, actor, request, outcome, woken)
     }
 
     /// Goroutine `number` falls asleep, and leaves its room.

@@ -1,5 +1,5 @@
 use Rattle.std.proofs.Common.{◌≡◌, ◌++◌, ℕ, length, map, ap, ◌∙◌, subst, arith}
-use Rattle.channel_core.specs.Channels.{Does, came as came_as}
+use Rattle.channel_core.specs.Channels.{DoesAt, came as came_as}
 use Rattle.channel_core.specs.declared.outcome.Outcome.TheVariants as outcomes
 use Rattle.word.specs.declared.request.EventOutcome.{EventOutcome as Fate}
 use Rattle.word.specs.declared.end.End.TheVariants.{Panicked}
@@ -22,8 +22,8 @@ wake_all-requires-clause-room c =
     let ev = c.args.event.now in
     let means = request_of ev.request in
     let channels = c.ask.new.self.channels in
-    let does : Does core.channels ev.number means (outcomes.Done c.in-Done.reply c.ask.new.woken) channels = subst (λ (f : Fate). Does core.channels ev.number means (came_as f c.ask.new.woken) channels) c.in-Done.is c.in_ok-ask.ensures.does in
-    let few = few_woken core.channels ev.number means (outcomes.Done c.in-Done.reply c.ask.new.woken) channels does in
+    let does : DoesAt core.channels ev.number ev.clock means (outcomes.Done c.in-Done.reply c.ask.new.woken) channels = subst (λ (f : Fate). DoesAt core.channels ev.number ev.clock means (came_as f c.ask.new.woken) channels) c.in-Done.is c.in_ok-ask.ensures.does in
+    let few = few_woken core.channels ev.number ev.clock means (outcomes.Done c.in-Done.reply c.ask.new.woken) channels does in
     let most = c.most_woken-most.ensures in
     let same = ap (λ (x : CoreValue). most_woken means (length x.channels.asleep)) c.self.view_is in
     let room = c.in_ok-reserve.ensures.ok in
@@ -35,8 +35,8 @@ wake_all-requires-clause-rooms c =
     let ev = c.args.event.now in
     let means = request_of ev.request in
     let channels = c.ask.new.self.channels in
-    let does : Does core.channels ev.number means (outcomes.Done c.in-Done.reply c.ask.new.woken) channels = subst (λ (f : Fate). Does core.channels ev.number means (came_as f c.ask.new.woken) channels) c.in-Done.is c.in_ok-ask.ensures.does in
-    let few = few_woken core.channels ev.number means (outcomes.Done c.in-Done.reply c.ask.new.woken) channels does in
+    let does : DoesAt core.channels ev.number ev.clock means (outcomes.Done c.in-Done.reply c.ask.new.woken) channels = subst (λ (f : Fate). DoesAt core.channels ev.number ev.clock means (came_as f c.ask.new.woken) channels) c.in-Done.is c.in_ok-ask.ensures.does in
+    let few = few_woken core.channels ev.number ev.clock means (outcomes.Done c.in-Done.reply c.ask.new.woken) channels does in
     let most = c.most_woken-most.ensures in
     let same = ap (λ (x : CoreValue). most_woken means (length x.channels.asleep)) c.self.view_is in
     let rooms = c.in_ok-make_rooms.ensures in
@@ -55,7 +55,7 @@ returns-in-Done-clause-performs c =
     let ev = c.args.event.now in
     let means = request_of ev.request in
     let channels = c.ask.new.self.channels in
-    let does : Does core.channels ev.number means (outcomes.Done c.in-Done.reply c.ask.new.woken) channels = subst (λ (f : Fate). Does core.channels ev.number means (came_as f c.ask.new.woken) channels) c.in-Done.is c.in_ok-ask.ensures.does in
+    let does : DoesAt core.channels ev.number ev.clock means (outcomes.Done c.in-Done.reply c.ask.new.woken) channels = subst (λ (f : Fate). DoesAt core.channels ev.number ev.clock means (came_as f c.ask.new.woken) channels) c.in-Done.is c.in_ok-ask.ensures.does in
     let later = c.next_time-later.result in
     let below = meets_below code c.args.limit core ev.number ev.clock means c.requires.asked c.requires.channels in
     let numbers : c.wake_all.new.partners.items ≡ c.reserve.new.self.items ++ map (λ (w : ℕ × Reply). w.0) c.ask.new.woken.items = c.wake_all.ensures.numbers in
@@ -82,7 +82,7 @@ returns-in-Done-clause-fits c =
     let ev = c.args.event.now in
     let means = request_of ev.request in
     let channels = c.ask.new.self.channels in
-    let does : Does core.channels ev.number means (outcomes.Done c.in-Done.reply c.ask.new.woken) channels = subst (λ (f : Fate). Does core.channels ev.number means (came_as f c.ask.new.woken) channels) c.in-Done.is c.in_ok-ask.ensures.does in
+    let does : DoesAt core.channels ev.number ev.clock means (outcomes.Done c.in-Done.reply c.ask.new.woken) channels = subst (λ (f : Fate). DoesAt core.channels ev.number ev.clock means (came_as f c.ask.new.woken) channels) c.in-Done.is c.in_ok-ask.ensures.does in
     let later = c.next_time-later.result in
     let below = meets_below code c.args.limit core ev.number ev.clock means c.requires.asked c.requires.channels in
     let numbers : c.wake_all.new.partners.items ≡ c.reserve.new.self.items ++ map (λ (w : ℕ × Reply). w.0) c.ask.new.woken.items = c.wake_all.ensures.numbers in
@@ -105,10 +105,10 @@ returns-in-Done-clause-partners c =
     let ev = c.args.event.now in
     let means = request_of ev.request in
     let channels = c.ask.new.self.channels in
-    let does : Does core.channels ev.number means (outcomes.Done c.in-Done.reply c.ask.new.woken) channels = subst (λ (f : Fate). Does core.channels ev.number means (came_as f c.ask.new.woken) channels) c.in-Done.is c.in_ok-ask.ensures.does in
+    let does : DoesAt core.channels ev.number ev.clock means (outcomes.Done c.in-Done.reply c.ask.new.woken) channels = subst (λ (f : Fate). DoesAt core.channels ev.number ev.clock means (came_as f c.ask.new.woken) channels) c.in-Done.is c.in_ok-ask.ensures.does in
     let numbers : c.wake_all.new.partners.items ≡ c.reserve.new.self.items ++ map (λ (w : ℕ × Reply). w.0) c.ask.new.woken.items = c.wake_all.ensures.numbers in
     let is = numbers ∙ ap (λ ns. ns ++ map (λ (w : ℕ × Reply). w.0) c.ask.new.woken.items) (c.reserve.ensures.items ∙ c.requires.alone) in
-    few_partners core.channels ev.number means (outcomes.Done c.in-Done.reply c.ask.new.woken) channels does c.wake_all.new.partners.items is
+    few_partners core.channels ev.number ev.clock means (outcomes.Done c.in-Done.reply c.ask.new.woken) channels does c.wake_all.new.partners.items is
 
 pub returns-in-Sleeps-clause-performs : goal.returns-in-Sleeps-clause-performs
 returns-in-Sleeps-clause-performs c =
@@ -116,7 +116,7 @@ returns-in-Sleeps-clause-performs c =
     let ev = c.args.event.now in
     let means = request_of ev.request in
     let channels = c.ask.new.self.channels in
-    let does : Does core.channels ev.number means outcomes.Sleeps channels = subst (λ (f : Fate). Does core.channels ev.number means (came_as f c.ask.new.woken) channels) c.in-Sleeps.is c.in_ok-ask.ensures.does in
+    let does : DoesAt core.channels ev.number ev.clock means outcomes.Sleeps channels = subst (λ (f : Fate). DoesAt core.channels ev.number ev.clock means (came_as f c.ask.new.woken) channels) c.in-Sleeps.is c.in_ok-ask.ensures.does in
     let new = c.fall_asleep.new.self in
     let is = slept_core ev.number core c.ask.new.self new c.in_ok-ask.ensures.rest c.fall_asleep.ensures in
     let event : Recorded = record ev { outcome = c.ask.new.outcome; partners = c.reserve.new.self } in
@@ -134,7 +134,7 @@ returns-in-Sleeps-clause-fits c =
     let ev = c.args.event.now in
     let means = request_of ev.request in
     let channels = c.ask.new.self.channels in
-    let does : Does core.channels ev.number means outcomes.Sleeps channels = subst (λ (f : Fate). Does core.channels ev.number means (came_as f c.ask.new.woken) channels) c.in-Sleeps.is c.in_ok-ask.ensures.does in
+    let does : DoesAt core.channels ev.number ev.clock means outcomes.Sleeps channels = subst (λ (f : Fate). DoesAt core.channels ev.number ev.clock means (came_as f c.ask.new.woken) channels) c.in-Sleeps.is c.in_ok-ask.ensures.does in
     let new = c.fall_asleep.new.self in
     let is = slept_core ev.number core c.ask.new.self new c.in_ok-ask.ensures.rest c.fall_asleep.ensures in
     let event : Recorded = record ev { outcome = c.ask.new.outcome; partners = c.reserve.new.self } in
@@ -152,7 +152,7 @@ returns-in-Panics-clause-performs c =
     let ev = c.args.event.now in
     let means = request_of ev.request in
     let channels = c.ask.new.self.channels in
-    let does : Does core.channels ev.number means (outcomes.Panics c.in-Panics.cause c.in-Panics.field-1) channels = subst (λ (f : Fate). Does core.channels ev.number means (came_as f c.ask.new.woken) channels) c.in-Panics.is c.in_ok-ask.ensures.does in
+    let does : DoesAt core.channels ev.number ev.clock means (outcomes.Panics c.in-Panics.cause c.in-Panics.field-1) channels = subst (λ (f : Fate). DoesAt core.channels ev.number ev.clock means (came_as f c.ask.new.woken) channels) c.in-Panics.is c.in_ok-ask.ensures.does in
     let new = c.stop.new.self in
     let is = stopped_core ev.number (Panicked c.in-Panics.cause) core c.ask.new.self new c.in_ok-ask.ensures.rest c.stop.ensures in
     let event : Recorded = record ev { outcome = c.ask.new.outcome; partners = c.reserve.new.self } in
@@ -170,7 +170,7 @@ returns-in-Panics-clause-fits c =
     let ev = c.args.event.now in
     let means = request_of ev.request in
     let channels = c.ask.new.self.channels in
-    let does : Does core.channels ev.number means (outcomes.Panics c.in-Panics.cause c.in-Panics.field-1) channels = subst (λ (f : Fate). Does core.channels ev.number means (came_as f c.ask.new.woken) channels) c.in-Panics.is c.in_ok-ask.ensures.does in
+    let does : DoesAt core.channels ev.number ev.clock means (outcomes.Panics c.in-Panics.cause c.in-Panics.field-1) channels = subst (λ (f : Fate). DoesAt core.channels ev.number ev.clock means (came_as f c.ask.new.woken) channels) c.in-Panics.is c.in_ok-ask.ensures.does in
     let new = c.stop.new.self in
     let is = stopped_core ev.number (Panicked c.in-Panics.cause) core c.ask.new.self new c.in_ok-ask.ensures.rest c.stop.ensures in
     let event : Recorded = record ev { outcome = c.ask.new.outcome; partners = c.reserve.new.self } in

@@ -1,5 +1,5 @@
 use Rattle.std.proofs.Common.{◌≡◌, take}
-use Rattle.channel_core.proofs.channels.copy_of_cases.Given as goal
+use Rattle.select_core.proofs.requests.copy_of_cases.Given as goal
 
 abbrev pub invariant-loop-case : goal.invariant-loop-case
 invariant-loop-case l = l.copy.items ≡ take l.case-index l.cases

@@ -1,6 +1,6 @@
 use Rattle.std.proofs.Common.{◌≡◌, ◌∙◌, ◌+◌, ◌<◌, ◌∷◌, ◌++◌, [], ℕ, List, Option, ap, get_or, length, sym, take}
 use Rattle.std.proofs.lemmas.List.{take_more}
-use Rattle.channel_core.proofs.channels.copy_of_cases.Goals as goal
+use Rattle.select_core.proofs.requests.copy_of_cases.Goals as goal
 use Rattle.word.specs.Values.{Item}
 use Rattle.word.specs.declared.request.Case.{Case}
 
