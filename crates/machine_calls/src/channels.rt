@@ -3,6 +3,8 @@
 use crate::checks::Checks;
 use channel_core::{Channels, Outcome, Woken};
 use go_text::{Fault, Memory};
+use logical_clock::{Clock, Key, LAST};
+use select_core::{Choice, choose, enter_all, leave_all, select};
 use std::alloc::Global;
 use word::panic::Panic;
 use word::request::{Case, Reply};
@@ -20,8 +22,13 @@ enum Call {
     Send(u64, Option<u32>, i64),
     Receive(u64, Option<u32>),
     Close(Option<u32>),
-    /// A send of 1 or a receive, both on the one channel; or the default, if it has one.
-    Select(u64, bool),
+    /// At this clock: a send of 1 or a receive, both on the one channel; or the default, if it has one.
+    Select(u64, u64, bool),
+    /// Which clause of that select is done at this clock, with no other effect.
+    Choose(u64, bool),
+    /// Falls asleep at that select.
+    EnterAll(u64),
+    LeaveAll(u64),
     Len(Option<u32>),
     Cap(Option<u32>),
     Asleep,
@@ -36,6 +43,7 @@ enum Seen {
     Replied(Answer, Awake),
     Count(i64),
     Asleep(usize),
+    Chosen(Choice),
 }
 
 /// What the one that asked is told.
@@ -44,7 +52,7 @@ enum Answer {
     Channel(Option<u32>),
     /// An item of one number, and the flag.
     Item(i64, bool),
-    /// A clause that receives nothing.
+    /// A clause of a select, by its number.
     Clause(usize),
     Default,
     Other,
@@ -65,7 +73,7 @@ const MADE: Seen = Seen::Replied(Answer::Channel(ONE), NOBODY);
 /// Calls one behind the other, and what they say.
 type Talk = &'static [(Call, Seen)];
 
-const TALKS: [(&str, Talk); 7] = [
+const TALKS: [(&str, Talk); 9] = [
     (
         "a sender waits for its receiver",
         &[
@@ -134,15 +142,42 @@ const TALKS: [(&str, Talk); 7] = [
         &[
             (Call::Make(1, 0), MADE),
             (
-                Call::Select(1, true),
+                Call::Select(1, 0, true),
                 Seen::Replied(Answer::Default, NOBODY),
             ),
-            (Call::Select(1, false), Seen::Sleeps),
+            (Call::Select(1, 0, false), Seen::Sleeps),
             (
-                Call::Select(2, false),
+                Call::Select(2, 0, false),
                 Seen::Replied(Answer::Clause(1), (1, 1)),
             ),
             (Call::Asleep, Seen::Asleep(0)),
+        ],
+    ),
+    (
+        "of k ready clauses the one of index clock mod k is done",
+        &[
+            (Call::Make(1, 2), MADE),
+            (Call::Choose(1, false), Seen::Chosen(Choice::Case(0))),
+            (Call::Send(1, ONE, 5), DONE),
+            (Call::Choose(4, true), Seen::Chosen(Choice::Case(0))),
+            (Call::Choose(5, true), Seen::Chosen(Choice::Case(1))),
+            (
+                Call::Select(1, 7, false),
+                Seen::Replied(Answer::Clause(2), NOBODY),
+            ),
+            (Call::Len(ONE), Seen::Count(0)),
+        ],
+    ),
+    (
+        "all offers of a select are withdrawn at once",
+        &[
+            (Call::Make(1, 0), MADE),
+            (Call::Choose(1, true), Seen::Chosen(Choice::Default)),
+            (Call::Choose(1, false), Seen::Chosen(Choice::Sleep)),
+            (Call::EnterAll(2), Seen::Asleep(1)),
+            (Call::Choose(1, false), Seen::Chosen(Choice::Case(1))),
+            (Call::LeaveAll(2), Seen::Asleep(0)),
+            (Call::Choose(1, false), Seen::Chosen(Choice::Sleep)),
         ],
     ),
     (
@@ -192,15 +227,26 @@ fn said(channels: &mut Channels, alloc: Global, call: Call) -> Seen {
         Call::Send(number, chan, sent) => seen_in(channels.send(number, chan, item(alloc, sent))),
         Call::Receive(number, chan) => seen_in(channels.receive(number, chan)),
         Call::Close(chan) => seen_in(channels.close(chan)),
-        Call::Select(number, default) => selected(channels, alloc, number, default),
+        Call::Select(number, clock, default) => selected(channels, alloc, number, clock, default),
+        Call::Choose(clock, default) => {
+            let cases = both(alloc);
+            let clock = Clock::at(clock.min(LAST));
+            Seen::Chosen(choose(channels, cases.as_slice(), default, clock))
+        }
+        Call::EnterAll(number) => entered(channels, alloc, number),
+        Call::LeaveAll(number) => {
+            leave_all(channels, number);
+            Seen::Asleep(channels.asleep())
+        }
         Call::Len(chan) => Seen::Count(channels.len(chan)),
         Call::Cap(chan) => Seen::Count(channels.cap(chan)),
         Call::Asleep => Seen::Asleep(channels.asleep()),
     }
 }
 
-fn selected(channels: &mut Channels, alloc: Global, number: u64, default: bool) -> Seen {
-    let cases = [
+/// A send of 1 and a receive, both on the one channel.
+fn both(alloc: Global) -> [Case; 2] {
+    [
         Case {
             chan: ONE,
             item: Some(item(alloc, 1)),
@@ -209,8 +255,27 @@ fn selected(channels: &mut Channels, alloc: Global, number: u64, default: bool) 
             chan: ONE,
             item: None,
         },
-    ];
-    seen_in(channels.select(number, cases.as_slice(), default))
+    ]
+}
+
+fn selected(
+    channels: &mut Channels,
+    alloc: Global,
+    number: u64,
+    clock: u64,
+    default: bool,
+) -> Seen {
+    let cases = both(alloc);
+    let clock = Clock::at(clock.min(LAST));
+    let actor = Key { clock, number };
+    seen_in(select(alloc, channels, actor, cases.as_slice(), default))
+}
+
+fn entered(channels: &mut Channels, alloc: Global, number: u64) -> Seen {
+    match enter_all(alloc, channels, number, both(alloc).as_slice()) {
+        Ok(()) => Seen::Asleep(channels.asleep()),
+        Err(_) => Seen::NoMemory,
+    }
 }
 
 fn seen_in(outcome: Result<Outcome, Memory>) -> Seen {
@@ -229,7 +294,7 @@ fn answer_of(reply: &Reply) -> Answer {
             [Word::Int(number)] => Answer::Item(*number, *ok),
             _ => Answer::Other,
         },
-        Reply::Clause(clause, None) => Answer::Clause(*clause),
+        Reply::Clause(clause, _) => Answer::Clause(*clause),
         Reply::Default => Answer::Default,
         _ => Answer::Other,
     }

@@ -162,8 +162,8 @@ module _ {S : Type 0} (K : GoroutineKind) (held : S → K.State) (limit : ℕ) w
           goes_on = st.goes_on;
         }
 
-    pub asks_on : (key : Key) (place later : ℕ) (request : Asked) (new : List (Option (Goroutine S))) → least (keys clock_of 0 old) ≡ Some key → key.number ≡ place → AdvancesAt K held limit (turns.Asks request later) old place new → Stands K held limit seen now new v × IsAsked K held limit new place later (request_of request)
-    asks_on key place later request new is number h = (
+    pub asks_on : (key : Key) (place clock : ℕ) (request : Asked) (new : List (Option (Goroutine S))) → least (keys clock_of 0 old) ≡ Some key → key.number ≡ place → AdvancesAt K held limit (turns.Asks request clock) old place new → Stands K held limit seen now new v × IsAsked K held limit new place clock (request_of request)
+    asks_on key place clock request new is number h = (
       record {
         moves = st.moves;
         world = record { awake = h.4 ∙ st.world.awake; beds = lie_on old new w.shared.beds w.shared.shared.asleep h.5 st.world.beds; shared = st.world.shared; once = st.world.once };
@@ -174,7 +174,7 @@ module _ {S : Type 0} (K : GoroutineKind) (held : S → K.State) (limit : ℕ) w
         state = h.0;
         at = record { here = sym (here_is new place) ∙ ap (λ (a : List (Option (Clocked K.State))). slice_index_or a place None) h.4 ∙ here_is old place ∙ h.1.here; asks = h.1.asks };
         what = h.2;
-        clock = h.3;
+        at_clock = h.3;
         key = key;
         turn = ap least (sym (keys_is 0 new)) ∙ ap (λ (a : List (Option (Clocked K.State))). next (rules K limit) a) h.4 ∙ ap least (keys_is 0 old) ∙ is;
         number = number;
@@ -197,7 +197,10 @@ module _ {S : Type 0} (K : GoroutineKind) (held : S → K.State) (limit : ℕ) w
 
     -- ---- a request
 
-    module _ (place later : ℕ) (q : Request) (deed : Did) (v' : SharedValue) (ask : IsAsked K held limit old place later q) (does : Performs v place q deed v') where
+    module _ (place clock : ℕ) (q : Request) (deed : Did) (v' : SharedValue) (ask : IsAsked K held limit old place clock q) (does : Performs v place clock q deed v') where
+      done : Performs v place ask.state.clock q deed v'
+      done = subst (λ (c : ℕ). Performs v place c q deed v') ask.at_clock does
+
       abbrev d : Deed
       d = perform w.shared.shared place ask.state.clock q
 
@@ -207,7 +210,7 @@ module _ {S : Type 0} (K : GoroutineKind) (held : S → K.State) (limit : ℕ) w
       output_is : (moment K limit (st.moves + 1)).shared.shared.output ≡ w.shared.shared.output ++ printed deed
       output_is =
           ap (λ (x : World (Clocked K.State) (Rest K.State)). x.shared.shared.output) next_moment
-          ∙ ap (λ (x : Deed). x.shared.output) (does w.shared.shared ask.state.clock st.world.shared).0
+          ∙ ap (λ (x : Deed). x.shared.output) (done w.shared.shared st.world.shared).0
           ∙ deed_output (history_of w.shared.shared) place ask.state.clock (meant w.shared.shared place q) deed v' v'.meeting
 
       -- some of what it prints is written
@@ -220,17 +223,17 @@ module _ {S : Type 0} (K : GoroutineKind) (held : S → K.State) (limit : ℕ) w
       )
 
       -- all of it is written
-      pub goes_after : (written : Option (List ℕ)) (new : List (Option (Goroutine S))) → Appends now written (printed deed) → Applies K held later place ask.state deed old new → Goes K held limit seen written new v' v'.ending
-      goes_after written new a applies = go v'.ending refl
+      pub goes_after : (written : Option (List ℕ)) (new : List (Option (Goroutine S))) (later : ℕ) → later ≡ clock + 1 → Appends now written (printed deed) → Applies K held later place ask.state deed old new → Goes K held limit seen written new v' v'.ending
+      goes_after written new later one a applies = go v'.ending refl
         where
           all : Appends seen written (moment K limit (st.moves + 1)).shared.shared.output
           all = subst (Appends seen written) (sym output_is) (appends_more seen now written w.shared.shared.output (printed deed) st.written a)
 
           is : d ≡ deed_of (history_of w.shared.shared) place ask.state.clock (meant w.shared.shared place q) deed v' v'.meeting
-          is = (does w.shared.shared ask.state.clock st.world.shared).0
+          is = (done w.shared.shared st.world.shared).0
 
           ends_so : (e : Option Ending) → v'.ending ≡ e → d.shared.ending ≡ e
-          ends_so e h = sym (does w.shared.shared ask.state.clock st.world.shared).1.ending ∙ h
+          ends_so e h = sym (done w.shared.shared st.world.shared).1.ending ∙ h
 
           go : (o : Option Ending) → v'.ending ≡ o → Goes K held limit seen written new v' o
           go (Some e) h = (
@@ -243,8 +246,8 @@ module _ {S : Type 0} (K : GoroutineKind) (held : S → K.State) (limit : ℕ) w
             moves = st.moves + 1;
             world = subst (λ (x : World (Clocked K.State) (Rest K.State)). IsWorldOf K held x new v') (sym (next_moment ∙ ap (after K held limit w place ask.state) is))
                 (applied K held limit w old new v v' place ask.state (meant w.shared.shared place q) st.world ask.at.here deed
-                (subst (λ (x : Deed). Known K held limit w.shared.shared place (meant w.shared.shared place q) v' x) is (known K held limit w.shared.shared place ask.state.clock q v' st.world.once (does w.shared.shared ask.state.clock st.world.shared).1))
-                h (subst (λ (c : ℕ). Applies K held c place ask.state deed old new) ask.clock applies));
+                (subst (λ (x : Deed). Known K held limit w.shared.shared place (meant w.shared.shared place q) v' x) is (known K held limit w.shared.shared place ask.state.clock q v' st.world.once (done w.shared.shared st.world.shared).1))
+                h (subst (λ (c : ℕ). Applies K held c place ask.state deed old new) (one ∙ ap (λ (c : ℕ). c + 1) ask.at_clock) applies));
             written = all;
             goes_on = h;
           }

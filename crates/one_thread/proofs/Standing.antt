@@ -99,7 +99,7 @@ module _ {S : Type 0} (K : GoroutineKind) (held : S → K.State) (limit : ℕ) w
             ∙ ap (λ (a : List (Option (Clocked K.State))). let v : World (Clocked K.State) (Rest K.State) = record { awake = a; shared = w } in v) (sym set.awake)),
         sleep_on held old (slice_set old n (Some h)) n (Some (clocked held h)) (awake_no_bed held (slice_index_or old n None) (clocked held g) there) set,
       )
-  turned old n g h (turns.Asks request later) at lt up same step =
+  turned old n g h (turns.Asks request clock) at lt up same step =
       let there : here (awake_of held) old n ≡ Some (clocked held g) = ap (awake_of held) at ∙ awake_is held g up in
       let set : Sets held old (slice_set old n (Some h)) n (Some (clocked held h)) None = sets held old n (Some h) (Some (clocked held h)) None lt (awake_is held h (same ∙ up)) (no_bed held h (same ∙ up)) in (
         clocked held g,

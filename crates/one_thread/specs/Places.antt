@@ -23,10 +23,10 @@ IsWithin limit (Some g) = g.clock ≤ limit
 abbrev pub AreWithin : {S : Type 0} → ℕ → List (Option (Goroutine S)) → Type 0
 AreWithin limit places = All (IsWithin limit) places
 
--- nor is that of who goes on
+-- nor is that of a goroutine that goes on after its request
 abbrev pub IsSoon : ℕ → Turn → Type 0
 IsSoon limit turns.Stepped = Unit {0}
-IsSoon limit (turns.Asks request later) = later ≤ limit
+IsSoon limit (turns.Asks request clock) = clock + 1 ≤ limit
 IsSoon limit turns.Exhausted = Unit {0}
 
 -- what stands at a place
@@ -83,8 +83,8 @@ module _ {S : Type 0} (K : GoroutineKind) (held : S → K.State) where
   abbrev pub AdvancesAt : ℕ → Turn → List (Option (Goroutine S)) → ℕ → List (Option (Goroutine S)) → Type 0
   AdvancesAt limit turns.Stepped old n new =
       ((w : Rest K.State) → move_at (rules K limit) (record { awake = awake_in held old; shared = w }) n (here (awake_of held) old n) ≡ record { awake = awake_in held new; shared = w }) × SleepOn held old new
-  AdvancesAt limit (turns.Asks request later) old n new =
-      (s : Clocked K.State) × IsAt limit old n s × (asks K limit s ≡ Some (request_of request)) × (later ≡ s.clock + 1) × (awake_in held new ≡ awake_in held old) × SleepOn held old new
+  AdvancesAt limit (turns.Asks request clock) old n new =
+      (s : Clocked K.State) × IsAt limit old n s × (asks K limit s ≡ Some (request_of request)) × (clock ≡ s.clock) × (awake_in held new ≡ awake_in held old) × SleepOn held old new
   AdvancesAt limit turns.Exhausted old n new = (s : Clocked K.State) × IsAt limit old n s × (asks K limit s ≡ Some Exhausted)
 
 -- whatever their states mean: the goroutine at place n, if it was awake, has fallen asleep

@@ -1,5 +1,5 @@
 -- What a step and a turn of a goroutine do.
-use Rattle.std.specs.Prelude.{◌≡◌, ℕ, ◌+◌, Option, Some, None}
+use Rattle.std.specs.Prelude.{◌≡◌, ℕ, Option, Some, None}
 use Rattle.word.specs.declared.request.Request.{Request as Asked}
 use Rattle.word.specs.Values.{Exhausted}
 use Rattle.word.specs.Kinds.{Next, Slides, Ticks, Asks, GoroutineKind, Clocked, local, asks}
@@ -18,10 +18,10 @@ Moves next (steps.Asks request) new old = (next ≡ Asks (request_of request)) �
 -- the goroutine makes this local step, or has none and asks
 abbrev pub Advances : (K : GoroutineKind) (limit : ℕ) → Turn → Clocked K.State → Clocked K.State → Type 0
 Advances K limit turns.Stepped old new = local K limit old ≡ Some new
-Advances K limit (turns.Asks request later) old new = (local K limit old ≡ None) × (asks K limit old ≡ Some (request_of request)) × (new ≡ old) × (later ≡ old.clock + 1)
+Advances K limit (turns.Asks request clock) old new = (local K limit old ≡ None) × (asks K limit old ≡ Some (request_of request)) × (new ≡ old) × (clock ≡ old.clock)
 Advances K limit turns.Exhausted old new = (local K limit old ≡ None) × (asks K limit old ≡ Some Exhausted)
 
--- the turn of who asks this, where there is a later clock
-abbrev pub asking : Asked → Option ℕ → Turn
-asking request None = turns.Exhausted
-asking request (Some later) = turns.Asks request later
+-- the turn of a goroutine that makes this request at this clock, if there is a later one
+abbrev pub asking : Asked → ℕ → Option ℕ → Turn
+asking request clock None = turns.Exhausted
+asking request clock (Some later) = turns.Asks request clock

@@ -1,5 +1,5 @@
 -- Worlds in memory, and what a run has written.
-use Rattle.std.specs.Prelude.{◌≡◌, ◌≢◌, ℕ, ◌+◌, false, List, [], ◌∷◌, ◌++◌, map, Option, Some, None}
+use Rattle.std.specs.Prelude.{◌≡◌, ◌≢◌, ℕ, false, List, [], ◌∷◌, ◌++◌, map, Option, Some, None}
 use Rattle.std.specs.Io.KnownBytes.{Appends}
 use Rattle.reference_world.specs.Deeds.{IsShownBy, SharedValue}
 use Rattle.reference_world.specs.declared.deed.Deed.{Deed}
@@ -72,12 +72,12 @@ module _ {S : Type 0} (K : GoroutineKind) (held : S → K.State) where
   IsLast limit None places = (n : ℕ) × (v : SharedValue) × IsWorldOf (moment K limit n) places v × (end_of (moment K limit n) ≡ Some Deadlock)
   IsLast limit (Some key) places = Unit {0}
 
-  -- the goroutine of least key asks this, and whoever goes on is at this clock
-  pub record IsAsked (limit : ℕ) (places : List (Option (Goroutine S))) (place later : ℕ) (q : Request) : Type 0 where
+  -- the goroutine of least key makes this request at this clock
+  pub record IsAsked (limit : ℕ) (places : List (Option (Goroutine S))) (place clock : ℕ) (q : Request) : Type 0 where
     pub state : Clocked K.State
     pub at : IsAt K held limit places place state
     pub what : asks K limit state ≡ Some q
-    pub clock : later ≡ state.clock + 1
+    pub at_clock : clock ≡ state.clock
     pub key : Key
     pub turn : least (keys clock_of 0 places) ≡ Some key
     pub number : key.number ≡ place

@@ -28,7 +28,7 @@ pub struct Goroutine<S: Drop> {
 pub(crate) enum Turn {
     /// It made a step of its own.
     Stepped,
-    /// It asks, and whoever goes on is at this clock.
+    /// It makes a request at this clock, which is below the limit.
     Asks(Request, Clock),
     /// It is at the clock limit.
     Exhausted,
@@ -50,7 +50,7 @@ pub(crate) fn advance<P: Interpreter>(
 {
     let later = later(goroutine.clock, limit);
     if goroutine.doomed {
-        return Ok(asking(Request::Panic(Panic::SendOnClosed), later));
+        return Ok(asking(Request::Panic(Panic::SendOnClosed), goroutine.clock, later));
     }
     match program.step(alloc, &mut goroutine.state)? {
         Step::Slides => Ok(Turn::Stepped),
@@ -61,7 +61,7 @@ pub(crate) fn advance<P: Interpreter>(
             goroutine.clock = clock;
             Ok(Turn::Stepped)
         }
-        Step::Asks(request) => Ok(asking(request, later)),
+        Step::Asks(request) => Ok(asking(request, goroutine.clock, later)),
     }
 }
 
@@ -74,13 +74,13 @@ fn later(clock: Clock, limit: u64) -> Option<Clock>
     tick(clock, limit)
 }
 
-/// Who asks at the limit is exhausted.
-fn asking(request: Request, later: Option<Clock>) -> Turn
-    ensures turn { result ≡ asking request later }
-    ensures soon { (limit : _) → IfSome later (λ later. later ≤ limit) → IsSoon limit result }
+/// A request at this clock; at the limit, where there is no later clock, the goroutine is exhausted.
+fn asking(request: Request, clock: Clock, later: Option<Clock>) -> Turn
+    ensures turn { result ≡ asking request clock later }
+    ensures soon { (limit : _) → IfSome later (λ later. (later ≡ clock + 1) × (later ≤ limit)) → IsSoon limit result }
 {
     match later {
-        Some(later) => Turn::Asks(request, later),
+        Some(_) => Turn::Asks(request, clock),
         None => Turn::Exhausted,
     }
 }

@@ -1,6 +1,6 @@
 //! The run.
 
-ghost use Rattle.std.specs.Prelude.{◌≡◌, ◌⊎◌, ◌↔◌, ◌^◌, ◌≤◌, ℕ, IfErr, IfOk, IsErr, IsErrOf, List, None, OnOk, Option, Some, take, true};
+ghost use Rattle.std.specs.Prelude.{◌≡◌, ◌⊎◌, ◌↔◌, ◌+◌, ◌<◌, ◌^◌, ◌≤◌, ℕ, IfErr, IfOk, IsErr, IsErrOf, List, None, OnOk, Option, Some, take, true};
 ghost use Rattle.std.specs.Io.KnownBytes.{Appends};
 ghost use Rattle.word.specs.Kinds.{Clocked};
 ghost use Rattle.word.specs.Related.{kind_of};
@@ -14,7 +14,7 @@ use crate::goroutine::{Goroutine, Turn};
 use crate::interpreter::Interpreter;
 use crate::places::{advance_at, end, lay, least, tell_at, wake_all};
 use go_text::{Fault, Memory};
-use logical_clock::Clock;
+use logical_clock::{Clock, Key};
 use reference_world::{Deed, Shared};
 use std::alloc::Global;
 use word::end::End;
@@ -168,36 +168,42 @@ pub(crate) fn one_move<P: Interpreter, W: Write>(
     match advance_at(program, alloc, places.as_mut_slice(), place, limit)? {
         Turn::Stepped => Ok(None),
         Turn::Exhausted => Ok(Some(End::Exhausted)),
-        Turn::Asks(request, later) => {
+        Turn::Asks(request, clock) => {
             perform(
-                alloc, program, places, shared, place, later, request, output,
+                alloc, program, places, shared, place, clock, request, output,
             )
         }
     }
 }
 
-/// Performs what the goroutine at this place asks, whose turn it is; whoever goes on is at this clock. The end of the run,
-/// where it has ended.
+/// Performs the request that the goroutine at this place, whose turn it is, makes at this clock. Returns the end of the run, if
+/// it has ended.
 fn perform<P: Interpreter, W: Write>(
     alloc: Global,
     program: &P,
     places: &mut Vec<Option<Goroutine<P::State>>>,
     shared: &mut Shared,
     place: usize,
-    later: Clock,
+    clock: Clock,
     request: Request,
     output: &mut W,
 ) -> Result<Option<End>, Fault>
-    requires { shared.old.ending ≡ None }
-    ensures within { OnOk result ((limit : ℕ) → later ≤ limit → AreWithin limit places.old.items → AreWithin limit places.new.items) }
-    ensures goes { IfOk result (λ ending. (limit : ℕ) (known : Option (List ℕ)) → IsAsked (kind_of (P.parts program.now)) (P.held program.now) limit places.old.items place later (request_of request) → Stands (kind_of (P.parts program.now)) (P.held program.now) limit known (W.contents output.old) places.old.items shared.old → Goes (kind_of (P.parts program.now)) (P.held program.now) limit known (W.contents output.new) places.new.items shared.new ending) }
-    ensures begins { (limit : ℕ) (known : Option (List ℕ)) → IsAsked (kind_of (P.parts program.now)) (P.held program.now) limit places.old.items place later (request_of request) → Stands (kind_of (P.parts program.now)) (P.held program.now) limit known (W.contents output.old) places.old.items shared.old → BeginsOutput (kind_of (P.parts program.now)) limit known (W.contents output.new) }
+    requires going { shared.old.ending ≡ None }
+    requires last { clock < 2 ^ 62 }
+    ensures within { OnOk result ((limit : ℕ) → clock + 1 ≤ limit → AreWithin limit places.old.items → AreWithin limit places.new.items) }
+    ensures goes { IfOk result (λ ending. (limit : ℕ) (known : Option (List ℕ)) → IsAsked (kind_of (P.parts program.now)) (P.held program.now) limit places.old.items place clock (request_of request) → Stands (kind_of (P.parts program.now)) (P.held program.now) limit known (W.contents output.old) places.old.items shared.old → Goes (kind_of (P.parts program.now)) (P.held program.now) limit known (W.contents output.new) places.new.items shared.new ending) }
+    ensures begins { (limit : ℕ) (known : Option (List ℕ)) → IsAsked (kind_of (P.parts program.now)) (P.held program.now) limit places.old.items place clock (request_of request) → Stands (kind_of (P.parts program.now)) (P.held program.now) limit known (W.contents output.old) places.old.items shared.old → BeginsOutput (kind_of (P.parts program.now)) limit known (W.contents output.new) }
     ensures going { IfOk result (λ ending. ending ≡ None → shared.new.ending ≡ None) }
     ensures write { IsErrOf result Fault.Write → W.has_failed output.new ≡ true }
     ensures only { IfErr result (λ fault. (fault ≡ Fault.Memory) ⊎ (fault ≡ Fault.Write)) }
 {
-    let deed = shared.perform(place as u64, request)?;
+    let actor = Key {
+        clock,
+        number: place as u64,
+    };
+    let deed = shared.perform(actor, request)?;
     print(&deed, output)?;
+    let later = Clock::at(clock.time() + 1);
     apply(alloc, program, places, place, later, deed)?;
     Ok(shared.ending())
 }

@@ -39,15 +39,15 @@ meant_so : (w : Shared) (n k : ℕ) (q : Request) → k ≡ length w.events → 
 meant_so w n k q is e = rw (← is, e) refl
 
 -- what is done after the event is counted, `perform` does
-pub performed : (old mid new last : SharedValue) (n : ℕ) (q a : Request) (deed : Did) → old.ending ≡ None → (old.events + 1 == 2 ^ 62) ≡ false → mid ≡ record old { events = old.events + 1 } → a ≡ asked n q → Acts mid n a deed new → new.events ≡ mid.events → new.ending ≡ mid.ending → last ≡ record new { ending = ending_of deed } → Performs old n q deed last
-performed old mid new last n q a deed going room before means acts events ending behind w c shown =
+pub performed : (old mid new last : SharedValue) (n c : ℕ) (q a : Request) (deed : Did) → old.ending ≡ None → (old.events + 1 == 2 ^ 62) ≡ false → mid ≡ record old { events = old.events + 1 } → a ≡ asked n q → Acts mid n c a deed new → new.events ≡ mid.events → new.ending ≡ mid.ending → last ≡ record new { ending = ending_of deed } → Performs old n c q deed last
+performed old mid new last n c q a deed going room before means acts events ending behind w shown =
     let h : History = history_of w in
     let end : SharedValue = record new { ending = ending_of deed } in
     let mid_is : shared_with h mid mid.meeting ≡ w = ap (λ (v : SharedValue). shared_with h v v.meeting) before ∙ whole w old shown in
     let asks : meant w n q ≡ a = meant_so w n old.events q shown.events room ∙ sym means in
     let open_end : new.ending ≡ None = ending ∙ ap (λ (v : SharedValue). v.ending) before ∙ going in
     let counted : new.events ≡ old.events + 1 = events ∙ ap (λ (v : SharedValue). v.events) before in
-    let acted : act w n c a a ≡ deed_of h n c a deed end new.meeting = ap (λ (x : Shared). act x n c a a) (sym mid_is) ∙ acts h c ∙ ends_itself h n c a deed new new.meeting open_end in
+    let acted : act w n c a a ≡ deed_of h n c a deed end new.meeting = ap (λ (x : Shared). act x n c a a) (sym mid_is) ∙ acts h ∙ ends_itself h n c a deed new new.meeting open_end in
     let done : perform w n c q ≡ deed_of h n c (meant w n q) deed end new.meeting = rw asks acted in
     let P : SharedValue → Type 0 = λ v. (perform w n c q ≡ deed_of h n c (meant w n q) deed v v.meeting) × IsShownBy (perform w n c q).shared v in
     let S : Deed → Type 0 = λ d. IsShownBy d.shared end in

@@ -110,14 +110,18 @@ ending_of deed = None
 abbrev pub Does : (Shared → ℕ → Deed) → MeetingValue → ℕ → Request → Did → MeetingValue → Type 0
 Does what old n q deed new = (h : History) (v : SharedValue) (c : ℕ) → what (shared_with h v old) c ≡ deed_of h n c q deed v new
 
--- so goroutine n's request q is done
-abbrev pub Acts : SharedValue → ℕ → Request → Did → SharedValue → Type 0
-Acts old n q deed new = (h : History) (c : ℕ) → act (shared_with h old old.meeting) n c q q ≡ deed_of h n c q deed new new.meeting
+-- like `Does`, at this clock of goroutine n
+abbrev pub DoesAt : (Shared → Deed) → MeetingValue → ℕ → ℕ → Request → Did → MeetingValue → Type 0
+DoesAt what old n c q deed new = (h : History) (v : SharedValue) → what (shared_with h v old) ≡ deed_of h n c q deed v new
 
--- goroutine n's request q is performed, in each world that shares what is told here
-abbrev pub Performs : SharedValue → ℕ → Request → Did → SharedValue → Type 0
-Performs old n q deed new =
-    (w : Shared) (c : ℕ) → IsShownBy w old
+-- so goroutine n's request q at clock c is done
+abbrev pub Acts : SharedValue → ℕ → ℕ → Request → Did → SharedValue → Type 0
+Acts old n c q deed new = (h : History) → act (shared_with h old old.meeting) n c q q ≡ deed_of h n c q deed new new.meeting
+
+-- goroutine n's request q at clock c is performed, in each world that shares this
+abbrev pub Performs : SharedValue → ℕ → ℕ → Request → Did → SharedValue → Type 0
+Performs old n c q deed new =
+    (w : Shared) → IsShownBy w old
     → (perform w n c q ≡ deed_of (history_of w) n c (meant w n q) deed new new.meeting) × IsShownBy (perform w n c q).shared new
 
 -- ---- channels and those who sleep

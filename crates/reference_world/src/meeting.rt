@@ -1,16 +1,18 @@
 //! Where goroutines meet: the channels, and those who sleep at them.
 
 ghost use Rattle.std.specs.Prelude.{◌≡◌, ℕ, ◌+◌, ◌<◌, ◌∷◌, [], ◌++◌, IfOk, IfSome, None, OnOk, nat_lt, option_map, pos, suc, length, unwrap_or};
-ghost use Rattle.word.specs.Requests.{act, channel_of, choose, do_make, do_receive, do_send, is_ready, no_channel, partner, receive_from, receive_ready, send_ready, without};
+ghost use Rattle.std.specs.List.{slice_get};
+ghost use Rattle.word.specs.Requests.{act, channel_of, choose, do_make, do_receive, do_send, is_ready, no_channel, partner, ready_clauses, receive_from, receive_ready, send_ready, without};
 ghost use Rattle.word.specs.Values.{Close, Receive, Request as AnyRequest, Select, Send};
 ghost use Rattle.word.specs.Views.{reply_of, request_of};
-ghost use Rattle.reference_world.specs.Deeds.{Does, History, IsServed, SharedValue, capacity_of, clause_at, length_of, met, shared_with};
+ghost use Rattle.reference_world.specs.Deeds.{Does, DoesAt, History, IsServed, SharedValue, capacity_of, clause_at, length_of, met, shared_with};
 
 use crate::channel::{self, Channel};
 use crate::deed::{Deed, Woken};
 use crate::reply::{got, sent};
 use crate::sleeper::{Partner, Sleeper, copy_of, find_partner, leave, leave_all, woken_by_close};
 use go_text::Memory;
+use logical_clock::{Clock, Key};
 use std::alloc::Global;
 use std::collections::VecDeque;
 use std::marker::Model;
@@ -135,24 +137,24 @@ impl Meeting {
         Ok(Deed::Done(Reply::Nothing, woken))
     }
 
-    /// A select by goroutine `number` (Go: Select statements): the first clause in source order that is ready is done, else
-    /// the default, else it sleeps with all its clauses.
+    /// A select by the goroutine of this number, at this clock (Go: Select statements): of the ready clauses one is done, else the
+    /// default, else the goroutine sleeps with all its clauses.
     pub(crate) fn select(
         &mut self,
-        number: u64,
+        actor: Key,
         cases: Vec<Case>,
         default: bool,
     ) -> Result<Deed, Memory>
-        ensures { IfOk result (λ deed. Does (λ w c. act w number c (Select cases.items default) (Select cases.items default)) self.old number (Select cases.items default) deed self.new) }
+        ensures { IfOk result (λ deed. DoesAt (λ w. act w actor.number actor.clock (Select cases.items default) (Select cases.items default)) self.old actor.number actor.clock (Select cases.items default) deed self.new) }
     {
-        let Some(place) = self.choose(cases.as_slice()) else {
+        let Some(place) = self.choose(cases.as_slice(), actor.clock) else {
             if default {
                 return Ok(Deed::Done(Reply::Default, Vec::new(self.alloc)));
             }
-            return self.sleep(number, Request::Select(cases, default));
+            return self.sleep(actor.number, Request::Select(cases, default));
         };
         let Some(chan) = cases[place].chan else {
-            return self.sleep(number, Request::Select(cases, default));
+            return self.sleep(actor.number, Request::Select(cases, default));
         };
         match copy_of(&cases[place].item) {
             Some(item) => self.do_send(chan, item, place + 1),
@@ -253,14 +255,45 @@ impl Meeting {
         Ok(Deed::Sleeps)
     }
 
-    /// The place of the first clause that is ready, counted from 0.
-    fn choose(&self, cases: &[Case]) -> Option<usize>
+    /// The place, counted from 0, of the clause that a select at this clock does; none if no clause is ready. Of k ready clauses,
+    /// in source order, it is the one of index clock mod k.
+    fn choose(&self, cases: &[Case], clock: Clock) -> Option<usize>
         ensures within { IfSome result (λ i. i < length cases.now) }
-        ensures first { (h : History) (v : SharedValue) (n c : ℕ) (q : AnyRequest) → choose (shared_with h v self.now) n c q 1 cases.now ≡ option_map (λ i. (suc i, clause_at cases.now i)) result }
+        ensures chosen { (h : History) (v : SharedValue) (n : ℕ) (q : AnyRequest) → choose (shared_with h v self.now) n clock q cases.now ≡ option_map (λ i. (suc i, clause_at cases.now i)) result }
     {
+        let count = self.ready_count(cases);
+        if count == 0 {
+            return None;
+        }
+        let turn = clock.time() % count as u64;
+        self.nth_ready(cases, turn as usize)
+    }
+
+    /// How many clauses are ready.
+    fn ready_count(&self, cases: &[Case]) -> usize
+        ensures { (h : History) (v : SharedValue) (n c : ℕ) (q : AnyRequest) → length (ready_clauses (shared_with h v self.now) n c q 1 cases.now) ≡ result }
+    {
+        let mut count = 0;
+        for case in cases {
+            if self.is_ready(case) {
+                count += 1;
+            }
+        }
+        count
+    }
+
+    /// The place of the ready clause that `turn` ready ones precede.
+    fn nth_ready(&self, cases: &[Case], turn: usize) -> Option<usize>
+        ensures within { IfSome result (λ i. i < length cases.now) }
+        ensures nth { (h : History) (v : SharedValue) (n c : ℕ) (q : AnyRequest) → slice_get (ready_clauses (shared_with h v self.now) n c q 1 cases.now) turn ≡ option_map (λ i. (suc i, clause_at cases.now i)) result }
+    {
+        let mut left = turn;
         for (i, case) in cases.iter().enumerate() {
             if self.is_ready(case) {
-                return Some(i);
+                if left == 0 {
+                    return Some(i);
+                }
+                left -= 1;
             }
         }
         None

@@ -9,7 +9,7 @@ ghost use Rattle.reference_world.specs.Deeds.{Acts, IsTold, Performs, ending_of,
 use crate::deed::Deed;
 use crate::meeting::Meeting;
 use go_text::Memory;
-use logical_clock::LAST;
+use logical_clock::{Key, LAST};
 use std::alloc::Global;
 use std::marker::Model;
 use word::end::End;
@@ -77,37 +77,38 @@ impl Shared {
         self.ending
     }
 
-    /// Performs what goroutine `number` asks, which is awake. A return of goroutine 1 ends the run, and so does request
-    /// number 2^62, whatever is asked. After an error the run can't go on, and nothing is said of what is shared.
-    pub fn perform(&mut self, number: u64, request: Request) -> Result<Deed, Memory>
+    /// Performs a request of the awake goroutine of this number, at this clock. A return of goroutine 1 ends the run, and so
+    /// does request number 2^62, whatever it is. After an error the run can't go on, and nothing is said of what is shared.
+    pub fn perform(&mut self, actor: Key, request: Request) -> Result<Deed, Memory>
         requires { self.old.ending ≡ None }
-        ensures { IfOk result (λ deed. Performs self.old number (request_of request) deed self.new) }
+        ensures { IfOk result (λ deed. Performs self.old actor.number actor.clock (request_of request) deed self.new) }
     {
         self.events += 1;
         if self.events == LAST {
             self.ending = Some(End::Exhausted);
             return Ok(Deed::Ends(End::Exhausted));
         }
-        let deed = self.act(number, asked(number, request))?;
+        let deed = self.act(actor, asked(actor.number, request))?;
         self.ending = ending_of(&deed);
         Ok(deed)
     }
 
     /// Does a request, which is counted already.
-    fn act(&mut self, number: u64, request: Request) -> Result<Deed, Memory>
+    fn act(&mut self, actor: Key, request: Request) -> Result<Deed, Memory>
         requires made { self.old.made ≤ self.old.events }
         requires events { self.old.events < 2 ^ 62 }
-        ensures acts { IfOk result (λ deed. Acts self.old number (request_of request) deed self.new) }
+        ensures acts { IfOk result (λ deed. Acts self.old actor.number actor.clock (request_of request) deed self.new) }
         ensures events { OnOk result (self.new.events ≡ self.old.events) }
         ensures ending { OnOk result (self.new.ending ≡ self.old.ending) }
     {
+        let number = actor.number;
         match request {
             Request::Make(size, zero) => self.meeting.make(size, zero),
             Request::Go(function, arguments) => Ok(self.start(function, arguments)),
             Request::Send(chan, item) => self.meeting.send(number, chan, item),
             Request::Receive(chan) => self.meeting.receive(number, chan),
             Request::Close(chan) => self.meeting.close(chan),
-            Request::Select(cases, default) => self.meeting.select(number, cases, default),
+            Request::Select(cases, default) => self.meeting.select(actor, cases, default),
             Request::Len(chan) => Ok(self.tell(self.meeting.len(chan))),
             Request::Cap(chan) => Ok(self.tell(self.meeting.capacity(chan))),
             Request::Print(bytes) => Ok(Deed::Prints(bytes)),
@@ -122,7 +123,7 @@ impl Shared {
     fn start(&mut self, function: u32, arguments: Vec<Word>) -> Deed
         requires made { self.old.made ≤ self.old.events }
         requires events { self.old.events < 2 ^ 62 }
-        ensures acts { (n : ℕ) → Acts self.old n (Go function arguments.items) result self.new }
+        ensures acts { (n c : ℕ) → Acts self.old n c (Go function arguments.items) result self.new }
         ensures events { self.new.events ≡ self.old.events }
         ensures ending { self.new.ending ≡ self.old.ending }
     {

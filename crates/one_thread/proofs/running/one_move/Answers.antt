@@ -50,10 +50,10 @@ returns-in-Asks-clause-goes g c =
     let value = c.as_mut_slice.ensures.value in
     let back = written_back c.args.places.now.len c.args.places.now.items c.advance_at.new.places c.args.places.now.ok.0 (let kept = c.advance_at.auto.places in let same = ap length value in omega (arith, kept, same)) in
     let turn = subst (λ (t : Turn). AdvancesAt (kind_of (g.P.Interpreter.parts c.args.program.now)) (g.P.Interpreter.held c.args.program.now) c.args.limit t c.as_mut_slice.result.now c.in-Some.key.number c.advance_at.new.places) c.in-Asks.is c.in_ok-advance_at.ensures.turn in
-    let there = subst (λ (x : List (Option (Goroutine g.row.P-State.Denot))). AdvancesAt (kind_of (g.P.Interpreter.parts c.args.program.now)) (g.P.Interpreter.held c.args.program.now) c.args.limit (turns.Asks c.in-Asks.request c.in-Asks.later) x c.in-Some.key.number c.advance_at.new.places) value turn in
-    let h = subst (λ (x : List (Option (Goroutine g.row.P-State.Denot))). AdvancesAt (kind_of (g.P.Interpreter.parts c.args.program.now)) (g.P.Interpreter.held c.args.program.now) c.args.limit (turns.Asks c.in-Asks.request c.in-Asks.later) c.args.places.now.items c.in-Some.key.number x) (sym back) there in
+    let there = subst (λ (x : List (Option (Goroutine g.row.P-State.Denot))). AdvancesAt (kind_of (g.P.Interpreter.parts c.args.program.now)) (g.P.Interpreter.held c.args.program.now) c.args.limit (turns.Asks c.in-Asks.request c.in-Asks.clock) x c.in-Some.key.number c.advance_at.new.places) value turn in
+    let h = subst (λ (x : List (Option (Goroutine g.row.P-State.Denot))). AdvancesAt (kind_of (g.P.Interpreter.parts c.args.program.now)) (g.P.Interpreter.held c.args.program.now) c.args.limit (turns.Asks c.in-Asks.request c.in-Asks.clock) c.args.places.now.items c.in-Some.key.number x) (sym back) there in
     let key = rw c.as_slice.ensures.value at (sym c.least.ensures ∙ c.in-Some.is) in
-    let both = asks_on (kind_of (g.P.Interpreter.parts c.args.program.now)) (g.P.Interpreter.held c.args.program.now) c.args.limit known (g.W.Write.contents c.args.output.now) c.args.places.now.items c.args.shared.now st c.in-Some.key c.in-Some.key.number c.in-Asks.later c.in-Asks.request (take c.args.places.now.len (c.advance_at.new.places ++ drop (length c.advance_at.new.places) c.args.places.now.items)) key refl h in
+    let both = asks_on (kind_of (g.P.Interpreter.parts c.args.program.now)) (g.P.Interpreter.held c.args.program.now) c.args.limit known (g.W.Write.contents c.args.output.now) c.args.places.now.items c.args.shared.now st c.in-Some.key c.in-Some.key.number c.in-Asks.clock c.in-Asks.request (take c.args.places.now.len (c.advance_at.new.places ++ drop (length c.advance_at.new.places) c.args.places.now.items)) key refl h in
     more c.args.limit known both.1 both.0)
 
 pub returns-in-Asks-clause-begins : goal.returns-in-Asks-clause-begins
@@ -61,10 +61,10 @@ returns-in-Asks-clause-begins g c = λ known st.
     let value = c.as_mut_slice.ensures.value in
     let back = written_back c.args.places.now.len c.args.places.now.items c.advance_at.new.places c.args.places.now.ok.0 (let kept = c.advance_at.auto.places in let same = ap length value in omega (arith, kept, same)) in
     let turn = subst (λ (t : Turn). AdvancesAt (kind_of (g.P.Interpreter.parts c.args.program.now)) (g.P.Interpreter.held c.args.program.now) c.args.limit t c.as_mut_slice.result.now c.in-Some.key.number c.advance_at.new.places) c.in-Asks.is c.in_ok-advance_at.ensures.turn in
-    let there = subst (λ (x : List (Option (Goroutine g.row.P-State.Denot))). AdvancesAt (kind_of (g.P.Interpreter.parts c.args.program.now)) (g.P.Interpreter.held c.args.program.now) c.args.limit (turns.Asks c.in-Asks.request c.in-Asks.later) x c.in-Some.key.number c.advance_at.new.places) value turn in
-    let h = subst (λ (x : List (Option (Goroutine g.row.P-State.Denot))). AdvancesAt (kind_of (g.P.Interpreter.parts c.args.program.now)) (g.P.Interpreter.held c.args.program.now) c.args.limit (turns.Asks c.in-Asks.request c.in-Asks.later) c.args.places.now.items c.in-Some.key.number x) (sym back) there in
+    let there = subst (λ (x : List (Option (Goroutine g.row.P-State.Denot))). AdvancesAt (kind_of (g.P.Interpreter.parts c.args.program.now)) (g.P.Interpreter.held c.args.program.now) c.args.limit (turns.Asks c.in-Asks.request c.in-Asks.clock) x c.in-Some.key.number c.advance_at.new.places) value turn in
+    let h = subst (λ (x : List (Option (Goroutine g.row.P-State.Denot))). AdvancesAt (kind_of (g.P.Interpreter.parts c.args.program.now)) (g.P.Interpreter.held c.args.program.now) c.args.limit (turns.Asks c.in-Asks.request c.in-Asks.clock) c.args.places.now.items c.in-Some.key.number x) (sym back) there in
     let key = rw c.as_slice.ensures.value at (sym c.least.ensures ∙ c.in-Some.is) in
-    let both = asks_on (kind_of (g.P.Interpreter.parts c.args.program.now)) (g.P.Interpreter.held c.args.program.now) c.args.limit known (g.W.Write.contents c.args.output.now) c.args.places.now.items c.args.shared.now st c.in-Some.key c.in-Some.key.number c.in-Asks.later c.in-Asks.request (take c.args.places.now.len (c.advance_at.new.places ++ drop (length c.advance_at.new.places) c.args.places.now.items)) key refl h in
+    let both = asks_on (kind_of (g.P.Interpreter.parts c.args.program.now)) (g.P.Interpreter.held c.args.program.now) c.args.limit known (g.W.Write.contents c.args.output.now) c.args.places.now.items c.args.shared.now st c.in-Some.key c.in-Some.key.number c.in-Asks.clock c.in-Asks.request (take c.args.places.now.len (c.advance_at.new.places ++ drop (length c.advance_at.new.places) c.args.places.now.items)) key refl h in
     c.perform.ensures.begins c.args.limit known both.1 both.0
 
 pub advance_at-requires-clause-within : goal.advance_at-requires-clause-within
