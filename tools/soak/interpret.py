@@ -210,11 +210,12 @@ class World:
         return str(self.serve(actor, (sleeper, number, offer), (channel.zero, False)))
 
     def do_select(self, goroutine, asked):
-        for number, case in enumerate(asked.cases, 1):
-            if self.is_ready(case):
-                said = (self.do_send if case.what == "send" else self.do_receive)(goroutine, case)
-                goroutine.told = number, goroutine.told
-                return f"select case {number} {said}"
+        ready = [(number, case) for number, case in enumerate(asked.cases, 1) if self.is_ready(case)]
+        if ready:
+            number, case = ready[goroutine.clock % len(ready)]
+            said = (self.do_send if case.what == "send" else self.do_receive)(goroutine, case)
+            goroutine.told = number, goroutine.told
+            return f"select case {number} {said}"
         if asked.has_default:
             goroutine.told = 0, None
             return "select default"
