@@ -17,8 +17,9 @@ use Rattle.type_table.specs.Scopes.{Globals, Scope}
 use Rattle.typing_rules.specs.Worths.{Worth, Typed, Constant, Nil, is_equality, is_logical, made_type, binary_worth, worth}
 use Rattle.typing_rules.specs.Expressions.{default_type}
 use Rattle.meaning.specs.Values.{Value, known}
+use Rattle.meaning.specs.Worked.{Need, Worked, ready}
 use Rattle.meaning.specs.Variables.{Blocks, scope_in}
-use Rattle.meaning.specs.Expressions.{Worked, word_in, one_word, operator_at, between, binary, compared as compared_value, value}
+use Rattle.meaning.specs.Expressions.{word_in, one_word, operator_at, between, binary, compared as compared_value, value}
 use Rattle.codegen_base.specs.declared.element.Element.{Element}
 use Rattle.codegen_base.specs.Pushes.{operator_of, valued, elements_shape, settled, between as between_plan, operates, emits}
 use Rattle.plan.specs.Plan.{Plan, Do}
@@ -78,16 +79,16 @@ equality_made symbols.LogicalAnd k e b = absurd cc
 equality_made symbols.LogicalOr k e b = absurd cc
 
 module _ (globals : Globals) (elements : List Element) (scope : Scope) (blocks : Blocks) (same : (e : Expression) → worth globals (scope_in blocks) e ≡ worth globals scope e) where
-  module _ (code : Code) (g : ℕ) (f : CodeFunction) (there : slice_get code.functions g ≡ Some f) (callers : Frames) (ls : List Word) (leave again : Option ℕ) where
+  module _ (code : Code) (Begins : Need → Frames → Type 0) (g : ℕ) (f : CodeFunction) (there : slice_get code.functions g ≡ Some f) (callers : Frames) (ls : List Word) (leave again : Option ℕ) where
     abbrev pub E : Worked Value → ValueType → Plan → Option ℕ → ℕ → List Word → List Word → Type 0
-    E o kind rest out place stack base = Evals globals.structs code g f there callers ls leave again o kind rest out place stack base
+    E o kind rest out place stack base = Evals globals code Begins g f there callers ls leave again o kind rest out place stack base
 
     abbrev pub S : Plan → ℕ → Option ℕ → Type 0
-    S plan place out = Stands globals.structs code g f there callers ls leave again plan place out
+    S plan place out = Stands globals code Begins g f there callers ls leave again plan place out
 
     -- an expression's code, whatever follows, pushes its value as one of a type
     abbrev pub P : Worked Value → ValueType → (Plan → Plan) → Type 0
-    P o kind push = Pushes globals.structs code g f there callers ls leave again o kind push
+    P o kind push = Pushes globals code Begins g f there callers ls leave again o kind push
 
     -- where an expression has a type of its own, its code pushes its value
     abbrev pub IsEmitted : Expression → Worth → Type 0
@@ -98,15 +99,15 @@ module _ (globals : Globals) (elements : List Element) (scope : Scope) (blocks :
     pub pushes_by : (e : Expression) (w : Worth) (k : ValueType) → worth globals scope e ≡ Some w → Fits w k → IsEmitted e w
         → P (value globals blocks e) k (λ rest. settled elements (Some w) k (emits globals elements scope e rest) rest)
     pushes_by e (Typed t) k is fits emitted rest out place stack on =
-        recast globals.structs code g f there callers ls leave again (value globals blocks e) t k rest out place stack stack (assignable_zeros globals.structs t k fits) (emitted t refl rest out place stack on)
+        recast globals code Begins g f there callers ls leave again (value globals blocks e) t k rest out place stack stack (assignable_zeros globals.structs t k fits) (emitted t refl rest out place stack on)
     pushes_by e (Constant z) k is fits emitted rest out place stack on =
         subst (λ o. E o k rest out place stack stack) (sym (constant_value globals scope blocks same e z is))
-        (subst (λ j. E (Ok (Int (int_wrap w64 z) ∷ [])) j rest out place stack stack) (sym fits.0) (pushed_int globals.structs code g f there callers ls leave again (int_wrap w64 z) rest out place stack on))
+        (subst (λ j. E (ready (Int (int_wrap w64 z) ∷ [])) j rest out place stack stack) (sym fits.0) (pushed_int globals code Begins g f there callers ls leave again (int_wrap w64 z) rest out place stack on))
     pushes_by e Nil k is fits emitted rest out place stack on =
         let (d, t, ch) = channel_is k fits in
         subst (λ o. E o k rest out place stack stack) (sym (nil_value globals scope blocks same e is))
-        (subst (λ j. E (Ok (Chan None ∷ [])) j rest out place stack stack) (sym ch)
-        (pushed globals.structs code g f there callers ls leave again (Chan None) (ChannelType d t) rest out place stack refl (pushes_nil code g f there callers place ls stack (elements_shape elements k) on.0) on.1))
+        (subst (λ j. E (ready (Chan None ∷ [])) j rest out place stack stack) (sym ch)
+        (pushed globals code Begins g f there callers ls leave again (Chan None) (ChannelType d t) rest out place stack refl (pushes_nil code g f there callers place ls stack (elements_shape elements k) on.0) on.1))
 
     -- ---- operators
 
@@ -120,12 +121,12 @@ module _ (globals : Globals) (elements : List Element) (scope : Scope) (blocks :
     pub two_pushed : (operator : BinaryOperator) (kind i j k : ValueType) (l r : Worked Value) (left right : Plan → Plan) → is_logical operator ≡ false → IsPlain globals.structs operator (operator_of operator kind) i j k → P l i left → P r j right
         → P (binary operator l r) k (λ rest. between_plan operator kind left right rest)
     two_pushed operator kind i j k l r left right calm p el er rest out place stack on =
-        plain globals.structs code g f there callers ls leave again operator (operator_of operator kind) i j k l r left right p (plain_beside operator calm) el er rest out place stack
+        plain globals code Begins g f there callers ls leave again operator (operator_of operator kind) i j k l r left right p (plain_beside operator calm) el er rest out place stack
         (subst (λ plan. S plan place out) (plain_plan operator calm kind left right rest) on)
 
     truths : (operator : BinaryOperator) (l r : Worked Value) (left right : Plan → Plan) → is_logical operator ≡ true → P l BoolType left → P r BoolType right → P (binary operator l r) BoolType (λ rest. between_plan operator BoolType left right rest)
-    truths symbols.LogicalAnd l r left right e el er = both globals.structs code g f there callers ls leave again l r left right el er
-    truths symbols.LogicalOr l r left right e el er = either globals.structs code g f there callers ls leave again l r left right el er
+    truths symbols.LogicalAnd l r left right e el er = both globals code Begins g f there callers ls leave again l r left right el er
+    truths symbols.LogicalOr l r left right e el er = either globals code Begins g f there callers ls leave again l r left right el er
     truths symbols.Add l r left right e el er = absurd cc
     truths symbols.Subtract l r left right e el er = absurd cc
     truths symbols.Multiply l r left right e el er = absurd cc
@@ -157,11 +158,11 @@ module _ (globals : Globals) (elements : List Element) (scope : Scope) (blocks :
         let (compares, bool) = two_constants operator a b k made in
         let (t, is) = constants_compare operator compares a b in
         let worked = binary operator (value globals blocks l) (value globals blocks r) in
-        let gives : compared_value operator (Some (Constant a)) (Some (Constant b)) worked ≡ Ok (Truth t ∷ []) =
+        let gives : compared_value operator (Some (Constant a)) (Some (Constant b)) worked ≡ ready (Truth t ∷ []) =
         ap (λ c. if c then one_word (applied (operator_at operator (Int a)) (Int a) (Int b)) else worked) compares ∙ ap one_word is in
         subst (λ o. E o k rest out place stack stack) (sym gives)
-        (subst (λ j. E (Ok (Truth t ∷ [])) j rest out place stack stack) (sym bool)
-        (pushed_bool globals.structs code g f there callers ls leave again t rest out place stack (subst (λ o. S (Do (valued o) rest) place out) is on)))
+        (subst (λ j. E (ready (Truth t ∷ [])) j rest out place stack stack) (sym bool)
+        (pushed_bool globals code Begins g f there callers ls leave again t rest out place stack (subst (λ o. S (Do (valued o) rest) place out) is on)))
 
     -- `nil` to the left of a channel
     nil_goes : (operator : BinaryOperator) (l r : Expression) (t k : ValueType) → worth globals scope l ≡ Some Nil → binary_worth operator Nil (Typed t) ≡ Ok (Typed k) → IsEmitted r (Typed t) → Whole operator l r Nil (Typed t) k
@@ -170,13 +171,13 @@ module _ (globals : Globals) (elements : List Element) (scope : Scope) (blocks :
         let op = operator_of operator t in
         subst (λ o. E (binary operator o (value globals blocks r)) k rest out place stack stack) (sym (nil_value globals scope blocks same l is))
         (subst (λ o. E o k rest out place stack stack) (sym (plain_beside operator (equality_plain operator n.compares) (Chan None) (value globals blocks r)))
-        (bind globals.structs code g f there callers ls leave again (value globals blocks r) (λ b. between operator (Chan None) (word_in b)) t k (Do (instrs.Nil (elements_shape elements t)) (Do (instrs.Apply op) rest)) rest out out place stack stack
+        (bind globals code Begins g f there callers ls leave again (value globals blocks r) (λ b. between operator (Chan None) (word_in b)) t k (Do (instrs.Nil (elements_shape elements t)) (Do (instrs.Apply op) rest)) rest out out place stack stack
         (emitted t refl (Do (instrs.Nil (elements_shape elements t)) (Do (instrs.Apply op) rest)) out place stack on)
         (λ v like to on1.
         let (c, single) = is_channel globals.structs n.direction n.carried v (subst (λ j. Like globals.structs j v) n.channel like) in
         subst (λ (x : Value). E (between operator (Chan None) (word_in x)) k rest out to (stack ++ x) stack) (sym single)
-        (behind_slip globals.structs code g f there callers ls leave again (between operator (Chan None) (Chan c)) k rest out to (stack ++ Chan c ∷ []) stack (to + 1) (stack ++ (Chan c ∷ (Chan None ∷ [])))
-        (subst (λ (s : Words). Slip globals.structs code g f there callers ls to (stack ++ Chan c ∷ []) (to + 1) s) (append_assoc stack (Chan c ∷ []) (Chan None ∷ [])) (pushes_nil code g f there callers to ls (stack ++ Chan c ∷ []) (elements_shape elements t) on1.0))
+        (behind_slip globals code Begins g f there callers ls leave again (between operator (Chan None) (Chan c)) k rest out to (stack ++ Chan c ∷ []) stack (to + 1) (stack ++ (Chan c ∷ (Chan None ∷ [])))
+        (subst (λ (s : Words). Slip globals code Begins g f there callers ls to (stack ++ Chan c ∷ []) (to + 1) s) (append_assoc stack (Chan c ∷ []) (Chan None ∷ [])) (pushes_nil code g f there callers to ls (stack ++ Chan c ∷ []) (elements_shape elements t) on1.0))
         (swapped n.compares n.direction n.carried n.channel n.gives c (to + 1) on1.1))))) where
           swapped : is_equality operator ≡ true → (d : Direction) (u : ValueType) → t ≡ ChannelType d u → k ≡ BoolType → (c : Option ℕ) (at : ℕ) → S (Do (instrs.Apply (operator_of operator t)) rest) at out
               → E (between operator (Chan None) (Chan c)) k rest out at (stack ++ (Chan c ∷ (Chan None ∷ []))) stack
@@ -184,7 +185,7 @@ module _ (globals : Globals) (elements : List Element) (scope : Scope) (blocks :
               let p = channels globals.structs operator d d u u eq in
               subst (λ o. E o k rest out at (stack ++ (Chan c ∷ (Chan None ∷ []))) stack) (sym (nil_swaps operator d u eq c))
               (subst (λ j. E (one_word (applied (operator_of operator (ChannelType d u)) (Chan c) (Chan None))) j rest out at (stack ++ (Chan c ∷ (Chan None ∷ []))) stack) (equality_made operator k eq bool)
-              (operated globals.structs code g f there callers ls leave again (Chan c ∷ (Chan None ∷ [])) (operator_of operator (ChannelType d u)) (applied (operator_of operator (ChannelType d u)) (Chan c) (Chan None)) (made_type operator) rest out at stack refl p.two
+              (operated globals code Begins g f there callers ls leave again (Chan c ∷ (Chan None ∷ [])) (operator_of operator (ChannelType d u)) (applied (operator_of operator (ChannelType d u)) (Chan c) (Chan None)) (made_type operator) rest out at stack refl p.two
               (p.gives (Chan c) (Chan None) refl refl) (subst (λ j. S (Do (instrs.Apply (operator_of operator j)) rest) at out) is-channel on)))
 
     -- a value that has a type, to the left of an operand

@@ -1,0 +1,188 @@
+-- A goroutine of the source and one of the code that are near each other stay so, whatever they do and are told: by what is so of each
+-- task alone.
+use Rattle.std.proofs.Common.{◌≡◌, ℕ, suc, Bool, true, false, cond, List, [], ◌∷◌, ◌++◌, length, Some, refl, sym, ap, subst, slice_get}
+use Rattle.std.specs.Prelude.{nat_lt}
+use Rattle.syntax.specs.Tree.{Function, File}
+use Rattle.bytecode.specs.Code.{Code}
+use Rattle.bytecode.specs.Machine.{Frame as CodeFrame, Frames as CodeFrames, begun as code_begun, returned, code_next, code_answer, code_kind}
+use Rattle.word.specs.declared.limits.TheConstants.{MAX_DEPTH}
+use Rattle.word.specs.declared.panic.Panic.TheVariants.{CallDepth}
+use Rattle.word.specs.Values.{Request, Reply, Panic}
+use Rattle.word.specs.Kinds.{Next, Ticks, Asks, Suits}
+use Rattle.word.specs.Related.{Slips, here, more, Matches, Starts}
+use Rattle.typing_rules.specs.Calls.{result_of}
+use Rattle.meaning.specs.Values.{Value, words_like}
+use Rattle.meaning.specs.Worked.{Need, Asking, Calling, Given, Told, Yielded, Reached, Came, Fails, Needs, Worked}
+use Rattle.meaning.specs.Variables.{Blocks}
+use Rattle.meaning.specs.Expressions.{zero_result}
+use Rattle.meaning.specs.Tasks.{Task, Frame, Frames, frame, with_given, Course, Goes, Moves, GivesBack}
+use Rattle.meaning.specs.Source.{globals, functions, entered_with, tasks_work, give_back, enters, reached, source_next, source_kind}
+use Rattle.meaning.proofs.Fair.{IsFair, AllTaken, IsLast}
+use Rattle.plan.proofs.Steps.{slips_more}
+use Rattle.codegen_base.proofs.Gave.{Halts, through, Gave, Ends, Follows}
+
+module _ (file : File) (code : Code) (Sat : ℕ → Frame → CodeFrames → CodeFrames → Type 0) (fair : (blocks : Blocks) (tasks : List Task) → IsFair (tasks_work (globals file) blocks tasks)) where
+  abbrev work : Frame → Worked Course
+  work top = tasks_work (globals file) top.blocks top.tasks
+
+  abbrev fresh : Frame → Frame
+  fresh top = frame top.blocks top.tasks
+
+  abbrev Given' : CodeFrames → List Given → CodeFrames → Type 0
+  Given' c given d = Gave (globals file) code c given d
+
+  -- ---- one thing more is given to both
+
+  pub told_more : (c : CodeFrames) (given : List Given) (d e : CodeFrames) (q : Request) (reply : Reply) → Given' c given d → Slips (code_next code) d e → code_next code e ≡ Asks q → Suits q reply → Given' c (given ++ Told reply ∷ []) (code_answer code e reply)
+  told_more c [] d e q reply g s is suits = (e, q, slips_back c d e g s is, is, suits, here) where
+    slips_back : (c d e : CodeFrames) → Slips (code_next code) d c → Slips (code_next code) d e → code_next code e ≡ Asks q → Slips (code_next code) c e
+    slips_back c d e g s is = through (code_next code) d c e (subst Halts (sym is) tt) g s
+  told_more c (Told r ∷ given) d e q reply (e', q', s', is', suits', g) s is suits = (e', q', s', is', suits', told_more (code_answer code e' r) given d e q reply g s is suits)
+  told_more c (Yielded v ∷ given) d e q reply (e', x, b, bs, s', is', g) s is suits = (e', x, b, bs, s', is', told_more _ given d e q reply g s is suits)
+
+  abbrev handed : CodeFrame → CodeFrame → Value → CodeFrame
+  handed x b v = record b { stack = b.stack ++ words_like (zero_result (globals file) (result_of (globals file) x.function)) v }
+
+  pub yielded_more : (c : CodeFrames) (given : List Given) (d e : CodeFrames) (x b : CodeFrame) (bs : CodeFrames) (v : Value) → Given' c given d → Slips (code_next code) d e → code_next code e ≡ Ticks (x ∷ (b ∷ bs)) → Given' c (given ++ Yielded v ∷ []) (handed x b v ∷ bs)
+  yielded_more c [] d e x b bs v g s is = (e, x, b, bs, through (code_next code) d c e (subst Halts (sym is) tt) g s, is, here)
+  yielded_more c (Told r ∷ given) d e x b bs v (e', q', s', is', suits', g) s is = (e', q', s', is', suits', yielded_more (code_answer code e' r) given d e x b bs v g s is)
+  yielded_more c (Yielded w ∷ given) d e x b bs v (e', x', b', bs', s', is', g) s is = (e', x', b', bs', s', is', yielded_more _ given d e x b bs v g s is)
+
+  -- ---- near states
+
+  -- a function within its task, given so much; the code of its callers is this
+  pub record Within (n : ℕ) (top : Frame) (ds d : CodeFrames) : Type 0 where
+    pub from : CodeFrames
+    pub sat : Sat n (fresh top) ds from
+    pub gave : Given' from top.given d
+    pub taken : AllTaken (work top top.given)
+
+  -- functions that wait, for one of this number
+  abbrev pub AllWait : ℕ → Frames → CodeFrames → Type 0
+  AllWait n [] [] = Unit {0}
+  AllWait n (c ∷ cs) (b ∷ bs) =
+      (m : ℕ) × (from d e : CodeFrames) × (x : CodeFrame) × Sat m (fresh c) bs from × Given' from c.given d × Slips (code_next code) d e × (code_next code e ≡ Ticks (x ∷ (b ∷ bs))) × (x.function ≡ n)
+      × ((need : Need) × (work c c.given ≡ Needs need)) × AllWait m cs bs
+  AllWait n cs ds = ⊥
+
+  abbrev pub Near : Frames → CodeFrames → Type 0
+  Near [] d = ⊥
+  Near (top ∷ cs) d = (n : ℕ) × (ds : CodeFrames) × Within n top ds d × AllWait n cs ds
+
+  wait_length : (n : ℕ) (cs : Frames) (ds : CodeFrames) → AllWait n cs ds → length cs ≡ length ds
+  wait_length n [] [] w = refl
+  wait_length n [] (d ∷ ds) w = absurd w
+  wait_length n (c ∷ cs) [] w = absurd w
+  wait_length n (c ∷ cs) (d ∷ ds) (m, from, d0, e, x, sat, gave, slips, is, same, need, w) = ap suc (wait_length m cs ds w)
+
+  -- ---- what is so of each task
+
+  abbrev pub Begins : Need → CodeFrames → Type 0
+  Begins (Asking q) e = Starts (source_kind file) (code_kind code) Near q
+  Begins (Calling n vs) e =
+      (F : Function) × (slice_get (functions file) n ≡ Some F) × ((x : CodeFrame) (bs : CodeFrames) → code_next code e ≡ Ticks (x ∷ bs) → (x.function ≡ n) × Sat n (entered_with (globals file) F vs) bs (x ∷ bs))
+
+  abbrev pub Lands : ℕ → CodeFrames → Course → CodeFrames → Type 0
+  Lands n ds (Goes top) d = (e : CodeFrames) × Slips (code_next code) d e × Sat n (fresh top) ds e × (top.given ≡ [])
+  Lands n ds (Moves top) d = (e t : CodeFrames) × Slips (code_next code) d e × (code_next code e ≡ Ticks t) × Sat n (fresh top) ds t × (top.given ≡ [])
+  Lands n ds (GivesBack v) d = (e : CodeFrames) × Slips (code_next code) d e × (code_next code e ≡ returned [] (words_like (zero_result (globals file) (result_of (globals file) n)) v) ds)
+
+  -- ---- steps
+
+  module _ (sat_follows : (n : ℕ) (top : Frame) (ds c : CodeFrames) → Sat n (fresh top) ds c → Follows (globals file) code Begins ds (work top) (Lands n ds) c) where
+    abbrev M : Frames → Next Frames → CodeFrames → Type 0
+    M s x c = Matches (source_kind file) (code_kind code) Near s x c
+
+    begins_within : (n : ℕ) (top : Frame) (ds e : CodeFrames) → top.given ≡ [] → Sat n (fresh top) ds e → Within n top ds e
+    begins_within n top ds e none sat = record {
+      from = e;
+      sat = sat;
+      gave = subst (λ (g : List Given). Given' e g e) (sym none) here;
+      taken = subst (λ (g : List Given). AllTaken (work top g)) (sym none) (fair top.blocks top.tasks).none;
+    }
+
+    -- what was given last was needed
+    last_taken : (top : Frame) (need : Need) (one : Given) → work top top.given ≡ Needs need → AllTaken (work (with_given top one) (with_given top one).given)
+    last_taken top need one is = go (work top top.given) is ((fair top.blocks top.tasks).last top.given one) where
+      go : (r : Reached Course) → r ≡ Needs need → IsLast r (work top (top.given ++ one ∷ [])) → AllTaken (work top (top.given ++ one ∷ []))
+      go (Came course left) e l = absurd cc
+      go (Fails cause) e l = absurd cc
+      go (Needs other) e l = l
+
+    back_goes : (n : ℕ) (top : Frame) (v : Value) (cs : Frames) (ds d e : CodeFrames) → AllWait n cs ds → Slips (code_next code) d e → code_next code e ≡ returned [] (words_like (zero_result (globals file) (result_of (globals file) n)) v) ds → M (top ∷ cs) (give_back v cs) d
+    back_goes n top v [] [] d e w s is = (e, s, is, (λ reply suits. absurd suits), tt)
+    back_goes n top v [] (b ∷ bs) d e w s is = absurd w
+    back_goes n top v (c ∷ cs) [] d e w s is = absurd w
+    back_goes n top v (c ∷ cs) (b ∷ bs) d e (m, from, d', e', x, sat, gave, slips, ticks, same, need, w) s is =
+        let result = words_like (zero_result (globals file) (result_of (globals file) n)) v in
+        let after : CodeFrames = record b { stack = b.stack ++ result } ∷ bs in
+        let given = yielded_more from c.given d' e' x b bs v gave slips ticks in (
+          after,
+          slips_more (code_next code) d e after s (more is here),
+          (
+            m,
+            bs,
+            record {
+              from = from;
+              sat = sat;
+              gave = subst (λ (k : ℕ). Given' from (c.given ++ Yielded v ∷ []) (record b { stack = b.stack ++ words_like (zero_result (globals file) (result_of (globals file) k)) v } ∷ bs)) same given;
+              taken = last_taken c need.0 (Yielded v) need.1;
+            },
+            w,
+          ),
+        )
+
+    enters_goes : (deep : Bool) (n m : ℕ) (top : Frame) (cs : Frames) (vs : List Value) (ds d e : CodeFrames) (F : Function) (x : CodeFrame) (b : CodeFrame) → Within n top ds d → AllWait n cs ds → (need : Need) → work top top.given ≡ Needs need → Slips (code_next code) d e
+        → code_next code e ≡ cond deep (Ticks (x ∷ (b ∷ ds))) (Asks (Panic CallDepth)) → ((x : CodeFrame) (bs : CodeFrames) → code_next code e ≡ Ticks (x ∷ bs) → (x.function ≡ m) × Sat m (entered_with (globals file) F vs) bs (x ∷ bs))
+        → M (top ∷ cs) (cond deep (Ticks (entered_with (globals file) F vs ∷ (top ∷ cs))) (Asks (Panic CallDepth))) d
+    enters_goes true n m top cs vs ds d e F x b within w need needs s is starts =
+        let (same, sat) = starts x (b ∷ ds) is in (
+          e,
+          x ∷ (b ∷ ds),
+          s,
+          is,
+          (
+            m,
+            b ∷ ds,
+            begins_within m (entered_with (globals file) F vs) (b ∷ ds) (x ∷ (b ∷ ds)) refl sat,
+            (n, within.from, d, e, x, within.sat, within.gave, s, is, same, (need, needs), w),
+          ),
+        )
+    enters_goes false n m top cs vs ds d e F x b within w need needs s is starts = (e, s, is, (λ reply suits. absurd suits), tt)
+
+    pub near_goes : (s : Frames) (d : CodeFrames) → Near s d → M s (source_next file s) d
+    near_goes [] d near = absurd near
+    near_goes (top ∷ cs) d (n, ds, within, w) = go (work top top.given) refl ((sat_follows n top ds within.from within.sat).ends top.given d within.gave) within.taken where
+      go : (r : Reached Course) → work top top.given ≡ r → Ends (globals file) code Begins ds (Lands n ds) r d → AllTaken r → M (top ∷ cs) (reached file top cs r) d
+      go (Came (Goes next) left) is (c, (e, s, sat, none), gave) taken =
+          let g : Slips (code_next code) d c = subst (λ (l : List Given). Given' c l d) taken gave in
+          (e, slips_more (code_next code) d c e g s, (n, ds, begins_within n next ds e none sat, w))
+      go (Came (Moves next) left) is (c, (e, t, s, ticks, sat, none), gave) taken =
+          let g : Slips (code_next code) d c = subst (λ (l : List Given). Given' c l d) taken gave in
+          (e, t, slips_more (code_next code) d c e g s, ticks, (n, ds, begins_within n next ds t none sat, w))
+      go (Came (GivesBack v) left) is (c, (e, s, gives), gave) taken =
+          let g : Slips (code_next code) d c = subst (λ (l : List Given). Given' c l d) taken gave in
+          back_goes n top v cs ds d e w (slips_more (code_next code) d c e g s) gives
+      go (Fails cause) is (e, s, asks) taken = (e, s, asks, (λ reply suits. absurd suits), tt)
+      go (Needs (Asking q)) is (e, s, (asks, begins)) taken = (
+        e,
+        s,
+        asks,
+        (λ reply suits. (
+          n,
+          ds,
+          record {
+            from = within.from;
+            sat = within.sat;
+            gave = told_more within.from top.given d e q reply within.gave s asks suits;
+            taken = last_taken top (Asking q) (Told reply) is;
+          },
+          w,
+        )),
+        begins,
+      )
+      go (Needs (Calling m vs)) is (e, s, (args, b, callee, enters', (F, has, starts))) taken =
+          let deep : length (top ∷ cs) ≡ length (b ∷ ds) = ap suc (wait_length n cs ds w) in
+          subst (λ o. M (top ∷ cs) (enters file (top ∷ cs) vs o) d) (sym has)
+          (subst (λ k. M (top ∷ cs) (cond (nat_lt k MAX_DEPTH) (Ticks (entered_with (globals file) F vs ∷ (top ∷ cs))) (Asks (Panic CallDepth))) d) (sym deep)
+          (enters_goes (nat_lt (length (b ∷ ds)) MAX_DEPTH) n m top cs vs ds d e F (code_begun callee.locals m args) b within w (Calling m vs) is s enters' starts))
