@@ -17,11 +17,10 @@ use Rattle.meaning.specs.Variables.{Binding, Block, Blocks, in_block, or_outer, 
 use Rattle.codegen_base.specs.Statements.{Spot, Dropped, Local}
 use Rattle.plan.proofs.Words.{Words, put_length}
 use Rattle.codegen_base.proofs.Seen.{Like, seen_one, seen_block, seen, Rising, rising_new, Begins, found_below, seen_lookup, seen_new, seen_assign}
-use Rattle.codegen_base.proofs.Static.{Nested, IsPlaced, known_new}
+use Rattle.codegen_base.proofs.Static.{Nested, IsPlaced, known_new, Holding}
 use Rattle.codegen_base.proofs.Likeness.{like_append, like_parts, like_long, AreLike, all_words_of}
 use Rattle.codegen_base.proofs.Fields.{AllWide, Holds, held_within}
 use Rattle.codegen_base.proofs.Stores.{put_spot, spot_words, put_forward}
-use Rattle.codegen_base.proofs.Expressions.{Holding}
 
 module _ (structs : Structs) where
   -- ---- variables that hold values of their types

@@ -17,7 +17,7 @@ use Rattle.typing_rules.specs.Worths.{Worth, Typed, Constant, Nil, is_equality, 
 use Rattle.codegen_base.specs.declared.element.Element.{Element}
 use Rattle.codegen_base.proofs.Noted.{Noted}
 use Rattle.codegen_base.proofs.Splits.{Operands, Ints, Bools, Channels, Truths, unary_typed, typed_operands, left_operand, right_operand, nil_right, nil_left, two_constants, constant_untyped}
-use Rattle.codegen_base.proofs.Expressions.{typed_same, typed_variable}
+use Rattle.codegen_base.proofs.Typing.{typed_same, typed_variable}
 
 module _ (elements : List Element) where
   either_noted : (b : Bool) → Noted elements (if b then BoolType else IntType)

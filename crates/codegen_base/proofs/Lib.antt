@@ -11,6 +11,7 @@ pub mod Noted
 pub mod Makes
 pub mod Called
 pub mod Gave
+pub mod Running
 pub mod Evaluates
 pub mod Told
 pub mod Expressions

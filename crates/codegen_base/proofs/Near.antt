@@ -19,7 +19,7 @@ use Rattle.meaning.specs.Tasks.{Task, Frame, Frames, frame, with_given, Course, 
 use Rattle.meaning.specs.Source.{globals, functions, entered_with, tasks_work, give_back, enters, reached, source_next, source_kind}
 use Rattle.meaning.proofs.Fair.{IsFair, AllTaken, IsLast}
 use Rattle.plan.proofs.Steps.{slips_more}
-use Rattle.codegen_base.proofs.Gave.{Halts, through, Gave, Ends, Follows}
+use Rattle.codegen_base.proofs.Gave.{Halts, through, Gave, Ends, Follows, Context}
 
 module _ (file : File) (code : Code) (Sat : ℕ → Frame → CodeFrames → CodeFrames → Type 0) (fair : (blocks : Blocks) (tasks : List Task) → IsFair (tasks_work (globals file) blocks tasks)) where
   abbrev work : Frame → Worked Course
@@ -82,6 +82,9 @@ module _ (file : File) (code : Code) (Sat : ℕ → Frame → CodeFrames → Cod
   Begins (Calling n vs) e =
       (F : Function) × (slice_get (functions file) n ≡ Some F) × ((x : CodeFrame) (bs : CodeFrames) → code_next code e ≡ Ticks (x ∷ bs) → (x.function ≡ n) × Sat n (entered_with (globals file) F vs) bs (x ∷ bs))
 
+  abbrev pub context : CodeFrames → Context (globals file) code
+  context ds = record { Begins = Begins; callers = ds }
+
   abbrev pub Lands : ℕ → CodeFrames → Course → CodeFrames → Type 0
   Lands n ds (Goes top) d = (e : CodeFrames) × Slips (code_next code) d e × Sat n (fresh top) ds e × (top.given ≡ [])
   Lands n ds (Moves top) d = (e t : CodeFrames) × Slips (code_next code) d e × (code_next code e ≡ Ticks t) × Sat n (fresh top) ds t × (top.given ≡ [])
@@ -89,7 +92,7 @@ module _ (file : File) (code : Code) (Sat : ℕ → Frame → CodeFrames → Cod
 
   -- ---- steps
 
-  module _ (sat_follows : (n : ℕ) (top : Frame) (ds c : CodeFrames) → Sat n (fresh top) ds c → Follows (globals file) code Begins ds (work top) (Lands n ds) c) where
+  module _ (sat_follows : (n : ℕ) (top : Frame) (ds c : CodeFrames) → Sat n (fresh top) ds c → Follows (context ds) (work top) (Lands n ds) c) where
     abbrev M : Frames → Next Frames → CodeFrames → Type 0
     M s x c = Matches (source_kind file) (code_kind code) Near s x c
 
@@ -153,7 +156,7 @@ module _ (file : File) (code : Code) (Sat : ℕ → Frame → CodeFrames → Cod
     pub near_goes : (s : Frames) (d : CodeFrames) → Near s d → M s (source_next file s) d
     near_goes [] d near = absurd near
     near_goes (top ∷ cs) d (n, ds, within, w) = go (work top top.given) refl ((sat_follows n top ds within.from within.sat).ends top.given d within.gave) within.taken where
-      go : (r : Reached Course) → work top top.given ≡ r → Ends (globals file) code Begins ds (Lands n ds) r d → AllTaken r → M (top ∷ cs) (reached file top cs r) d
+      go : (r : Reached Course) → work top top.given ≡ r → Ends (context ds) (Lands n ds) r d → AllTaken r → M (top ∷ cs) (reached file top cs r) d
       go (Came (Goes next) left) is (c, (e, s, sat, none), gave) taken =
           let g : Slips (code_next code) d c = subst (λ (l : List Given). Given' c l d) taken gave in
           (e, slips_more (code_next code) d c e g s, (n, ds, begins_within n next ds e none sat, w))

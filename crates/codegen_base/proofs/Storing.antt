@@ -1,7 +1,6 @@
 -- The code that stores values puts them where they go.
-use Rattle.std.proofs.Common.{◌≡◌, ℕ, zero, suc, ◌+◌, List, [], ◌∷◌, ◌++◌, length, take, drop, Option, Some, sym, ap, ◌∙◌, subst, arith, append_assoc, length-take, length-drop, slice_get}
+use Rattle.std.proofs.Common.{◌≡◌, ℕ, zero, suc, ◌+◌, List, [], ◌∷◌, ◌++◌, length, take, drop, Option, sym, ap, ◌∙◌, subst, arith, append_assoc, length-take, length-drop}
 use Rattle.std.proofs.lemmas.List.{append-nil, take-append-drop}
-use Rattle.bytecode.specs.Code.{Function as CodeFunction, Code}
 use Rattle.bytecode.specs.Machine.{Frames, code_next}
 use Rattle.word.specs.Related.{Slips, here}
 use Rattle.codegen_base.specs.Pushes.{drops}
@@ -11,8 +10,13 @@ use Rattle.plan.proofs.Words.{Words, put_length}
 use Rattle.plan.proofs.Places.{On}
 use Rattle.plan.proofs.Steps.{spots as frames, slips_more, discards, stores as stores_words}
 use Rattle.codegen_base.proofs.Stores.{spot_words, put_spot, put_backward, all_words, AreThere}
+use Rattle.codegen_base.proofs.Running.{Compiled, Running}
+use Rattle.type_table.specs.Scopes.{Globals}
 
-module _ (code : Code) (g : ℕ) (f : CodeFunction) (there : slice_get code.functions g ≡ Some f) (callers : Frames) (leave again : Option ℕ) where
+module _ {globals : Globals} {program : Compiled globals} (running : Running program) (leave again : Option ℕ) where
+  open program use {code}
+  open running use {number as g, function as f, there, context.{callers}}
+
   abbrev Place : ℕ → Words → Words → Frames
   Place place ls stack = frames code g f there callers place ls stack
 

@@ -23,6 +23,7 @@ use Rattle.typing_rules.specs.Flaws.{Nodes, IsBroken, IsExceeded, IsMisuse}
 use Rattle.typing_rules.specs.Worths.{Worth, Typed, Constant, Nil, kind_of, is_operand, is_int, literal, unary_worth, binary_worth, named_worth, selected_worth, type_of_field, literal_struct, element_of, worth}
 use Rattle.typing_rules.specs.Expressions.{nodes_of, FitHas, Fails, UnaryHas, BinaryHas, SelectionHas, LiteralHas, TypeHas, MadeHas, CalleeHas, YieldHas, ResultHas, ChannelHas, ExpressionHas}
 use Rattle.typing_rules.proofs.ExpressionNodes.{expression_positive}
+use Rattle.std.proofs.lemmas.Option.{same_Some}
 
 -- nothing of this kind is wrong
 abbrev pub Free : (Flaw → Type 0) → Type 0
@@ -95,6 +96,23 @@ worth_named true n o known e = (Typed BoolType, refl)
 worth_named false true o known e = (Nil, refl)
 worth_named false false None known e = absurd cc
 worth_named false false (Some v) known e = let k = known v refl in (Typed k.0, ap (option_map Typed) k.1)
+
+abbrev worth_type : Option Worth → Option ValueType
+worth_type None = None
+worth_type (Some (Typed t)) = Some t
+worth_type (Some (Constant z)) = None
+worth_type (Some Nil) = None
+
+pub typed_same : (s t : ValueType) → Some (Typed s) ≡ Some (Typed t) → s ≡ t
+typed_same s t e = same_Some s t (ap worth_type e)
+
+-- a name with a type is a variable, unless it is a truth value
+pub typed_variable : (o : Option Variable) (k : ValueType) → option_map Typed (kind_of o) ≡ Some (Typed k) → (v : Variable) × (o ≡ Some v) × (v.kind ≡ Some k)
+typed_variable None k e = absurd cc
+typed_variable (Some v) k e = (v, refl, go v.kind e) where
+  go : (o : Option ValueType) → option_map Typed o ≡ Some (Typed k) → o ≡ Some k
+  go None e = absurd cc
+  go (Some t) e = ap worth_type e
 
 -- the types of a file's fields and results are known
 pub record TypesKnown (globals : Globals) : Type 0 where
