@@ -25,15 +25,16 @@ use Rattle.codegen_base.proofs.Gave.{Follows, stays, behind, bind as follows_the
 use Rattle.codegen_base.proofs.Seen.{Like}
 use Rattle.codegen_base.proofs.Likeness.{is_bool}
 use Rattle.codegen_base.proofs.Operators.{Gives, IsPlain}
-use Rattle.codegen_base.proofs.Running.{Compiled, Running, Standing}
+use Rattle.codegen_base.proofs.Running.{Compiled, Coded, Running, Standing}
 
 pub range_part : (a n : ℕ) (ls : Words) → slice_range ls a (a + n) ≡ part a n ls
 range_part a n ls = let e : a + n - a ≡ n = omega arith in ap (λ m. take m (drop a ls)) e
 
 -- the code of a file: where it is that of its expressions, it works out what they do
-module _ {globals : Globals} {program : Compiled globals} {running : Running program} (standing : Standing running) where
+module _ {globals : Globals} {program : Compiled globals} {coded : Coded program} {running : Running coded} (standing : Standing running) where
   open program use {code}
-  open running use {number as g, function as f, there, context, context.{callers}}
+  open coded use {number as g, function as f, there}
+  open running use {context, context.{callers}}
   open standing use {locals as ls, leave, again}
 
   abbrev structs : Structs

@@ -30,7 +30,7 @@ use Rattle.codegen_base.proofs.Static.{seen_alike, found_like}
 use Rattle.codegen_base.proofs.Likeness.{like_long, kinds_long}
 use Rattle.codegen_base.proofs.Fields.{field_held, held_within, held_like}
 use Rattle.codegen_base.proofs.Evaluates.{range_part, at, Slip, then_slip, Stands, Evals, bind, pushed_bool, lies}
-use Rattle.codegen_base.proofs.Running.{Compiled, Running, Standing}
+use Rattle.codegen_base.proofs.Running.{Compiled, Coded, Running, Standing}
 use Rattle.codegen_base.proofs.Typing.{typed_same, typed_variable}
 
 unblanked : (scope : Scope) (name : List ℕ) (v : Variable) → variable_named scope name ≡ Some v → last_named scope.variables name ≡ Some v
@@ -39,9 +39,10 @@ unblanked scope name v e = go (is_blank name) e where
   go true e = absurd cc
   go false e = e
 
-module _ {globals : Globals} {program : Compiled globals} {running : Running program} (standing : Standing running) where
+module _ {globals : Globals} {program : Compiled globals} {coded : Coded program} {running : Running coded} (standing : Standing running) where
   open program use {elements, code, wide as all}
-  open running use {number as g, function as f, there, context, context.{callers}}
+  open coded use {number as g, function as f, there}
+  open running use {context, context.{callers}}
   open standing use {locals as ls, scope, begins as ns, placed, room, holding}
 
   -- ---- zeros

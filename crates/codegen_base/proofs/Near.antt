@@ -1,27 +1,32 @@
 -- A goroutine of the source and one of the code that are near each other stay so, whatever they do and are told: by what is so of each
 -- task alone.
-use Rattle.std.proofs.Common.{◌≡◌, ℕ, suc, Bool, true, false, cond, List, [], ◌∷◌, ◌++◌, length, Some, refl, sym, ap, subst, slice_get}
+use Rattle.std.proofs.Common.{◌≡◌, ℕ, suc, Bool, true, false, cond, List, [], ◌∷◌, ◌++◌, length, Some, refl, sym, ap, subst, slice_get, map, ◌∙◌}
 use Rattle.std.specs.Prelude.{nat_lt}
 use Rattle.syntax.specs.Tree.{Function, File}
-use Rattle.bytecode.specs.Code.{Code}
+use Rattle.bytecode.specs.Code.{Function as CodeFunction}
 use Rattle.bytecode.specs.Machine.{Frame as CodeFrame, Frames as CodeFrames, begun as code_begun, returned, code_next, code_answer, code_kind}
 use Rattle.word.specs.declared.limits.TheConstants.{MAX_DEPTH}
 use Rattle.word.specs.declared.panic.Panic.TheVariants.{CallDepth}
 use Rattle.word.specs.Values.{Request, Reply, Panic}
+use Rattle.word.specs.Values as requests
 use Rattle.word.specs.Kinds.{Next, Ticks, Asks, Suits}
 use Rattle.word.specs.Related.{Slips, here, more, Matches, Starts}
-use Rattle.typing_rules.specs.Calls.{result_of}
-use Rattle.meaning.specs.Values.{Value, words_like}
+use Rattle.typing_rules.specs.Calls.{result_of, parameters_of}
+use Rattle.meaning.specs.Values.{Value, words_like, known}
 use Rattle.meaning.specs.Worked.{Need, Asking, Calling, Given, Told, Yielded, Reached, Came, Fails, Needs, Worked}
-use Rattle.meaning.specs.Variables.{Blocks}
 use Rattle.meaning.specs.Expressions.{zero_result}
-use Rattle.meaning.specs.Tasks.{Task, Frame, Frames, frame, with_given, Course, Goes, Moves, GivesBack}
+use Rattle.meaning.specs.Tasks.{Frame, Frames, frame, with_given, Course, Goes, Moves, GivesBack}
 use Rattle.meaning.specs.Source.{globals, functions, entered_with, tasks_work, give_back, enters, reached, source_next, source_kind}
-use Rattle.meaning.proofs.Fair.{IsFair, AllTaken, IsLast}
+use Rattle.meaning.proofs.Fair.{AllTaken, IsLast}
 use Rattle.plan.proofs.Steps.{slips_more}
 use Rattle.codegen_base.proofs.Gave.{Halts, through, Gave, Ends, Follows, Context}
+use Rattle.codegen_base.proofs.Running.{Compiled, Coded, Running, IsCalm}
+use Rattle.codegen_base.proofs.Likeness.{AreLike, all_words_of}
+use Rattle.meaning.proofs.FairTasks.{tasks_fair}
 
-module _ (file : File) (code : Code) (Sat : ℕ → Frame → CodeFrames → CodeFrames → Type 0) (fair : (blocks : Blocks) (tasks : List Task) → IsFair (tasks_work (globals file) blocks tasks)) where
+module _ (file : File) (program : Compiled (globals file)) (Sat : ℕ → Frame → CodeFrames → CodeFrames → Type 0) where
+  open program use {code}
+
   abbrev work : Frame → Worked Course
   work top = tasks_work (globals file) top.blocks top.tasks
 
@@ -101,12 +106,12 @@ module _ (file : File) (code : Code) (Sat : ℕ → Frame → CodeFrames → Cod
       from = e;
       sat = sat;
       gave = subst (λ (g : List Given). Given' e g e) (sym none) here;
-      taken = subst (λ (g : List Given). AllTaken (work top g)) (sym none) (fair top.blocks top.tasks).none;
+      taken = subst (λ (g : List Given). AllTaken (work top g)) (sym none) (tasks_fair (globals file) top.blocks top.tasks).none;
     }
 
     -- what was given last was needed
     last_taken : (top : Frame) (need : Need) (one : Given) → work top top.given ≡ Needs need → AllTaken (work (with_given top one) (with_given top one).given)
-    last_taken top need one is = go (work top top.given) is ((fair top.blocks top.tasks).last top.given one) where
+    last_taken top need one is = go (work top top.given) is ((tasks_fair (globals file) top.blocks top.tasks).last top.given one) where
       go : (r : Reached Course) → r ≡ Needs need → IsLast r (work top (top.given ++ one ∷ [])) → AllTaken (work top (top.given ++ one ∷ []))
       go (Came course left) e l = absurd cc
       go (Fails cause) e l = absurd cc
@@ -189,3 +194,61 @@ module _ (file : File) (code : Code) (Sat : ℕ → Frame → CodeFrames → Cod
           subst (λ o. M (top ∷ cs) (enters file (top ∷ cs) vs o) d) (sym has)
           (subst (λ k. M (top ∷ cs) (cond (nat_lt k MAX_DEPTH) (Ticks (entered_with (globals file) F vs ∷ (top ∷ cs))) (Asks (Panic CallDepth))) d) (sym deep)
           (enters_goes (nat_lt (length (b ∷ ds)) MAX_DEPTH) n m top cs vs ds d e F (code_begun callee.locals m args) b within w (Calling m vs) is s enters' starts))
+
+  -- ---- functions while they run
+
+  -- a function that is entered is near its code
+  abbrev pub AllEntered : Type 0
+  AllEntered = (n : ℕ) (vs : List Value) (callee : CodeFunction) → AreLike (globals file).structs (map known (parameters_of (globals file) n)) vs → slice_get code.functions n ≡ Some callee
+      → (F : Function) × (slice_get (functions file) n ≡ Some F) × ((bs : CodeFrames) → Sat n (entered_with (globals file) F vs) bs (code_begun callee.locals n (all_words_of vs) ∷ bs))
+
+  -- a goroutine that is started begins near its code
+  abbrev pub AllStarted : Type 0
+  AllStarted = (n : ℕ) (vs : List Value) (callee : CodeFunction) → AreLike (globals file).structs (map known (parameters_of (globals file) n)) vs → slice_get code.functions n ≡ Some callee
+      → Near ((source_kind file).begin n (all_words_of vs)) ((code_kind code).begin n (all_words_of vs))
+
+  calm_begins : (q : Request) (d : CodeFrames) → IsCalm q → Begins (Asking q) d
+  calm_begins (requests.Go n args) d calm = absurd calm
+  calm_begins (requests.Make size zero) d calm = tt
+  calm_begins (requests.Send c item) d calm = tt
+  calm_begins (requests.Receive c) d calm = tt
+  calm_begins (requests.Close c) d calm = tt
+  calm_begins (requests.Select cases default) d calm = tt
+  calm_begins (requests.Len c) d calm = tt
+  calm_begins (requests.Cap c) d calm = tt
+  calm_begins (requests.Print bytes) d calm = tt
+  calm_begins requests.End d calm = tt
+  calm_begins requests.Exit d calm = tt
+  calm_begins (requests.Panic p) d calm = tt
+  calm_begins requests.Exhausted d calm = tt
+
+  -- what is entered
+  abbrev first_of : CodeFrame → CodeFrames → CodeFrame
+  first_of other [] = other
+  first_of other (x ∷ xs) = x
+
+  abbrev rest_of : CodeFrames → CodeFrames
+  rest_of [] = []
+  rest_of (x ∷ xs) = xs
+
+  abbrev ticked : Next CodeFrames → CodeFrames
+  ticked (Ticks s) = s
+  ticked other = []
+
+  enters_same : (deep : Bool) (callee y : CodeFrame) (bs ys : CodeFrames) → cond deep (Ticks (callee ∷ bs)) (Asks (Panic CallDepth)) ≡ Ticks (y ∷ ys) → (callee ≡ y) × (bs ≡ ys)
+  enters_same true callee y bs ys e = (ap (λ (x : Next CodeFrames). first_of callee (ticked x)) e, ap (λ (x : Next CodeFrames). rest_of (ticked x)) e)
+  enters_same false callee y bs ys e = absurd cc
+
+  pub runs : AllEntered → AllStarted → (coded : Coded program) (ds : CodeFrames) → Running coded
+  runs entered' started coded ds = record {
+    context = context ds;
+    calm = calm_begins;
+    calls = λ n vs d b callee like has is. let (F, source, sat) = entered' n vs callee like has in (
+      F,
+      source,
+      λ x bs ticks.
+          let same = enters_same (nat_lt (length (b ∷ ds)) MAX_DEPTH) (code_begun callee.locals n (all_words_of vs)) x (b ∷ ds) bs (sym is ∙ ticks) in
+          (ap (λ (y : CodeFrame). y.function) (sym same.0), subst (λ (y : CodeFrame). Sat n (entered_with (globals file) F vs) bs (y ∷ bs)) same.0 (sat bs)),
+    );
+    starts = λ n vs d callee like has. started n vs callee like has;
+  }

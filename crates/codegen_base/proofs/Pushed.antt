@@ -40,7 +40,7 @@ use Rattle.codegen_base.specs.Layouts.{type_of, carried}
 use Rattle.codegen_base.specs.Pushes.{signed, settled, elements_shape, makes as makes_plan, kinds_in, literal_types, emits, emits_all, pushes_zeros, operates, selects as selects_plan}
 use Rattle.plan.specs.Plan.{Plan, Do}
 use Rattle.plan.proofs.Words.{Words}
-use Rattle.plan.proofs.Steps.{pushes_int, receives, discards, asks_len, asks_cap, makes}
+use Rattle.plan.proofs.Steps.{pushes_int, receives, discards, asks_len, asks_cap, makes, spot, calls as calls_function}
 use Rattle.codegen_base.proofs.Alike.{worth_alike}
 use Rattle.codegen_base.proofs.Seen.{Like}
 use Rattle.codegen_base.proofs.Static.{variables_known}
@@ -59,11 +59,12 @@ use Rattle.codegen_base.proofs.Noted.{shape_there}
 use Rattle.codegen_base.proofs.Known.{worth_noted}
 use Rattle.codegen_base.proofs.Makes.{ExpressionMakes, ExpressionsMake, type_anywhere}
 use Rattle.bytecode.specs.declared.instr.WordKind.{WordKind}
-use Rattle.codegen_base.proofs.Running.{Compiled, Running, Standing}
+use Rattle.codegen_base.proofs.Running.{Compiled, Coded, Running, Standing}
 
-module _ {globals : Globals} {program : Compiled globals} {running : Running program} (standing : Standing running) where
+module _ {globals : Globals} {program : Compiled globals} {coded : Coded program} {running : Running coded} (standing : Standing running) where
   open program use {elements, code, typed, types_known as types-known}
-  open running use {number as g, function as f, there, context, context.{callers}}
+  open coded use {number as g, function as f, there}
+  open running use {context, context.{callers}}
   open standing use {locals as ls, scope, begins as ns, checked as s, placed, alike, room, holding, noted}
 
   abbrev env : Blocks
@@ -385,7 +386,7 @@ module _ {globals : Globals} {program : Compiled globals} {running : Running pro
         (λ vs d l. subst (λ x. Follows context (called globals n vs) Goal x) (sym l.2)
         (called_goes standing n vs (all_words_of vs) F.0 k rest out l.0 stack l.3.0 (ap (λ o. length (params_in o)) F.1 ∙ F.2 vs l.1) F.1
         (λ v. subst (λ (z : List Word). words_like (zero_words globals.structs k) (words_like z v) ≡ words_like z v) (sym zero-is) (made_like globals.structs k v))
-        (running.calls n vs (SP l.0 (stack ++ all_words_of vs)) l.1) l.3.1)))
+        (running.calls n vs (SP l.0 (stack ++ all_words_of vs)) (spot code g f there callers (l.0 + 1) ls stack) F.0 l.1 F.1 (calls_function code g f there callers l.0 ls stack (all_words_of vs) n F.0 l.3.0 (ap (λ o. length (params_in o)) F.1 ∙ F.2 vs l.1) F.1)) l.3.1)))
     emits_goes (Make kind) first free makes k is rest out place stack on =
         behind_slip standing (made globals kind (pos 0)) k rest out place stack stack (place + 1) (stack ++ Int (pos 0) ∷ []) (pushes_int code g f there callers place ls stack (pos 0) on.0)
         (made_goes kind k (pos 0) rest out (place + 1) stack makes is on.1)

@@ -1,14 +1,14 @@
 -- What is the same for all that the code of a function does: the program, the function while it runs, and where it stands.
-use Rattle.std.proofs.Common.{◌≡◌, ℕ, ◌≤◌, List, length, take, map, Option, Some, slice_get}
+use Rattle.std.proofs.Common.{◌≡◌, ℕ, ◌≤◌, List, length, take, map, Option, Some, slice_get, ◌∷◌}
 use Rattle.bytecode.specs.Code.{Function as CodeFunction, Code}
-use Rattle.bytecode.specs.Machine.{Frames}
+use Rattle.bytecode.specs.Machine.{Frames, Frame, entered, code_next}
 use Rattle.word.specs.declared.value.Word.{Word}
 use Rattle.word.specs.Values.{Request}
 use Rattle.word.specs.Values as requests
 use Rattle.type_table.specs.Types.{ValueType}
 use Rattle.type_table.specs.Containment.{fields_of}
 use Rattle.type_table.specs.Scopes.{Globals, Scope, function_number}
-use Rattle.typing_rules.specs.Calls.{parameters_of}
+use Rattle.typing_rules.specs.Calls.{parameters_of, result_of}
 use Rattle.meaning.specs.Values.{Value, known, words_in}
 use Rattle.meaning.specs.Worked.{Asking, Calling}
 use Rattle.codegen_base.specs.declared.element.Element.{Element}
@@ -21,6 +21,7 @@ use Rattle.codegen_base.proofs.Typing.{TypesKnown}
 use Rattle.codegen_base.proofs.Called.{KindsKnown}
 use Rattle.codegen_base.proofs.Known.{FieldsNoted, ResultsNoted, VariablesNoted}
 use Rattle.codegen_base.proofs.Gave.{Context}
+use Rattle.codegen_base.specs.Generated.{result_kinds}
 
 -- a file and its code: what holds of its types, of the elements that its channels carry, and of its functions
 pub record Compiled (globals : Globals) : Type 0 where
@@ -38,23 +39,31 @@ pub record Compiled (globals : Globals) : Type 0 where
   pub functions : (name : List ℕ) (n : ℕ) → function_number globals.functions name ≡ Some n
       → (callee : CodeFunction) × (slice_get code.functions n ≡ Some callee) × ((vs : List Value) → AreLike globals.structs (map known (parameters_of globals n)) vs → length (take callee.params callee.locals) ≡ length (all_words_of vs))
 
+-- a function of the file and its code
+pub record Coded {globals : Globals} (program : Compiled globals) : Type 0 where
+  pub number : ℕ
+  pub function : CodeFunction
+  pub there : slice_get program.code.functions number ≡ Some function
+  pub results_are : function.results ≡ result_kinds globals program.elements (result_of globals number)
+
 -- a request begins nothing, unless it starts a goroutine
 abbrev pub IsCalm : Request → Type 0
 IsCalm (requests.Go function arguments) = ⊥
 IsCalm request = Unit {0}
 
--- a function while it runs: its code, and what it stands in. Calm requests begin nothing, and calls begin alike
-pub record Running {globals : Globals} (program : Compiled globals) : Type 1 where
-  pub number : ℕ
-  pub function : CodeFunction
-  pub there : slice_get program.code.functions number ≡ Some function
+-- a function while it runs: what it stands in. Calm requests begin nothing; functions that are called, and those that are started, begin
+-- alike
+pub record Running {globals : Globals} {program : Compiled globals} (coded : Coded program) : Type 1 where
   pub context : Context globals program.code
   pub calm : (q : Request) (d : Frames) → IsCalm q → context.Begins (Asking q) d
-  pub calls : (n : ℕ) (vs : List Value) (d : Frames) → AreLike globals.structs (map known (parameters_of globals n)) vs → context.Begins (Calling n vs) d
+  pub calls : (n : ℕ) (vs : List Value) (d : Frames) (b : Frame) (callee : CodeFunction) → AreLike globals.structs (map known (parameters_of globals n)) vs → slice_get program.code.functions n ≡ Some callee
+      → code_next program.code d ≡ entered n (all_words_of vs) (b ∷ context.callers) callee → context.Begins (Calling n vs) d
+  pub starts : (n : ℕ) (vs : List Value) (d : Frames) (callee : CodeFunction) → AreLike globals.structs (map known (parameters_of globals n)) vs → slice_get program.code.functions n ≡ Some callee
+      → context.Begins (Asking (requests.Go n (all_words_of vs))) d
 
 -- where it stands: what its locals hold, which variables lie there, at which of them the blocks begin, and which of them the typing
 -- rules see; and to where its code leaves the loop around it and turns in it again
-pub record Standing {globals : Globals} {program : Compiled globals} (running : Running program) : Type 0 where
+pub record Standing {globals : Globals} {program : Compiled globals} {coded : Coded program} (running : Running coded) : Type 0 where
   pub locals : List Word
   pub scope : Scope
   pub begins : List ℕ

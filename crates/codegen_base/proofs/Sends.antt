@@ -36,12 +36,13 @@ use Rattle.codegen_base.proofs.Gave.{Follows, stays, bind as follows_then, asks 
 use Rattle.codegen_base.proofs.Evaluates.{at, Stands, Lies}
 use Rattle.codegen_base.proofs.Pushed.{checked, channel_at, worth_here, emits_goes, shaped}
 use Rattle.codegen_base.proofs.Makes.{ExpressionMakes}
-use Rattle.codegen_base.proofs.Running.{Compiled, Running, Standing}
+use Rattle.codegen_base.proofs.Running.{Compiled, Coded, Running, Standing}
 use Rattle.codegen_base.proofs.Expressions.{blocks, same_worth}
 
-module _ {globals : Globals} {program : Compiled globals} {running : Running program} (standing : Standing running) where
+module _ {globals : Globals} {program : Compiled globals} {coded : Coded program} {running : Running coded} (standing : Standing running) where
   open program use {elements, code}
-  open running use {number as g, function as f, there, context, context.{callers}}
+  open coded use {number as g, function as f, there}
+  open running use {context, context.{callers}}
   open standing use {locals as ls, scope, checked as s}
 
   abbrev env : Blocks

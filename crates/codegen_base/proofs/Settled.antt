@@ -29,7 +29,7 @@ use Rattle.codegen_base.proofs.Operators.{IsPlain, ints, bools, channels}
 use Rattle.codegen_base.proofs.Constants.{constant_value, nil_value}
 use Rattle.codegen_base.proofs.Splits.{plain_beside, plain_plan, equality_plain, constants_compare, made_logical, channel_is, Operands, Ints, Bools, Channels, Truths, typed_operands, left_operand, right_operand, nil_right, nil_left, two_constants}
 use Rattle.codegen_base.proofs.Evaluates.{at, Slip, Stands, Evals, Pushes, behind_slip, bind, recast, pushed, pushed_int, pushed_bool, operated, plain, both, either}
-use Rattle.codegen_base.proofs.Running.{Compiled, Running, Standing}
+use Rattle.codegen_base.proofs.Running.{Compiled, Coded, Running, Standing}
 use Rattle.codegen_base.proofs.Expressions.{blocks as blocks_of, same_worth}
 
 -- `nil` is equal to a channel where the channel is equal to `nil`
@@ -77,9 +77,10 @@ equality_made symbols.GreaterEqual k e b = absurd cc
 equality_made symbols.LogicalAnd k e b = absurd cc
 equality_made symbols.LogicalOr k e b = absurd cc
 
-module _ {globals : Globals} {program : Compiled globals} {running : Running program} (standing : Standing running) where
+module _ {globals : Globals} {program : Compiled globals} {coded : Coded program} {running : Running coded} (standing : Standing running) where
   open program use {elements, code}
-  open running use {number as g, function as f, there, context, context.{callers}}
+  open coded use {number as g, function as f, there}
+  open running use {context, context.{callers}}
   open standing use {locals as ls, scope}
 
   abbrev blocks : Blocks

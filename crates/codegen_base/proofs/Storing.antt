@@ -10,12 +10,13 @@ use Rattle.plan.proofs.Words.{Words, put_length}
 use Rattle.plan.proofs.Places.{On}
 use Rattle.plan.proofs.Steps.{spots as frames, slips_more, discards, stores as stores_words}
 use Rattle.codegen_base.proofs.Stores.{spot_words, put_spot, put_backward, all_words, AreThere}
-use Rattle.codegen_base.proofs.Running.{Compiled, Running}
+use Rattle.codegen_base.proofs.Running.{Compiled, Coded, Running}
 use Rattle.type_table.specs.Scopes.{Globals}
 
-module _ {globals : Globals} {program : Compiled globals} (running : Running program) (leave again : Option ℕ) where
+module _ {globals : Globals} {program : Compiled globals} {coded : Coded program} (running : Running coded) (leave again : Option ℕ) where
   open program use {code}
-  open running use {number as g, function as f, there, context.{callers}}
+  open coded use {number as g, function as f, there}
+  open running use {context.{callers}}
 
   abbrev Place : ℕ → Words → Words → Frames
   Place place ls stack = frames code g f there callers place ls stack

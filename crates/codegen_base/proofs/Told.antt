@@ -26,7 +26,7 @@ use Rattle.codegen_base.proofs.Seen.{Like}
 use Rattle.codegen_base.proofs.Likeness.{fitted_like, made_like, all_words_of}
 use Rattle.codegen_base.proofs.Gave.{Follows, stays, behind, bind as follows_then, asks as asks_at, calls as calls_at}
 use Rattle.codegen_base.proofs.Evaluates.{at, Stands, Lies, Evals, lies}
-use Rattle.codegen_base.proofs.Running.{Compiled, Running, Standing}
+use Rattle.codegen_base.proofs.Running.{Compiled, Coded, Running, Standing}
 
 pub same_reply : (reply : Reply) → machine_words reply ≡ reply_words reply
 same_reply replies.Nothing = refl
@@ -46,9 +46,10 @@ pub parted_words : (zeros : List Value) (ws : Words) → words_like (all_words_o
 parted_words [] ws = refl
 parted_words (z ∷ zeros) ws = like_rest z (all_words_of zeros) ws ∙ ap (λ (l : Words). words_like z ws ++ l) (parted_words zeros (drop (length z) ws))
 
-module _ {globals : Globals} {program : Compiled globals} {running : Running program} (standing : Standing running) where
+module _ {globals : Globals} {program : Compiled globals} {coded : Coded program} {running : Running coded} (standing : Standing running) where
   open program use {code}
-  open running use {number as g, function as f, there, context, context.{Begins, callers}}
+  open coded use {number as g, function as f, there}
+  open running use {context, context.{Begins, callers}}
   open standing use {locals as ls}
 
   abbrev spot_at : ℕ → Words → Frames
