@@ -3,7 +3,7 @@
 use Rattle.std.proofs.Common.{◌≡◌, ℕ, suc, Bool, true, false, cond, List, [], ◌∷◌, ◌++◌, length, Some, refl, sym, ap, subst, slice_get, map, ◌∙◌}
 use Rattle.std.specs.Prelude.{nat_lt}
 use Rattle.syntax.specs.Tree.{Function, File}
-use Rattle.bytecode.specs.Code.{Function as CodeFunction}
+use Rattle.bytecode.specs.Code.{Function as CodeFunction, Code}
 use Rattle.bytecode.specs.Machine.{Frame as CodeFrame, Frames as CodeFrames, begun as code_begun, returned, code_next, code_answer, code_kind}
 use Rattle.word.specs.declared.limits.TheConstants.{MAX_DEPTH}
 use Rattle.word.specs.declared.panic.Panic.TheVariants.{CallDepth}
@@ -23,6 +23,13 @@ use Rattle.codegen_base.proofs.Gave.{Halts, through, Gave, Ends, Follows, Contex
 use Rattle.codegen_base.proofs.Running.{Compiled, Coded, Running, IsCalm}
 use Rattle.codegen_base.proofs.Likeness.{AreLike, all_words_of}
 use Rattle.meaning.proofs.FairTasks.{tasks_fair}
+use Rattle.type_table.specs.Scopes.{Globals}
+
+-- what a function's task comes to: the function stands so, without a cost or with one, or gives its result back to its callers
+abbrev pub Lands : Globals → Code → ℕ → CodeFrames → (Frame → CodeFrames → Type 0) → Course → CodeFrames → Type 0
+Lands globals code n ds Sat (Goes top) d = (e : CodeFrames) × Slips (code_next code) d e × Sat (frame top.blocks top.tasks) e × (top.given ≡ [])
+Lands globals code n ds Sat (Moves top) d = (e t : CodeFrames) × Slips (code_next code) d e × (code_next code e ≡ Ticks t) × Sat (frame top.blocks top.tasks) t × (top.given ≡ [])
+Lands globals code n ds Sat (GivesBack v) d = (e : CodeFrames) × Slips (code_next code) d e × (code_next code e ≡ returned [] (words_like (zero_result globals (result_of globals n)) v) ds)
 
 module _ (file : File) (program : Compiled (globals file)) (Sat : ℕ → Frame → CodeFrames → CodeFrames → Type 0) where
   open program use {code}
@@ -90,14 +97,12 @@ module _ (file : File) (program : Compiled (globals file)) (Sat : ℕ → Frame 
   abbrev pub context : CodeFrames → Context (globals file) code
   context ds = record { Begins = Begins; callers = ds }
 
-  abbrev pub Lands : ℕ → CodeFrames → Course → CodeFrames → Type 0
-  Lands n ds (Goes top) d = (e : CodeFrames) × Slips (code_next code) d e × Sat n (fresh top) ds e × (top.given ≡ [])
-  Lands n ds (Moves top) d = (e t : CodeFrames) × Slips (code_next code) d e × (code_next code e ≡ Ticks t) × Sat n (fresh top) ds t × (top.given ≡ [])
-  Lands n ds (GivesBack v) d = (e : CodeFrames) × Slips (code_next code) d e × (code_next code e ≡ returned [] (words_like (zero_result (globals file) (result_of (globals file) n)) v) ds)
+  abbrev pub Lands' : ℕ → CodeFrames → Course → CodeFrames → Type 0
+  Lands' n ds = Lands (globals file) code n ds (λ top d. Sat n top ds d)
 
   -- ---- steps
 
-  module _ (sat_follows : (n : ℕ) (top : Frame) (ds c : CodeFrames) → Sat n (fresh top) ds c → Follows (context ds) (work top) (Lands n ds) c) where
+  module _ (sat_follows : (n : ℕ) (top : Frame) (ds c : CodeFrames) → Sat n (fresh top) ds c → Follows (context ds) (work top) (Lands' n ds) c) where
     abbrev M : Frames → Next Frames → CodeFrames → Type 0
     M s x c = Matches (source_kind file) (code_kind code) Near s x c
 
@@ -161,7 +166,7 @@ module _ (file : File) (program : Compiled (globals file)) (Sat : ℕ → Frame 
     pub near_goes : (s : Frames) (d : CodeFrames) → Near s d → M s (source_next file s) d
     near_goes [] d near = absurd near
     near_goes (top ∷ cs) d (n, ds, within, w) = go (work top top.given) refl ((sat_follows n top ds within.from within.sat).ends top.given d within.gave) within.taken where
-      go : (r : Reached Course) → work top top.given ≡ r → Ends (context ds) (Lands n ds) r d → AllTaken r → M (top ∷ cs) (reached file top cs r) d
+      go : (r : Reached Course) → work top top.given ≡ r → Ends (context ds) (Lands' n ds) r d → AllTaken r → M (top ∷ cs) (reached file top cs r) d
       go (Came (Goes next) left) is (c, (e, s, sat, none), gave) taken =
           let g : Slips (code_next code) d c = subst (λ (l : List Given). Given' c l d) taken gave in
           (e, slips_more (code_next code) d c e g s, (n, ds, begins_within n next ds e none sat, w))

@@ -7,7 +7,7 @@ use Rattle.word.specs.Values.{Request}
 use Rattle.word.specs.Values as requests
 use Rattle.type_table.specs.Types.{ValueType}
 use Rattle.type_table.specs.Containment.{fields_of}
-use Rattle.type_table.specs.Scopes.{Globals, Scope, function_number}
+use Rattle.type_table.specs.Scopes.{Globals, Scope, Yield, function_number}
 use Rattle.typing_rules.specs.Calls.{parameters_of, result_of}
 use Rattle.meaning.specs.Values.{Value, known, words_in}
 use Rattle.meaning.specs.Worked.{Asking, Calling}
@@ -39,12 +39,14 @@ pub record Compiled (globals : Globals) : Type 0 where
   pub functions : (name : List ℕ) (n : ℕ) → function_number globals.functions name ≡ Some n
       → (callee : CodeFunction) × (slice_get code.functions n ≡ Some callee) × ((vs : List Value) → AreLike globals.structs (map known (parameters_of globals n)) vs → length (take callee.params callee.locals) ≡ length (all_words_of vs))
 
--- a function of the file and its code
+-- a function of the file and its code, which gives the words of its result
 pub record Coded {globals : Globals} (program : Compiled globals) : Type 0 where
   pub number : ℕ
   pub function : CodeFunction
   pub there : slice_get program.code.functions number ≡ Some function
-  pub results_are : function.results ≡ result_kinds globals program.elements (result_of globals number)
+  pub result : Yield
+  pub result_is : result_of globals number ≡ result
+  pub results_are : function.results ≡ result_kinds globals program.elements result
 
 -- a request begins nothing, unless it starts a goroutine
 abbrev pub IsCalm : Request → Type 0
