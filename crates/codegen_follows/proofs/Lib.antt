@@ -17,3 +17,13 @@ pub mod Spots
 pub mod Stored
 pub mod Taken
 pub mod Ranged
+pub mod Loops
+pub mod Branches
+pub mod Channels
+pub mod Requests
+pub mod Calling
+pub mod Printed
+pub mod Returns
+pub mod Updated
+pub mod Rights
+pub mod Sets

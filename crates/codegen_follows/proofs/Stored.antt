@@ -23,6 +23,7 @@ use Rattle.codegen_base.specs.Statements.{assigns}
 use Rattle.plan.specs.Plan.{Skip}
 use Rattle.codegen_base.proofs.Static.{Holding}
 use Rattle.type_table.specs.Types.{ValueType}
+use Rattle.std.proofs.lemmas.List.{append-nil}
 
 module _ {globals : Globals} {program : Compiled globals} {coded : Coded program} (simulated : Simulated coded) where
   open program use {elements, code, wide as all}
@@ -79,3 +80,11 @@ module _ {globals : Globals} {program : Compiled globals} {coded : Coded program
   kept_goes ls view next l destinations types kept others place mid k h x like begins r =
       subst (λ b. Works' (ready (Moves (frame b k))) (place_at place ls (all_words_of kept ++ []))) (stored_kept structs all destinations types x.spots kept [] (scope_of view) (blocks ls view) x.spots_are like ∙ sym (stored_kept structs all destinations types x.spots kept others (scope_of view) (blocks ls view) x.spots_are like))
       (stores_go ls view next l destinations types kept [] 0 place mid k h x like refl begins r)
+
+  -- as many values as there are places for
+  pub all_kept_goes : (ls : Words) (view next : View) (l : Around) (destinations : List Destination) (types : List ValueType) (vs : List Value) (place : ℕ) (mid : Option ℕ) (k : List Task) → H ls view → Assigning coded l view 0 types destinations next place mid → AreLike structs types vs
+      → next.begins ≡ view.begins → Rest coded next l mid k → Works' (ready (Moves (frame (all_stored structs destinations vs (blocks ls view)) k))) (place_at place ls (all_words_of vs))
+  all_kept_goes ls view next l destinations types vs place mid k h x like begins r =
+      subst (λ (x : Words). Works' (ready (Moves (frame (all_stored structs destinations vs (blocks ls view)) k))) (place_at place ls x)) (append-nil (all_words_of vs))
+      (subst (λ (x : List Value). Works' (ready (Moves (frame (all_stored structs destinations x (blocks ls view)) k))) (place_at place ls (all_words_of vs ++ []))) (append-nil vs)
+      (kept_goes ls view next l destinations types vs [] place mid k h x like begins r))

@@ -1,0 +1,137 @@
+-- An operand that is a channel.
+use Rattle.std.proofs.Common.{◌≡◌, ℕ, ◌≤◌, List, [], ◌∷◌, ◌++◌, length, Option, Some, None, Ok, refl, sym, ap, ◌∙◌, subst, slice_get, map, true, ◌+◌}
+use Rattle.go_text.specs.declared.rule.Rule.TheVariants as rules
+use Rattle.syntax.specs.declared.node.Direction.{Direction}
+use Rattle.syntax.specs.Tree.{Expression, File}
+use Rattle.bytecode.specs.declared.instr.WordKind.{WordKind}
+use Rattle.bytecode.specs.Code.{Function as CodeFunction, Code}
+use Rattle.bytecode.specs.Machine.{Frames as CodeFrames, fitted, is_told, pops, zero_of, code_next, code_answer, reply_words as machine_words}
+use Rattle.word.specs.declared.panic.Panic.{Panic as Cause}
+use Rattle.word.specs.declared.value.Word.{Word}
+use Rattle.word.specs.declared.value.Word.TheVariants.{Chan}
+use Rattle.word.specs.Values.{Request, Panic, Reply}
+use Rattle.type_table.specs.Types.{ValueType, IntType, BoolType, StructType, ChannelType, element_type}
+use Rattle.type_table.specs.Containment.{fields_of, Structs}
+use Rattle.type_table.specs.Scopes.{Scope, Yield, Globals}
+use Rattle.typing_rules.specs.Worths.{Worth, Typed, Constant, Nil, worth, element_of}
+use Rattle.typing_rules.specs.Expressions.{nodes_of, ExpressionHas, ChannelHas, element_of, default_type}
+use Rattle.typing_rules.specs.Operations.{parameters_of, result_of}
+use Rattle.meaning.specs.Values.{Value, known, words_in, parted, reply_words, words_like}
+use Rattle.meaning.specs.Variables.{Blocks, scope_in}
+use Rattle.meaning.specs.Expressions.{word_in, channel_in, element_kind, value}
+use Rattle.meaning.specs.Tasks.{Task, Course, Goes, Moves, Frame, frame}
+use Rattle.meaning.specs.Source.{channel, one}
+use Rattle.codegen_base.specs.declared.element.Element.{Element}
+use Rattle.codegen_base.specs.Elements.{shape_of, kinds_of, shapes_of}
+use Rattle.codegen_base.specs.Layouts.{type_of, carried}
+use Rattle.codegen_base.specs.Pushes.{pushes_own, settled, emits}
+use Rattle.plan.specs.Plan.{Plan, Do, Skip}
+use Rattle.plan.proofs.Words.{Words}
+use Rattle.plan.proofs.Steps.{spots, answer, takes_told}
+use Rattle.codegen_base.proofs.Alike.{worth_alike}
+use Rattle.codegen_base.proofs.Called.{KindsKnown}
+use Rattle.codegen_base.proofs.Fields.{AllWide, AllTyped}
+use Rattle.codegen_base.proofs.Known.{FieldsNoted, worth_noted}
+use Rattle.codegen_base.proofs.Likeness.{is_channel, AreLike, all_words_of, fitted_like}
+use Rattle.codegen_base.proofs.Noted.{Noted, shape_there}
+use Rattle.codegen_base.proofs.Seen.{seen}
+use Rattle.codegen_base.proofs.Static.{seen_alike, variables_known}
+use Rattle.codegen_base.proofs.Typing.{Free, broken, nodes_end, worth_there}
+use Rattle.codegen_base.proofs.Static.{Holding}
+use Rattle.codegen_follows.proofs.Stands.{Around, View, scope_of, variables, IsOn, Fine, Sits, OneMakes}
+use Rattle.codegen_follows.proofs.Valued.{own_goes}
+use Rattle.codegen_base.proofs.Running.{Compiled, Coded}
+use Rattle.codegen_follows.proofs.Simulated.{Simulated, Held, Rest, blocks_of, at, Comes, Works, Reaches, reaches_behind, works_behind, slides, moves, Point, Position, here_blocks, On', standing}
+use Rattle.meaning.specs.Worked.{Worked, ready, and_then, needs, Asking, Given, Told}
+use Rattle.codegen_base.proofs.Gave.{Follows, stays, bind as follows_then, asks as asks_at, behind as follows_behind}
+use Rattle.codegen_base.proofs.Pushed.{channel_at, checked, shaped}
+use Rattle.codegen_base.proofs.Expressions.{same_worth}
+use Rattle.codegen_base.proofs.Told.{same_reply, parted_words}
+use Rattle.bytecode.specs.Effects.{gives}
+use Rattle.bytecode.specs.declared.instr.Instr.{Instr}
+use Rattle.plan.proofs.Places.{At}
+use Rattle.word.specs.Kinds.{Asks, Suits}
+use Rattle.word.specs.Related.{Slips}
+
+module _ {globals : Globals} {program : Compiled globals} {coded : Coded program} {simulated : Simulated coded} (point : Point simulated) where
+  open program use {elements, code}
+  open coded use {function as f, number as g, there}
+  open simulated use {running, running.{context, context.{callers as ds}}}
+  open point use {locals as ls, around as l, view, fine}
+
+  abbrev here : Blocks
+  here = here_blocks point
+
+  abbrev scope : Scope
+  scope = scope_of view
+
+  -- what a channel carries: as the typing rules see it, as the layout does, and in a run
+  pub record IsChannel (e : Expression) : Type 0 where
+    pub direction : Direction
+    pub element : ValueType
+    pub is : worth globals view.checked e ≡ Some (Typed (ChannelType direction element))
+    pub own : type_of globals elements scope e ≡ ChannelType direction element
+    pub carries : carried globals elements scope e ≡ element
+    pub runs : element_kind globals here e ≡ element
+    pub shape : slice_get code.shapes (shape_of elements element) ≡ Some (kinds_of globals.structs elements element)
+
+  pub channel_there : (e : Expression) (first : ℕ) → Free (ExpressionHas globals view.checked first e) → OneMakes globals elements e → Free (ChannelHas (worth globals view.checked e) (nodes_of first e)) → IsChannel e
+  channel_there e first free makes channel =
+      let (d, t, ch) = channel_at (standing point) e first free channel in
+      record {
+        direction = d;
+        element = t;
+        is = checked (standing point) e ∙ ch;
+        own = ap (λ o. known (default_type o)) ch;
+        carries = ap (λ o. known (element_of o)) ch;
+        runs = ap (λ o. known (element_of o)) (same_worth (standing point) e ∙ ch);
+        shape = shaped (standing point) e makes d t ch;
+      }
+
+  -- it has a type of its own
+  pub emitted_own : (e : Expression) → IsChannel e → (rest : Plan) (out : Option ℕ) (place : ℕ) → On' point (emits globals elements scope e rest) place out → On' point (pushes_own globals elements scope e rest) place out
+  emitted_own e c rest out place on = subst (λ o. On' point (settled elements o (type_of globals elements scope e) (emits globals elements scope e rest) rest) place out) (sym (sym (checked (standing point) e) ∙ c.is)) on
+
+  -- the value of a channel, and then
+  pub channel_value_goes : {B : Type 0} (e : Expression) (first : ℕ) → Free (ExpressionHas globals view.checked first e) → OneMakes globals elements e → IsChannel e → (go : Value → Worked B) (L : B → CodeFrames → Type 0) (rest : Plan) (out : Option ℕ) (place : ℕ) (stack : Words) → On' point (pushes_own globals elements scope e rest) place out
+      → ((c : Option ℕ) (to : ℕ) → On' point rest to out → Follows context (go (Chan c ∷ [])) L (at simulated to ls (stack ++ Chan c ∷ []))) → Follows context (and_then (value globals here e) go) L (at simulated place ls stack)
+  channel_value_goes e first free makes c go L rest out place stack on then' =
+      own_goes point e first (ChannelType c.direction c.element) _ go L rest out place stack free makes c.is on
+      (λ v like to on1. let w = is_channel globals.structs c.direction c.element v like in
+      subst (λ (x : Value). Follows context (go x) L (at simulated to ls (stack ++ x))) (sym w.1) (then' w.0 to on1))
+
+  -- a channel is worked out, and then
+  pub channel_goes : {B : Type 0} (e : Expression) (first : ℕ) → Free (ExpressionHas globals view.checked first e) → OneMakes globals elements e → IsChannel e → (k : List Task) (go : Option ℕ → Worked B) (L : B → CodeFrames → Type 0) (rest : Plan) (out : Option ℕ) (place : ℕ) (stack : Words) → On' point (pushes_own globals elements scope e rest) place out
+      → ((c : Option ℕ) (to : ℕ) → On' point rest to out → Follows context (go c) L (at simulated to ls (stack ++ Chan c ∷ []))) → Follows context (and_then (channel globals here k e) go) L (at simulated place ls stack)
+  channel_goes e first free makes c k go L rest out place stack on then' =
+      follows_then context (channel globals here k e) go M L (at simulated place ls stack)
+      (follows_then context (one globals here k e) (λ word. ready (channel_in word)) N M (at simulated place ls stack)
+      (channel_value_goes e first free makes c (λ words. ready (word_in words)) N rest out place stack on
+      (λ w to on1. stays context (Chan w) N (at simulated to ls (stack ++ Chan w ∷ [])) (w, to, refl, refl, on1)))
+      (λ word d n. subst (λ x. Follows context (ready (channel_in x)) M d) (sym n.2) (stays context n.0 M d (n.1, n.3, n.4))))
+      (λ w d m. subst (λ x. Follows context (go w) L x) (sym m.1) (then' w m.0 m.2)) where
+        M : Option ℕ → CodeFrames → Type 0
+        M c d = (to : ℕ) × (d ≡ at simulated to ls (stack ++ Chan c ∷ [])) × On' point rest to out
+
+        N : Word → CodeFrames → Type 0
+        N word d = (c : Option ℕ) × (to : ℕ) × (word ≡ Chan c) × (d ≡ at simulated to ls (stack ++ Chan c ∷ [])) × On' point rest to out
+
+  -- an instruction that asks: what is told to it lies on the stack
+  pub asks_goes : {B : Type 0} (q : Request) (i : Instr) (xs : Words) (zeros : List Value) (go : Given → Worked B) (L : B → CodeFrames → Type 0) (place : ℕ) (stack : Words) → At f.instrs place i → pops code f i ≡ length xs → is_told i ≡ true
+      → code_next code (at simulated place ls (stack ++ xs)) ≡ Asks q → map zero_of (gives code f i []) ≡ all_words_of zeros → running.context.Begins (Asking q) (at simulated place ls (stack ++ xs))
+      → ((reply : Reply) → Suits q reply → Follows context (go (Told reply)) L (at simulated (place + 1) ls (stack ++ all_words_of (parted zeros (reply_words reply))))) → Follows context (and_then (needs (Asking q)) go) L (at simulated place ls (stack ++ xs))
+  asks_goes q i xs zeros go L place stack is many tells asks zero-is begins then' =
+      follows_then context (needs (Asking q)) go M L (at simulated place ls (stack ++ xs))
+      (asks_at context q M (at simulated place ls (stack ++ xs)) asks begins (λ reply suits. (reply, suits, refl, after reply)))
+      (λ given d m. subst (λ x. Follows context (go x) L d) (sym m.2) (follows_behind context (go (Told m.0)) L d (at simulated (place + 1) ls (stack ++ all_words_of (parted zeros (reply_words m.0)))) m.3 (then' m.0 m.1))) where
+        M : Given → CodeFrames → Type 0
+        M given d = (reply : Reply) × Suits q reply × (given ≡ Told reply) × Slips (code_next code) d (at simulated (place + 1) ls (stack ++ all_words_of (parted zeros (reply_words reply))))
+
+        after : (reply : Reply) → Slips (code_next code) (code_answer code (at simulated place ls (stack ++ xs)) reply) (at simulated (place + 1) ls (stack ++ all_words_of (parted zeros (reply_words reply))))
+        after reply =
+            let ws = reply_words reply in
+            let told-are : fitted (gives code f i []) (machine_words reply) ≡ all_words_of (parted zeros ws) =
+            fitted_like (gives code f i []) (machine_words reply) ∙ ap (λ (zs : Words). words_like zs (machine_words reply)) zero-is ∙ ap (words_like (all_words_of zeros)) (same_reply reply) ∙ parted_words zeros ws in
+            subst (λ (d : CodeFrames). Slips (code_next code) d (at simulated (place + 1) ls (stack ++ all_words_of (parted zeros ws)))) (sym (answer code g f there ds place ls stack xs i reply is many tells))
+            (subst (λ (x : Words). Slips (code_next code) (record { function = g; place = place + 1; locals = ls; stack = stack; told = x } ∷ ds) (at simulated (place + 1) ls (stack ++ all_words_of (parted zeros ws)))) (sym told-are)
+            (takes_told code g f there ds (place + 1) ls stack (all_words_of (parted zeros ws))))
