@@ -27,3 +27,6 @@ pub mod Returns
 pub mod Updated
 pub mod Rights
 pub mod Sets
+pub mod Defined
+pub mod Untyped
+pub mod Typed

@@ -173,3 +173,18 @@ module _ {globals : Globals} {program : Compiled globals} {coded : Coded program
       (told_goes (standing point) zeros (requests.Receive w) (instrs.Receive shape) (Chan w ∷ []) rest mid to [] on1.0 refl refl (receives code g f there ds to ls [] shape w on1.0) told-are (running.calm (requests.Receive w) (place_at to ls (Chan w ∷ [])) tt) on1.1)))
       (λ vs d' lay. subst (λ x. Works' (stores globals blocks k destinations vs) x) (sym lay.3)
       (stored_go destinations kept spots vs lay.0 d (subst (λ (x : List Value). AreLike structs kept x) (sym lay.2) (subst (λ (zs : List Value). AreLike structs kept (parted zs lay.1)) (sym kept-are) (parted_like structs kept lay.1))) lay.4))
+
+  -- ---- whatever the right side is
+
+  pub gives_plain : (destinations : List Destination) (types : List ValueType) (spots : List Spot) (count : ℕ) (es : List Expression) (first place : ℕ) → length destinations ≡ count → IsPlain count es → Targets destinations types spots → Free (ExpressionsHave globals view.checked first (expressions es)) → ValuesMake globals elements es → AllFit globals view.checked (expressions es) types
+      → On (pushes_right globals elements scope count types es (assigns spots Skip)) place → Works' (gives globals blocks k destinations es) (place_at place ls [])
+  gives_plain destinations types spots count es first place many plain d free makes fit on =
+      subst (λ n. Works' (and_then (right_values globals blocks n es) (stores globals blocks k destinations)) (place_at place ls [])) (sym many)
+      (subst (λ x. Works' (and_then x (stores globals blocks k destinations)) (place_at place ls [])) (sym (plain.values_are globals blocks))
+      (values_go destinations types spots es first place d free makes fit (subst (λ p. On p place) (plain.plan_is globals elements scope types (assigns spots Skip)) on)))
+
+  pub gives_both : (destinations : List Destination) (types kept : List ValueType) (spots : List Spot) (count : ℕ) (e : Expression) (first place : ℕ) → length destinations ≡ count → count ≡ suc (suc zero) → map (zero_words structs) kept ≡ map (zero_words structs) (carried globals elements scope e ∷ BoolType ∷ []) → Targets destinations kept spots
+      → Free (ExpressionHas globals view.checked first (Receive e)) → OneMakes globals elements e → On (pushes_right globals elements scope count types (Receive e ∷ []) (assigns spots Skip)) place → Works' (gives globals blocks k destinations (Receive e ∷ [])) (place_at place ls [])
+  gives_both destinations types kept spots count e first place many two zeros d free makes on =
+      subst (λ n. Works' (and_then (right_values globals blocks n (Receive e ∷ [])) (stores globals blocks k destinations)) (place_at place ls [])) (sym (many ∙ two))
+      (both_go destinations kept spots e first place zeros d free makes (subst (λ n. On (pushes_right globals elements scope n types (Receive e ∷ []) (assigns spots Skip)) place) two on))
