@@ -70,6 +70,7 @@ module _ {globals : Globals} {program : Compiled globals} {coded : Coded program
     pub direction : Direction
     pub element : ValueType
     pub is : worth globals view.checked e ≡ Some (Typed (ChannelType direction element))
+    pub noted : Noted elements (ChannelType direction element)
     pub own : type_of globals elements scope e ≡ ChannelType direction element
     pub carries : carried globals elements scope e ≡ element
     pub runs : element_kind globals here e ≡ element
@@ -82,6 +83,7 @@ module _ {globals : Globals} {program : Compiled globals} {coded : Coded program
         direction = d;
         element = t;
         is = checked (standing point) e ∙ ch;
+        noted = worth_noted elements globals program.fields_noted program.results_noted scope fine.noted e makes (ChannelType d t) ch;
         own = ap (λ o. known (default_type o)) ch;
         carries = ap (λ o. known (element_of o)) ch;
         runs = ap (λ o. known (element_of o)) (same_worth (standing point) e ∙ ch);

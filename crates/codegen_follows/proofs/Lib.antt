@@ -30,3 +30,8 @@ pub mod Sets
 pub mod Defined
 pub mod Untyped
 pub mod Typed
+pub mod Ranges
+pub mod Targets
+pub mod Chosen
+pub mod Comms
+pub mod Operands
