@@ -35,3 +35,5 @@ pub mod Targets
 pub mod Chosen
 pub mod Comms
 pub mod Operands
+pub mod Ways
+pub mod Selects
