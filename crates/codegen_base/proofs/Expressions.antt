@@ -1,15 +1,12 @@
 -- The code of an expression in which nothing is wrong pushes its value's words.
-use Rattle.std.proofs.Common.{◌≡◌, ℕ, pos, ◌+◌, Bool, true, false, List, [], ◌∷◌, ◌++◌, map, Option, Some, None, option_map, sym, ap, ◌∙◌, subst, arith, append_assoc, slice_get, bytes_eq}
+use Rattle.std.proofs.Common.{◌≡◌, ℕ, ◌+◌, Bool, true, false, List, [], ◌∷◌, ◌++◌, map, Option, Some, None, option_map, sym, ap, ◌∙◌, subst, arith, slice_get, bytes_eq}
 use Rattle.std.specs.Prelude.{if◌then◌else◌, codes}
-use Rattle.std.proofs.lemmas.List.{append-nil}
 use Rattle.syntax.specs.Tree.{Expression}
 use Rattle.bytecode.specs.declared.instr.Instr.TheVariants as instrs
 use Rattle.bytecode.specs.declared.instr.WordKind.{WordKind}
-use Rattle.bytecode.specs.declared.instr.WordKind.TheVariants as kinds
 use Rattle.bytecode.specs.Machine.{zero_of}
 use Rattle.word.specs.declared.value.Word.{Word}
 use Rattle.word.specs.declared.value.Word.TheVariants.{Bool as Truth, Chan}
-use Rattle.word.specs.Related.{here}
 use Rattle.type_table.specs.Types.{ValueType, BoolType}
 use Rattle.type_table.specs.Containment.{Selected, field_of}
 use Rattle.type_table.specs.Scopes.{Globals, Scope, Variable, is_blank, is_truth, is_nil, last_named, variable_named}
@@ -20,18 +17,19 @@ use Rattle.meaning.specs.Worked.{ready, and_then}
 use Rattle.meaning.specs.Variables.{Blocks, scope_in, lookup, value_of}
 use Rattle.meaning.specs.Expressions.{type_of as type_of_value, named as named_value, selected as selected_value, value}
 use Rattle.codegen_base.specs.Layouts.{type_of}
-use Rattle.codegen_base.specs.Pushes.{words_of, loads as load_instr, named, selects as selects_plan, pushes_zeros, zero_instr}
+use Rattle.codegen_base.specs.Pushes.{words_of, loads as load_instr, named, selects as selects_plan, pushes_zeros}
 use Rattle.plan.specs.Plan.{Plan, Do}
 use Rattle.plan.proofs.Words.{Words, part}
-use Rattle.plan.proofs.Steps.{pushes_int, pushes_bool, pushes_nil, loads, picks}
+use Rattle.plan.proofs.Steps.{loads, picks}
 use Rattle.codegen_base.proofs.Alike.{worth_alike}
 use Rattle.codegen_base.proofs.Seen.{wide, Like, seen_one, seen, found_below, seen_lookup}
 use Rattle.codegen_base.proofs.Static.{seen_alike, found_like}
 use Rattle.codegen_base.proofs.Likeness.{like_long, kinds_long}
 use Rattle.codegen_base.proofs.Fields.{field_held, held_within, held_like}
-use Rattle.codegen_base.proofs.Evaluates.{range_part, at, Slip, then_slip, Stands, Evals, bind, pushed_bool, lies}
+use Rattle.codegen_base.proofs.Evaluates.{range_part, Slip, Stands, Evals, bind, pushed_bool, lies}
 use Rattle.codegen_base.proofs.Running.{Compiled, Coded, Running, Standing}
 use Rattle.codegen_base.proofs.Typing.{typed_same, typed_variable}
+use Rattle.codegen_base.proofs.Storing.{zeros_push}
 
 unblanked : (scope : Scope) (name : List ℕ) (v : Variable) → variable_named scope name ≡ Some v → last_named scope.variables name ≡ Some v
 unblanked scope name v e = go (is_blank name) e where
@@ -49,18 +47,7 @@ module _ {globals : Globals} {program : Compiled globals} {coded : Coded program
 
   pub zeros_goes : (ks : List WordKind) (rest : Plan) (out : Option ℕ) (place : ℕ) (stack : List Word) → Stands standing (pushes_zeros ks rest) place out
       → (to : ℕ) × Slip standing place stack to (stack ++ map zero_of ks) × Stands standing rest to out
-  zeros_goes [] rest out place stack on = (place, subst (λ (s : List Word). Slip standing place stack place s) (sym (append-nil stack)) here, on)
-  zeros_goes (k ∷ ks) rest out place stack on =
-      let more = zeros_goes ks rest out (place + 1) (stack ++ zero_of k ∷ []) on.1 in (
-        more.0,
-        then_slip standing place stack (place + 1) (stack ++ zero_of k ∷ []) (at standing more.0 (stack ++ map zero_of (k ∷ ks))) (one k on.0)
-            (subst (λ (s : List Word). Slip standing (place + 1) (stack ++ zero_of k ∷ []) more.0 s) (append_assoc stack (zero_of k ∷ []) (map zero_of ks)) more.1),
-        more.2,
-      ) where
-        one : (k : WordKind) → slice_get f.instrs place ≡ Some (zero_instr k) → Slip standing place stack (place + 1) (stack ++ zero_of k ∷ [])
-        one kinds.Int is = pushes_int code g f there callers place ls stack (pos 0) is
-        one kinds.Bool is = pushes_bool code g f there callers place ls stack false is
-        one (kinds.Chan s) is = pushes_nil code g f there callers place ls stack s is
+  zeros_goes ks rest out place stack on = zeros_push running standing.leave standing.again ks ls rest out place stack on
 
   abbrev pub blocks : Blocks
   blocks = seen globals.structs ls scope.variables ns
