@@ -1,31 +1,21 @@
 -- An if.
-use Rattle.std.proofs.Common.{◌≡◌, ℕ, List, [], ◌∷◌, length, Option, Some, None, IfSome, refl, subst, arith, slice_get, inl, inr}
-use Rattle.syntax.specs.Tree.{Expression, Simple, Alone, If, IfHead, Bare, Semicolon, First, Statements, Conditional, Otherwise, File}
-use Rattle.bytecode.specs.Code.{Function as CodeFunction, Code}
+use Rattle.std.proofs.Common.{◌≡◌, ℕ, List, [], ◌∷◌, length, Option, Some, None, IfSome, refl, subst, arith, inl, inr}
+use Rattle.syntax.specs.Tree.{Expression, Simple, Alone, If, IfHead, Bare, Semicolon, First, Statements, Conditional, Otherwise}
 use Rattle.bytecode.specs.Machine.{Frames as CodeFrames}
-use Rattle.word.specs.declared.panic.Panic.{Panic as Cause}
-use Rattle.word.specs.declared.value.Word.{Word}
-use Rattle.word.specs.Values.{Request, Panic}
-use Rattle.word.specs.Related.{here}
-use Rattle.type_table.specs.Containment.{fields_of, Structs}
-use Rattle.type_table.specs.Scopes.{Scope, Yield, entered as scope_entered, Globals}
+use Rattle.type_table.specs.Containment.{Structs}
+use Rattle.type_table.specs.Scopes.{entered as scope_entered, Globals}
 use Rattle.meaning.specs.Variables.{Blocks, entered}
-use Rattle.meaning.specs.Tasks.{Task, Do, EndBlock, Decide, frame, Course, Goes, Moves, Frame}
-use Rattle.codegen_base.specs.declared.element.Element.{Element}
+use Rattle.meaning.specs.Tasks.{Task, Do, EndBlock, Decide, frame, Course, Frame}
 use Rattle.codegen_base.specs.Generated.{nothing, inside, ended, past, made_simple, made_otherwise}
 use Rattle.plan.proofs.Words.{Words}
 use Rattle.plan.proofs.Places.{at_once}
-use Rattle.plan.proofs.Steps.{spots}
-use Rattle.codegen_base.proofs.Fields.{AllWide, AllTyped}
-use Rattle.codegen_base.proofs.Seen.{seen}
 use Rattle.codegen_follows.proofs.Stands.{Around, View, variables, Inner, opened, IsOn, LeadsOn, Fine, made_body, behind, Doing, Deciding, Sits}
 use Rattle.codegen_follows.proofs.Grown.{grown_statements, grown_otherwise}
-use Rattle.codegen_follows.proofs.Begun.{prints_front, prints_back, together_behind, FineBehind, fine_opened, inner_opened, seen_opened}
+use Rattle.codegen_follows.proofs.Begun.{prints_front, prints_back, together_behind, fine_opened, inner_opened, seen_opened}
 use Rattle.codegen_follows.proofs.Follows.{lands, map_reached, end_sits, inner_same, sits_here}
 use Rattle.codegen_base.proofs.Running.{Compiled, Coded}
-use Rattle.codegen_follows.proofs.Simulated.{Simulated, Held, Rest, blocks_of, at, Comes, Works, Reaches, reaches_behind, works_behind, slides, moves, Point}
-use Rattle.meaning.specs.Worked.{Worked, ready}
-use Rattle.codegen_base.proofs.Likeness.{AreLike, all_words_of}
+use Rattle.codegen_follows.proofs.Simulated.{Simulated, Held, Rest, blocks_of, at, Works, Reaches, slides}
+use Rattle.meaning.specs.Worked.{Worked}
 use Rattle.meaning.specs.Source.{statement_work}
 
 module _ {globals : Globals} {program : Compiled globals} {coded : Coded program} (simulated : Simulated coded) where

@@ -1,45 +1,38 @@
 -- Calls, and goroutines that are started: their arguments lie on the stack.
-use Rattle.std.proofs.Common.{◌≡◌, ℕ, suc, ◌+◌, ◌≤◌, nat_lt, Bool, true, false, cond, List, [], ◌∷◌, ◌++◌, length, map, take, Option, Some, Ok, Err, refl, sym, ap, ◌∙◌, subst, arith, slice_get, inl}
+use Rattle.std.proofs.Common.{◌≡◌, ℕ, ◌+◌, List, [], ◌∷◌, ◌++◌, length, map, take, Option, Some, refl, sym, ap, ◌∙◌, subst, slice_get, inl}
 use Rattle.std.specs.Prelude.{flat_map}
-use Rattle.syntax.specs.Tree.{Expression, expressions, Arguments, Call, Go, Function, File, CallAlone}
+use Rattle.syntax.specs.Tree.{Expression, expressions, Arguments, Go, CallAlone}
 use Rattle.bytecode.specs.declared.instr.Instr.TheVariants as instrs
-use Rattle.bytecode.specs.Code.{Function as CodeFunction, Code}
+use Rattle.bytecode.specs.Code.{Function as CodeFunction}
 use Rattle.bytecode.specs.Effects.{params_in}
-use Rattle.bytecode.specs.Machine.{Frame as CodeFrame, Frames as CodeFrames, if_there, begun, code_next}
-use Rattle.word.specs.declared.limits.TheConstants.{MAX_DEPTH}
-use Rattle.word.specs.declared.panic.Panic.{Panic as Cause}
-use Rattle.word.specs.declared.panic.Panic.TheVariants.{CallDepth}
+use Rattle.bytecode.specs.Machine.{Frames as CodeFrames}
 use Rattle.word.specs.Values.{Request, Panic}
 use Rattle.word.specs.Values as requests
-use Rattle.word.specs.Related.{here}
 use Rattle.type_table.specs.Types.{ValueType}
-use Rattle.type_table.specs.Containment.{fields_of, Structs}
-use Rattle.type_table.specs.Scopes.{Scope, Yield, NoResult, Yields, function_number, Globals}
+use Rattle.type_table.specs.Containment.{Structs}
+use Rattle.type_table.specs.Scopes.{Scope, Yield, NoResult, Yields, Globals}
 use Rattle.typing_rules.specs.Expressions.{ExpressionsHave}
 use Rattle.typing_rules.specs.Operations.{parameters_of, result_of, CallHas}
 use Rattle.meaning.specs.Values.{Value, known, words_like}
 use Rattle.meaning.specs.Variables.{Blocks}
 use Rattle.meaning.specs.Expressions.{values, number_of, zero_result}
-use Rattle.meaning.specs.Tasks.{Task, frame, Course, Goes, Moves, Frame}
-use Rattle.meaning.specs.Source.{functions, enters, does, asks, simple_work, statement_work}
-use Rattle.codegen_base.specs.declared.element.Element.{Element}
+use Rattle.meaning.specs.Tasks.{frame, Course, Goes}
+use Rattle.meaning.specs.Source.{does, asks, simple_work, statement_work}
 use Rattle.codegen_base.specs.Pushes.{pushes_all, drops}
 use Rattle.codegen_base.specs.Statements.{pushes_arguments, result_words, simple_plan}
 use Rattle.plan.specs.Plan.{Plan, Skip, Do}
 use Rattle.plan.proofs.Words.{Words}
-use Rattle.plan.proofs.Steps.{spot, spots, calls as calls_function, starts_goroutine}
+use Rattle.plan.proofs.Steps.{spot, calls as calls_function, starts_goroutine}
 use Rattle.codegen_base.proofs.Called.{calls, AllFit}
-use Rattle.codegen_base.proofs.Fields.{AllWide, AllTyped}
-use Rattle.codegen_base.proofs.Seen.{seen}
 use Rattle.codegen_base.proofs.Typing.{Free}
 use Rattle.codegen_base.proofs.Static.{variables_known}
-use Rattle.codegen_follows.proofs.Stands.{Around, View, scope_of, variables, Together, IsOn, Fine, Taking, Sits, ValuesMake}
+use Rattle.codegen_follows.proofs.Stands.{scope_of, variables, ValuesMake}
 use Rattle.codegen_follows.proofs.Requests.{goes_on, asks_alone}
 use Rattle.codegen_base.proofs.Running.{Compiled, Coded}
-use Rattle.codegen_follows.proofs.Simulated.{Simulated, Held, Rest, blocks_of, at, Comes, Works, Reaches, reaches_behind, works_behind, slides, moves, Point, Position, here_blocks, On', standing}
+use Rattle.codegen_follows.proofs.Simulated.{Simulated, at, Comes, Works, works_behind, Position, here_blocks, On', standing}
 use Rattle.meaning.specs.Worked.{Worked, ready, and_then, needs, Calling, Given}
 use Rattle.codegen_base.proofs.Likeness.{AreLike, all_words_of, kinds_long, like_length}
-use Rattle.codegen_base.proofs.Gave.{Follows, stays, bind as follows_then, asks as asks_at, calls as calls_at}
+use Rattle.codegen_base.proofs.Gave.{Follows, bind as follows_then, calls as calls_at}
 use Rattle.codegen_base.proofs.Pushed.{LA, all_goes}
 use Rattle.codegen_base.proofs.Storing.{drops_goes}
 use Rattle.typing_rules.specs.Calls.{result_of, parameters_of}

@@ -1,47 +1,34 @@
 -- An operand that is a channel.
-use Rattle.std.proofs.Common.{◌≡◌, ℕ, ◌≤◌, List, [], ◌∷◌, ◌++◌, length, Option, Some, None, Ok, refl, sym, ap, ◌∙◌, subst, slice_get, map, true, ◌+◌}
-use Rattle.go_text.specs.declared.rule.Rule.TheVariants as rules
+use Rattle.std.proofs.Common.{◌≡◌, ℕ, List, [], ◌∷◌, ◌++◌, length, Option, Some, refl, sym, ap, ◌∙◌, subst, slice_get, map, true, ◌+◌}
 use Rattle.syntax.specs.declared.node.Direction.{Direction}
-use Rattle.syntax.specs.Tree.{Expression, File}
-use Rattle.bytecode.specs.declared.instr.WordKind.{WordKind}
-use Rattle.bytecode.specs.Code.{Function as CodeFunction, Code}
+use Rattle.syntax.specs.Tree.{Expression}
 use Rattle.bytecode.specs.Machine.{Frames as CodeFrames, fitted, is_told, pops, zero_of, code_next, code_answer, reply_words as machine_words}
-use Rattle.word.specs.declared.panic.Panic.{Panic as Cause}
 use Rattle.word.specs.declared.value.Word.{Word}
 use Rattle.word.specs.declared.value.Word.TheVariants.{Chan}
-use Rattle.word.specs.Values.{Request, Panic, Reply}
-use Rattle.type_table.specs.Types.{ValueType, IntType, BoolType, StructType, ChannelType, element_type}
-use Rattle.type_table.specs.Containment.{fields_of, Structs}
-use Rattle.type_table.specs.Scopes.{Scope, Yield, Globals}
-use Rattle.typing_rules.specs.Worths.{Worth, Typed, Constant, Nil, worth, element_of}
+use Rattle.word.specs.Values.{Request, Reply}
+use Rattle.type_table.specs.Types.{ValueType, ChannelType}
+use Rattle.type_table.specs.Scopes.{Scope, Globals}
+use Rattle.typing_rules.specs.Worths.{Typed, worth, element_of}
 use Rattle.typing_rules.specs.Expressions.{nodes_of, ExpressionHas, ChannelHas, element_of, default_type}
-use Rattle.typing_rules.specs.Operations.{parameters_of, result_of}
-use Rattle.meaning.specs.Values.{Value, known, words_in, parted, reply_words, words_like}
-use Rattle.meaning.specs.Variables.{Blocks, scope_in}
+use Rattle.meaning.specs.Values.{Value, known, parted, reply_words, words_like}
+use Rattle.meaning.specs.Variables.{Blocks}
 use Rattle.meaning.specs.Expressions.{word_in, channel_in, element_kind, value}
-use Rattle.meaning.specs.Tasks.{Task, Course, Goes, Moves, Frame, frame}
+use Rattle.meaning.specs.Tasks.{Task}
 use Rattle.meaning.specs.Source.{channel, one}
-use Rattle.codegen_base.specs.declared.element.Element.{Element}
-use Rattle.codegen_base.specs.Elements.{shape_of, kinds_of, shapes_of}
+use Rattle.codegen_base.specs.Elements.{shape_of, kinds_of}
 use Rattle.codegen_base.specs.Layouts.{type_of, carried}
 use Rattle.codegen_base.specs.Pushes.{pushes_own, settled, emits}
-use Rattle.plan.specs.Plan.{Plan, Do, Skip}
+use Rattle.plan.specs.Plan.{Plan}
 use Rattle.plan.proofs.Words.{Words}
-use Rattle.plan.proofs.Steps.{spots, answer, takes_told}
-use Rattle.codegen_base.proofs.Alike.{worth_alike}
-use Rattle.codegen_base.proofs.Called.{KindsKnown}
-use Rattle.codegen_base.proofs.Fields.{AllWide, AllTyped}
-use Rattle.codegen_base.proofs.Known.{FieldsNoted, worth_noted}
-use Rattle.codegen_base.proofs.Likeness.{is_channel, AreLike, all_words_of, fitted_like}
-use Rattle.codegen_base.proofs.Noted.{Noted, shape_there}
-use Rattle.codegen_base.proofs.Seen.{seen}
-use Rattle.codegen_base.proofs.Static.{seen_alike, variables_known}
-use Rattle.codegen_base.proofs.Typing.{Free, broken, nodes_end, worth_there}
-use Rattle.codegen_base.proofs.Static.{Holding}
-use Rattle.codegen_follows.proofs.Stands.{Around, View, scope_of, variables, IsOn, Fine, Sits, OneMakes}
+use Rattle.plan.proofs.Steps.{answer, takes_told}
+use Rattle.codegen_base.proofs.Known.{worth_noted}
+use Rattle.codegen_base.proofs.Likeness.{is_channel, all_words_of, fitted_like}
+use Rattle.codegen_base.proofs.Noted.{Noted}
+use Rattle.codegen_base.proofs.Typing.{Free}
+use Rattle.codegen_follows.proofs.Stands.{scope_of, OneMakes}
 use Rattle.codegen_follows.proofs.Valued.{own_goes}
 use Rattle.codegen_base.proofs.Running.{Compiled, Coded}
-use Rattle.codegen_follows.proofs.Simulated.{Simulated, Held, Rest, blocks_of, at, Comes, Works, Reaches, reaches_behind, works_behind, slides, moves, Point, Position, here_blocks, On', standing}
+use Rattle.codegen_follows.proofs.Simulated.{Simulated, at, Point, here_blocks, On', standing}
 use Rattle.meaning.specs.Worked.{Worked, ready, and_then, needs, Asking, Given, Told}
 use Rattle.codegen_base.proofs.Gave.{Follows, stays, bind as follows_then, asks as asks_at, behind as follows_behind}
 use Rattle.codegen_base.proofs.Pushed.{channel_at, checked, shaped}

@@ -3,39 +3,34 @@ use Rattle.bytecode.specs.declared.instr.Instr.TheVariants as instrs
 use Rattle.std.proofs.Common.{◌≡◌, ℕ, zero, suc, ◌-◌, ◌<◌, Bool, true, List, [], ◌∷◌, ◌++◌, length, map, take, drop, Option, Some, None, IfSome, refl, sym, ap, ◌∙◌, subst, arith, slice_get}
 use Rattle.std.specs.Option.{is_some}
 use Rattle.std.proofs.lemmas.Option.{same_Some}
-use Rattle.syntax.specs.Tree.{Statements, File, Clauses, NoClause, Clause as Clauses-Clause, NoStatement}
+use Rattle.syntax.specs.Tree.{Statements, Clauses, NoClause, Clause as Clauses-Clause, NoStatement}
 use Rattle.bytecode.specs.declared.table.Clause.{Clause as TableClause}
-use Rattle.bytecode.specs.Code.{Function as CodeFunction, Code, SelectTable}
+use Rattle.bytecode.specs.Code.{Code, SelectTable}
 use Rattle.bytecode.specs.Effects.{clause_gives, clause_kinds, clause_target, clauses_in, default_targets, targets}
 use Rattle.bytecode.specs.Machine.{Frames as CodeFrames, fitted, zero_of, code_answer, reply_words as machine_words, also, case_of, cases_of, way_of, choice, pops}
-use Rattle.word.specs.declared.panic.Panic.{Panic as Cause}
 use Rattle.word.specs.declared.request.Case.{Case}
 use Rattle.word.specs.declared.value.Word.{Word}
-use Rattle.word.specs.Values.{Item, Request, Panic, Reply, Nothing, Value, Received, Clause, Default, Closed, Select}
+use Rattle.word.specs.Values.{Item, Reply, Nothing, Value, Received, Clause, Default, Closed, Select}
 use Rattle.word.specs.Kinds.{Suits, SuitsClause, Asks}
-use Rattle.word.specs.Related.{here}
 use Rattle.type_table.specs.Types.{ValueType}
-use Rattle.type_table.specs.Containment.{fields_of, Structs}
-use Rattle.type_table.specs.Scopes.{Scope, Yield, Globals}
+use Rattle.type_table.specs.Containment.{Structs}
+use Rattle.type_table.specs.Scopes.{Scope, Globals}
 use Rattle.type_table.specs.Zeros.{zero_words}
 use Rattle.meaning.specs.Values.{Value as SourceValue, words_like, parted, reply_words}
 use Rattle.meaning.specs.Variables.{Blocks, Destination, entered}
-use Rattle.meaning.specs.Tasks.{Task, EndSelect, frame, all_of, Course, Goes, Moves, Frame}
-use Rattle.codegen_base.specs.declared.element.Element.{Element}
+use Rattle.meaning.specs.Tasks.{Task, EndSelect, all_of, Course}
 use Rattle.plan.proofs.Words.{Words}
 use Rattle.plan.proofs.Selects.{select_asks, select_answer}
-use Rattle.plan.proofs.Steps.{spots, takes_told}
+use Rattle.plan.proofs.Steps.{takes_told}
 use Rattle.codegen_base.proofs.Static.{Holding}
-use Rattle.codegen_base.proofs.Fields.{AllWide, AllTyped}
 use Rattle.codegen_base.proofs.Likeness.{fitted_like, AreLike, all_words_of}
-use Rattle.codegen_base.proofs.Seen.{seen}
-use Rattle.codegen_follows.proofs.Stands.{Around, View, variables, Together, opened, Taking, in_way, WayAt, Sits, scope_of}
+use Rattle.codegen_follows.proofs.Stands.{Around, View, variables, opened, in_way, WayAt, scope_of}
 use Rattle.codegen_follows.proofs.Unwound.{together_on}
 use Rattle.codegen_base.proofs.Running.{Compiled, Coded}
-use Rattle.codegen_follows.proofs.Simulated.{Simulated, Held, Rest, blocks_of, at, Comes, Works, Reaches, reaches_behind, works_behind, slides, moves, Point, Position, here_blocks, On', standing}
+use Rattle.codegen_follows.proofs.Simulated.{Simulated, Held, Rest, blocks_of, at, Comes, Works, works_behind, Position, here_blocks, On'}
 use Rattle.meaning.specs.Worked.{Worked, ready, and_then, needs, Asking, Given, Told}
-use Rattle.plan.specs.Plan.{Plan, Do, Skip}
-use Rattle.codegen_base.proofs.Gave.{Follows, stays, bind as follows_then, asks as asks_at}
+use Rattle.plan.specs.Plan.{Plan}
+use Rattle.codegen_base.proofs.Gave.{bind as follows_then, asks as asks_at}
 use Rattle.meaning.specs.Source.{comm_zeros, comm_destinations, at_clause, at_default, default_of, assigned, chosen}
 use Rattle.codegen_follows.proofs.Taken.{comes_of, assigned_comes, taken_goes, parted_like}
 use Rattle.codegen_follows.proofs.Follows.{blocks_same, inner_same, lead_there}

@@ -3,12 +3,11 @@ use Rattle.std.proofs.Common.{◌≡◌, ℕ, suc, ◌+◌, ◌≤◌, Bool, tru
 use Rattle.std.specs.Prelude.{if◌then◌else◌, ◌||◌}
 use Rattle.std.specs.Option.{is_some}
 use Rattle.std.specs.List.{list_any}
-use Rattle.syntax.specs.Tree.{Expression, Place, Receive, Alone, Define, Comm, CommSend, CommReceive, CommDefine, CommAssign, File}
+use Rattle.syntax.specs.Tree.{Expression, Place, Receive, Alone, Define, Comm, CommSend, CommReceive, CommDefine, CommAssign}
 use Rattle.bytecode.specs.declared.instr.Instr.TheVariants as instrs
 use Rattle.bytecode.specs.declared.instr.WordKind.{WordKind}
-use Rattle.bytecode.specs.Code.{Function as CodeFunction, Code}
 use Rattle.type_table.specs.Types.{ValueType, BoolType}
-use Rattle.type_table.specs.Scopes.{Scope, Yield, is_blank, own_variable, entered, last_named, Globals}
+use Rattle.type_table.specs.Scopes.{Scope, is_blank, own_variable, entered, last_named, Globals}
 use Rattle.typing_rules.specs.Worths.{Typed, worth}
 use Rattle.typing_rules.specs.Expressions.{element_of, nodes_of}
 use Rattle.typing_rules.specs.Operations.{Given, given, and_also, PlacesFail, PlacesHave}
@@ -16,10 +15,9 @@ use Rattle.typing_rules.specs.Simples.{has_twice, NamesFail, SimpleHas, comm_sim
 use Rattle.typing_rules.specs.Statements.{after_any}
 use Rattle.meaning.specs.Values.{known, whole, slot_along}
 use Rattle.meaning.specs.Variables.{Blocks, Destination, Nowhere, Into, kind_of}
-use Rattle.meaning.specs.Tasks.{Task, Course, Goes, Moves, Frame, frame}
+use Rattle.meaning.specs.Tasks.{Task}
 use Rattle.meaning.specs.Source.{comm_destinations}
 use Rattle.meaning.specs.Destinations.{new, all_new, all_defined, placed}
-use Rattle.codegen_base.specs.declared.element.Element.{Element}
 use Rattle.codegen_base.specs.Layouts.{carried, declaring_all, given_types}
 use Rattle.codegen_base.specs.Pushes.{drops}
 use Rattle.codegen_base.specs.Statements.{assigns, name_spots, place_spots, width}
@@ -28,25 +26,21 @@ use Rattle.plan.specs.Plan.{Plan, Skip, Do}
 use Rattle.plan.proofs.Words.{Words}
 use Rattle.codegen_base.proofs.Alike.{drop_all}
 use Rattle.codegen_base.proofs.Assigned.{behind_all}
-use Rattle.codegen_base.proofs.Fields.{AllWide}
-use Rattle.codegen_base.proofs.Likeness.{kinds_long, AreLike, all_words_of}
+use Rattle.codegen_base.proofs.Likeness.{kinds_long}
 use Rattle.codegen_base.proofs.Seen.{seen, seen_lookup, rising_up}
 use Rattle.codegen_base.proofs.Typing.{Free, nodes_end}
 use Rattle.codegen_follows.proofs.Outers.{worth_same}
-use Rattle.codegen_follows.proofs.Paths.{AllKnown}
 use Rattle.codegen_follows.proofs.Places.{places_are, places_stay}
 use Rattle.codegen_follows.proofs.Sets.{AreTyped, typed_default, typed_suit as places_suit}
 use Rattle.codegen_follows.proofs.Names.{AreNew, new_names, names_are}
 use Rattle.codegen_follows.proofs.Defined.{once, typed_suit as names_suit}
-use Rattle.codegen_follows.proofs.Stands.{Around, View, scope_of, variables, Together, Makes, Fine, IsOn, Assigning, Taking, all_wide, opened, behind, Sits, SimpleMakes}
-use Rattle.codegen_follows.proofs.Begun.{FineBehind, fine_opened, take_front}
+use Rattle.codegen_follows.proofs.Stands.{Around, View, scope_of, variables, Together, Fine, IsOn, Assigning, Taking, all_wide, opened, behind, SimpleMakes}
+use Rattle.codegen_follows.proofs.Begun.{fine_opened, take_front}
 use Rattle.codegen_follows.proofs.Grown.{grown_comm}
 use Rattle.codegen_base.proofs.Running.{Compiled, Coded}
-use Rattle.codegen_follows.proofs.Simulated.{Simulated, Held, Rest, blocks_of, at, Comes, Works, Reaches, reaches_behind, works_behind, slides, moves, Point, Position, here_blocks, standing}
-use Rattle.meaning.specs.Worked.{Worked, ready, and_then}
+use Rattle.codegen_follows.proofs.Simulated.{Simulated, at, Point, here_blocks}
 use Rattle.bytecode.specs.Machine.{Frames as CodeFrames}
 use Rattle.type_table.specs.Containment.{Structs}
-use Rattle.codegen_base.proofs.Gave.{Follows, stays, bind as follows_then, asks as asks_at}
 use Rattle.codegen_follows.proofs.Channels.{IsChannel}
 use Rattle.meaning.specs.Expressions.{element_kind}
 

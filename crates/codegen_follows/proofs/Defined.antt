@@ -1,52 +1,42 @@
 -- Short variable declarations, and variables without a type.
-use Rattle.std.proofs.Common.{◌≡◌, ℕ, suc, ◌+◌, ◌==◌, ◌≤◌, Bool, true, false, List, [], ◌∷◌, length, map, drop, Option, Some, None, refl, sym, ap, ◌∙◌, subst, arith, slice_get, inl, inr, zero, ◌⊎◌, option_map, sum_by, ◌++◌}
-use Rattle.std.specs.Prelude.{if◌then◌else◌, ◌&&◌, ◌||◌, not, bytes_eq, codes}
-use Rattle.std.specs.Option.{is_some, is_none}
+use Rattle.std.proofs.Common.{◌≡◌, ℕ, suc, ◌+◌, ◌≤◌, Bool, true, false, List, [], ◌∷◌, length, map, drop, Option, Some, None, refl, sym, ap, ◌∙◌, subst, arith, inl, inr, zero, ◌⊎◌, sum_by, ◌++◌}
+use Rattle.std.specs.Prelude.{if◌then◌else◌, ◌||◌, not}
+use Rattle.std.specs.Option.{is_none}
 use Rattle.std.specs.List.{list_any}
 use Rattle.go_text.specs.declared.rule.Rule.TheVariants as rules
-use Rattle.syntax.specs.Tree.{Expression, expressions, Call, Receive, Make, Length, Capacity, Define, File, Assign}
+use Rattle.syntax.specs.Tree.{Expression, expressions, Receive, Define}
 use Rattle.syntax.specs.Measures.{expression_size}
-use Rattle.bytecode.specs.Code.{Function as CodeFunction, Code}
 use Rattle.bytecode.specs.Machine.{Frames as CodeFrames}
-use Rattle.word.specs.declared.panic.Panic.{Panic as Cause}
-use Rattle.word.specs.Values.{Request, Panic}
 use Rattle.type_table.specs.Types.{ValueType, BoolType}
-use Rattle.type_table.specs.Containment.{fields_of, Structs}
-use Rattle.type_table.specs.Scopes.{Variable, Globals, Scope, Yield, is_blank, is_reserved, number_of, function_number, variable_named, last_named, own_variable}
-use Rattle.typing_rules.specs.Worths.{Worth, Typed, worth, kind_of, element_of}
-use Rattle.typing_rules.specs.Expressions.{nodes_of, ValueHas, DefaultHas, ExpressionsHave, NumbersHave, default_type, element_of, ExpressionHas}
-use Rattle.typing_rules.specs.Operations.{NoFunction, Given, given, given_values, is_receive, RightHas, GoesHas, also_given}
-use Rattle.typing_rules.specs.Simples.{has_twice, is_declarable, DefinedHave, NamesFail, SimpleHas, AssignedHave}
-use Rattle.meaning.specs.Values.{known, Value}
+use Rattle.type_table.specs.Containment.{Structs}
+use Rattle.type_table.specs.Scopes.{Variable, Globals, Scope, is_blank, last_named, own_variable}
+use Rattle.typing_rules.specs.Worths.{Worth, Typed, worth, kind_of}
+use Rattle.typing_rules.specs.Expressions.{nodes_of, ValueHas, DefaultHas, ExpressionsHave, NumbersHave, default_type, ExpressionHas}
+use Rattle.typing_rules.specs.Operations.{Given, given, given_values, RightHas, GoesHas, also_given}
+use Rattle.typing_rules.specs.Simples.{has_twice, is_declarable, DefinedHave, NamesFail, SimpleHas}
+use Rattle.meaning.specs.Values.{known}
 use Rattle.meaning.specs.Variables.{Blocks, scope_in}
 use Rattle.meaning.specs.Destinations.{given_kinds, all_defined}
-use Rattle.meaning.specs.Tasks.{Task, Course, Goes, Moves, Frame, frame}
-use Rattle.meaning.specs.Source.{gives, stores, simple_work}
+use Rattle.meaning.specs.Tasks.{Course}
+use Rattle.meaning.specs.Source.{gives, simple_work}
 use Rattle.codegen_base.specs.declared.element.Element.{Element}
 use Rattle.codegen_base.specs.Layouts.{given_types, declaring_all, carried}
-use Rattle.codegen_base.specs.Statements.{name_spots, name_type, name_types, right_types, defines, simple_plan, pushes_right, pushes_received, assigns, Spot, place_spots, taken_types}
-use Rattle.plan.specs.Plan.{Plan, Do, Skip}
+use Rattle.codegen_base.specs.Statements.{name_spots, name_type, name_types, right_types, defines, simple_plan}
+use Rattle.plan.specs.Plan.{Plan}
 use Rattle.plan.proofs.Words.{Words}
-use Rattle.plan.proofs.Steps.{spots as code_spots}
-use Rattle.codegen_base.proofs.Alike.{kind_if, Alike, worth_alike, type_alike, there_alike, variable_alike, own_alike, kind_alike}
+use Rattle.codegen_base.proofs.Alike.{kind_if, Alike, worth_alike, own_alike, kind_alike}
 use Rattle.codegen_base.proofs.Called.{same_count, AllFit}
-use Rattle.codegen_base.proofs.Fields.{AllWide, AllTyped}
-use Rattle.codegen_base.proofs.Likeness.{assignable_zeros, AreLike, all_words_of}
+use Rattle.codegen_base.proofs.Likeness.{assignable_zeros}
 use Rattle.codegen_base.proofs.Seen.{seen}
 use Rattle.codegen_base.proofs.Static.{seen_alike, variables_known}
 use Rattle.codegen_base.proofs.Typing.{Free, Fits, fits, broken, nodes_end, worth_there}
-use Rattle.codegen_follows.proofs.Stands.{Around, View, scope_of, variables, Together, IsOn, Fine, Sits, OneMakes, ValuesMake}
+use Rattle.codegen_follows.proofs.Stands.{View, scope_of, variables, Fine, OneMakes, ValuesMake}
 use Rattle.codegen_follows.proofs.Places.{known_named}
-use Rattle.codegen_follows.proofs.Rights.{default_fits, IsPlain, IsBoth, form, values_go, both_go, gives_plain, gives_both}
+use Rattle.codegen_follows.proofs.Rights.{default_fits, IsPlain, IsBoth, form, gives_plain, gives_both}
 use Rattle.codegen_follows.proofs.Names.{own_found, NameSuits, AllNamesSuit, names_are}
 use Rattle.codegen_base.proofs.Running.{Compiled, Coded}
-use Rattle.codegen_follows.proofs.Simulated.{Simulated, Held, Rest, blocks_of, at, Comes, Works, Reaches, reaches_behind, works_behind, slides, moves, Point, Position, here_blocks, On', standing}
-use Rattle.meaning.specs.Worked.{Worked, ready, and_then}
-use Rattle.codegen_base.proofs.Gave.{Follows, stays, bind as follows_then, asks as asks_at}
-use Rattle.meaning.specs.Expressions.{right_values, values, value, received, element_kind}
-use Rattle.codegen_base.specs.Pushes.{pushes_all}
-use Rattle.codegen_follows.proofs.Channels.{channel_there}
-use Rattle.std.proofs.lemmas.List.{append-nil, length-map}
+use Rattle.codegen_follows.proofs.Simulated.{Simulated, at, Works, Position, here_blocks, On'}
+use Rattle.meaning.specs.Worked.{Worked}
 use Rattle.codegen_follows.proofs.Sets.{AreTyped, given_long, plain_given, both_types, both_typed}
 
 -- ---- what right sides give where the same is seen

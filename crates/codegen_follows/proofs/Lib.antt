@@ -37,3 +37,5 @@ pub mod Comms
 pub mod Operands
 pub mod Ways
 pub mod Selects
+pub mod Statements
+pub mod Step

@@ -1,37 +1,28 @@
 -- A for: forever, with a condition, and with clauses.
 use Rattle.std.proofs.Common.{◌≡◌, ℕ, ◌+◌, ◌≤◌, true, List, [], ◌∷◌, ◌++◌, length, Option, Some, None, IfSome, refl, subst, arith, slice_get, inl, inr}
-use Rattle.syntax.specs.Tree.{Expression, Simple, Alone, For, ForHead, Forever, While, ForClauses, Statements, File}
-use Rattle.bytecode.specs.Code.{PrintTable, Function as CodeFunction, Code}
+use Rattle.syntax.specs.Tree.{Expression, Simple, Alone, For, ForHead, Forever, While, ForClauses, Statements}
+use Rattle.bytecode.specs.Code.{PrintTable, Code}
 use Rattle.bytecode.specs.Machine.{Frames as CodeFrames}
-use Rattle.word.specs.declared.panic.Panic.{Panic as Cause}
-use Rattle.word.specs.declared.value.Word.{Word}
-use Rattle.word.specs.Values.{Request, Panic}
-use Rattle.word.specs.Related.{here}
-use Rattle.type_table.specs.Containment.{fields_of, Structs}
-use Rattle.type_table.specs.Scopes.{Scope, Yield, entered as scope_entered, Globals}
+use Rattle.type_table.specs.Containment.{Structs}
+use Rattle.type_table.specs.Scopes.{Scope, entered as scope_entered, Globals}
 use Rattle.typing_rules.specs.Expressions.{TestHas}
 use Rattle.typing_rules.specs.Simples.{SimpleHas}
 use Rattle.typing_rules.specs.Statements.{IfSimpleHas, IfTestHas, StatementsHave}
 use Rattle.meaning.specs.Variables.{Blocks}
-use Rattle.meaning.specs.Tasks.{Repeating, Task, Do, EndBlock, Head, frame, Course, Goes, Moves, Frame}
-use Rattle.codegen_base.specs.declared.element.Element.{Element}
+use Rattle.meaning.specs.Tasks.{Repeating, Task, Do, EndBlock, Head, frame, Course, Frame}
 use Rattle.codegen_base.specs.Generated.{Made, nothing, past, inside, loop, test_plan, made_simple}
 use Rattle.plan.proofs.Words.{Words}
 use Rattle.plan.proofs.Places.{at_once}
-use Rattle.plan.proofs.Steps.{spots}
-use Rattle.codegen_base.proofs.Fields.{AllWide, AllTyped}
-use Rattle.codegen_base.proofs.Seen.{seen}
 use Rattle.codegen_base.proofs.Typing.{Free}
 use Rattle.codegen_follows.proofs.Stands.{Around, View, variables, Together, Inner, Prints, opened, within, IsOn, LeadsOn, Fine, made_body, behind, behind_body, post_made, DeclaresNone, SimpleMakes, AllMake, Doing, Looping, Sits, OneMakes}
 use Rattle.codegen_follows.proofs.Grown.{grown_statements, grown_post}
-use Rattle.codegen_follows.proofs.Begun.{prints_front, prints_back, together_behind, FineBehind, fine_opened, inner_opened, seen_opened}
+use Rattle.codegen_follows.proofs.Begun.{prints_front, prints_back, together_behind, fine_opened, inner_opened, seen_opened}
 use Rattle.codegen_follows.proofs.Follows.{lands, map_reached, end_sits, inner_same, repeats_goes, sits_here}
 use Rattle.codegen_follows.proofs.Outers.{test_same}
 use Rattle.codegen_follows.proofs.Simples.{simple_same}
 use Rattle.codegen_base.proofs.Running.{Compiled, Coded}
-use Rattle.codegen_follows.proofs.Simulated.{Simulated, Held, Rest, blocks_of, at, Comes, Works, Reaches, reaches_behind, works_behind, slides, moves, Point}
-use Rattle.meaning.specs.Worked.{Worked, ready}
-use Rattle.codegen_base.proofs.Likeness.{AreLike, all_words_of}
+use Rattle.codegen_follows.proofs.Simulated.{Simulated, Held, Rest, blocks_of, at, Works, Reaches, slides}
+use Rattle.meaning.specs.Worked.{Worked}
 use Rattle.meaning.specs.Source.{statement_work}
 
 no_prints : (code : Code) (first n : ℕ) (table : PrintTable) → slice_get [] n ≡ Some table → slice_get code.prints (first + n) ≡ Some table

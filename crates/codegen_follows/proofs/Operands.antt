@@ -1,20 +1,17 @@
 -- The channels and values of a select are pushed, clause by clause, and are the operands of its cases.
-use Rattle.std.proofs.Common.{◌≡◌, ℕ, suc, ◌+◌, ◌≤◌, Bool, false, cond, List, [], ◌∷◌, ◌++◌, length, take, drop, Option, Some, None, Ok, refl, sym, ap, ◌∙◌, subst, arith, slice_get, length-append, append_assoc, inl, inr}
+use Rattle.std.proofs.Common.{◌≡◌, ℕ, suc, ◌+◌, ◌≤◌, Bool, false, cond, List, [], ◌∷◌, ◌++◌, length, take, drop, Option, Some, None, refl, sym, ap, ◌∙◌, subst, arith, length-append, append_assoc, inl, inr}
 use Rattle.std.specs.Prelude.{nat_lt}
 use Rattle.std.proofs.lemmas.Bool.Decides.{nat_tests}
 use Rattle.std.proofs.Math.Seq.{take-append_seam, drop-append_seam}
 use Rattle.std.proofs.lemmas.List.{append-nil}
-use Rattle.syntax.specs.Tree.{Expression, Comm, CommSend, CommReceive, CommDefine, CommAssign, Statements, Clauses, NoClause, Clause, File, Send}
+use Rattle.syntax.specs.Tree.{Expression, Comm, CommSend, CommReceive, CommDefine, CommAssign, Statements, Clauses, NoClause, Clause, Send}
 use Rattle.syntax.specs.Measures.{expression_size, if_any, comm_size, statements_size}
-use Rattle.bytecode.specs.Code.{Function as CodeFunction, Code}
 use Rattle.bytecode.specs.Effects.{clause_kinds, all_clause_kinds, kinds_in, shape_kinds}
 use Rattle.bytecode.specs.Machine.{Frames as CodeFrames, also, case_of, cases_of}
-use Rattle.word.specs.declared.panic.Panic.{Panic as Cause}
 use Rattle.word.specs.declared.request.Case.{Case}
 use Rattle.word.specs.declared.value.Word.TheVariants.{Chan}
-use Rattle.word.specs.Values.{Request, Panic}
-use Rattle.type_table.specs.Containment.{fields_of, Structs}
-use Rattle.type_table.specs.Scopes.{Scope, Yield, entered, Globals}
+use Rattle.type_table.specs.Containment.{Structs}
+use Rattle.type_table.specs.Scopes.{Scope, entered, Globals}
 use Rattle.typing_rules.specs.Worths.{worth}
 use Rattle.typing_rules.specs.Expressions.{ExpressionHas, ChannelHas, ValueHas, nodes_of, element_of}
 use Rattle.typing_rules.specs.Operations.{and_also}
@@ -23,29 +20,25 @@ use Rattle.typing_rules.specs.Statements.{after_all, after_any, ClausesHave}
 use Rattle.meaning.specs.Values.{Value, words_in}
 use Rattle.meaning.specs.Variables.{Blocks, as_kind}
 use Rattle.meaning.specs.Expressions.{element_kind}
-use Rattle.meaning.specs.Tasks.{Task, Course, Goes, Moves, Frame, frame}
-use Rattle.meaning.specs.Source.{channel as channel_value, item_in, case_of as source_case, cases_of as source_cases, received_case}
-use Rattle.codegen_base.specs.declared.element.Element.{Element}
+use Rattle.meaning.specs.Tasks.{Task}
+use Rattle.meaning.specs.Source.{item_in, case_of as source_case, cases_of as source_cases, received_case}
 use Rattle.codegen_base.specs.Elements.{shape_of}
 use Rattle.codegen_base.specs.Layouts.{carried}
 use Rattle.codegen_base.specs.Pushes.{pushes_own, pushes}
 use Rattle.codegen_base.specs.Generated.{table_clause, table_clauses, pushes_comm, pushes_clauses}
-use Rattle.plan.specs.Plan.{Plan, Do, Skip}
+use Rattle.plan.specs.Plan.{Plan}
 use Rattle.plan.proofs.Words.{Words}
-use Rattle.plan.proofs.Steps.{spots}
-use Rattle.codegen_base.proofs.Static.{Holding}
-use Rattle.codegen_base.proofs.Fields.{AllWide, AllTyped}
-use Rattle.codegen_base.proofs.Likeness.{kinds_long, like_long, AreLike, all_words_of}
-use Rattle.codegen_base.proofs.Seen.{seen, Like}
+use Rattle.codegen_base.proofs.Likeness.{kinds_long, like_long}
+use Rattle.codegen_base.proofs.Seen.{Like}
 use Rattle.codegen_base.proofs.Typing.{Free, Fits, fits, nodes_end, worth_there}
 use Rattle.codegen_base.proofs.Static.{variables_known}
 use Rattle.codegen_follows.proofs.Outers.{has_same, worth_same}
-use Rattle.codegen_follows.proofs.Stands.{Around, View, scope_of, variables, IsOn, Fine, within, Sits, OneMakes, SimpleMakes, ClausesMake}
+use Rattle.codegen_follows.proofs.Stands.{scope_of, within, OneMakes, SimpleMakes, ClausesMake}
 use Rattle.codegen_follows.proofs.Comms.{comm_channel}
 use Rattle.codegen_base.proofs.Running.{Compiled, Coded}
-use Rattle.codegen_follows.proofs.Simulated.{Simulated, Held, Rest, blocks_of, at, Comes, Works, Reaches, reaches_behind, works_behind, slides, moves, Point, Position, here_blocks, On', standing}
-use Rattle.meaning.specs.Worked.{Worked, ready, and_then}
-use Rattle.codegen_base.proofs.Gave.{Follows, stays, bind as follows_then, asks as asks_at}
+use Rattle.codegen_follows.proofs.Simulated.{Simulated, at, Point, here_blocks, On'}
+use Rattle.meaning.specs.Worked.{ready, and_then}
+use Rattle.codegen_base.proofs.Gave.{Follows, stays, bind as follows_then}
 use Rattle.codegen_follows.proofs.Channels.{IsChannel, channel_there, channel_goes}
 use Rattle.codegen_follows.proofs.Valued.{value_goes}
 

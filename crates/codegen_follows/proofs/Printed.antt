@@ -1,23 +1,21 @@
 -- What is printed.
-use Rattle.std.proofs.Common.{◌≡◌, ℕ, suc, ◌+◌, ◌≤◌, Bool, cond, List, [], ◌∷◌, ◌++◌, length, map, Option, Some, None, Ok, refl, sym, ap, ◌∙◌, subst, arith, append_assoc, slice_get, inl, inr}
+use Rattle.std.proofs.Common.{◌≡◌, ℕ, suc, ◌+◌, ◌≤◌, Bool, cond, List, [], ◌∷◌, ◌++◌, length, map, Option, Some, None, refl, sym, ap, ◌∙◌, subst, arith, append_assoc, slice_get, inl, inr}
 use Rattle.std.proofs.lemmas.List.{append-nil}
 use Rattle.go_text.specs.declared.rule.Rule.TheVariants as rules
-use Rattle.syntax.specs.Tree.{Part, Value as ValuePart, Text, Print, File}
+use Rattle.syntax.specs.Tree.{Part, Value as ValuePart, Text, Print}
 use Rattle.syntax.specs.Measures.{part_size}
 use Rattle.bytecode.specs.declared.instr.Instr.TheVariants as instrs
 use Rattle.bytecode.specs.declared.table.Part.{Part as TablePart}
 use Rattle.bytecode.specs.declared.table.Part.TheVariants as table_parts
-use Rattle.bytecode.specs.Code.{Function as CodeFunction, Code}
 use Rattle.bytecode.specs.Effects.{part_kinds, print_kinds}
-use Rattle.bytecode.specs.Machine.{Frames as CodeFrames, if_there, printed_by, printed_rest, part_text as machine_text, part_rest, printed as machine_printed}
-use Rattle.word.specs.declared.panic.Panic.{Panic as Cause}
+use Rattle.bytecode.specs.Machine.{Frames as CodeFrames, printed_by, printed_rest, part_text as machine_text, part_rest}
 use Rattle.word.specs.declared.value.Word.{Word}
 use Rattle.word.specs.Text.{text_of}
 use Rattle.word.specs.Values.{Request, Panic}
 use Rattle.word.specs.Values as requests
 use Rattle.type_table.specs.Types.{IntType, BoolType, StructType, ChannelType}
-use Rattle.type_table.specs.Containment.{Structs, fields_of}
-use Rattle.type_table.specs.Scopes.{Scope, Yield, Globals}
+use Rattle.type_table.specs.Containment.{Structs}
+use Rattle.type_table.specs.Scopes.{Scope, Globals}
 use Rattle.typing_rules.specs.Flaws.{Nodes}
 use Rattle.typing_rules.specs.Worths.{Worth, Typed, Constant, Nil, is_int, worth}
 use Rattle.typing_rules.specs.Expressions.{nodes_of, PrintedHas, default_type}
@@ -25,27 +23,25 @@ use Rattle.typing_rules.specs.Simples.{PartsHave}
 use Rattle.meaning.specs.Values.{Value, known}
 use Rattle.meaning.specs.Variables.{Blocks}
 use Rattle.meaning.specs.Expressions.{word_in}
-use Rattle.meaning.specs.Tasks.{Task, Course, Goes, Moves, Frame, frame}
+use Rattle.meaning.specs.Tasks.{Course}
 use Rattle.meaning.specs.Source.{one, texts, spaced, printed, part_text, asks, simple_work}
-use Rattle.codegen_base.specs.declared.element.Element.{Element}
 use Rattle.codegen_base.specs.Pushes.{pushes}
 use Rattle.codegen_base.specs.Statements.{printed_as, printed_part, pushes_parts, simple_plan}
 use Rattle.plan.specs.Plan.{Plan, Do, Skip}
 use Rattle.plan.proofs.Words.{Words}
-use Rattle.plan.proofs.Steps.{spots as code_spots, prints}
+use Rattle.plan.proofs.Steps.{prints}
 use Rattle.codegen_base.proofs.Alike.{worth_alike}
-use Rattle.codegen_base.proofs.Fields.{AllWide, AllTyped}
-use Rattle.codegen_base.proofs.Likeness.{is_int as is_int_word, is_bool, AreLike, all_words_of}
-use Rattle.codegen_base.proofs.Seen.{Like, seen}
+use Rattle.codegen_base.proofs.Likeness.{is_int as is_int_word, is_bool}
+use Rattle.codegen_base.proofs.Seen.{Like}
 use Rattle.codegen_base.proofs.Typing.{Free, Fits, broken, nodes_end, worth_there, not_false}
 use Rattle.codegen_base.proofs.Static.{variables_known}
-use Rattle.codegen_follows.proofs.Stands.{Around, View, scope_of, variables, Together, IsOn, Fine, Sits, PartsMake}
+use Rattle.codegen_follows.proofs.Stands.{scope_of, variables, PartsMake}
 use Rattle.codegen_follows.proofs.Valued.{value_goes}
 use Rattle.codegen_follows.proofs.Requests.{asks_alone}
 use Rattle.codegen_base.proofs.Running.{Compiled, Coded}
-use Rattle.codegen_follows.proofs.Simulated.{Simulated, Held, Rest, blocks_of, at, Comes, Works, Reaches, reaches_behind, works_behind, slides, moves, Point, Position, here_blocks, On', standing}
+use Rattle.codegen_follows.proofs.Simulated.{Simulated, at, Comes, Works, Position, here_blocks, On'}
 use Rattle.meaning.specs.Worked.{Worked, ready, and_then}
-use Rattle.codegen_base.proofs.Gave.{Follows, stays, bind as follows_then, asks as asks_at}
+use Rattle.codegen_base.proofs.Gave.{Follows, stays, bind as follows_then}
 use Rattle.word.specs.Kinds.{Asks}
 
 -- a value that is printed is one word

@@ -1,53 +1,46 @@
 -- Loops over channels begin.
-use Rattle.std.proofs.Common.{◌≡◌, ℕ, ◌+◌, ◌≤◌, Bool, true, false, List, [], ◌∷◌, ◌++◌, length, drop, Option, Some, None, IfSome, refl, sym, ap, ◌∙◌, subst, arith, slice_get, inl, inr, bytes_eq, length-append}
+use Rattle.std.proofs.Common.{◌≡◌, ℕ, ◌+◌, ◌≤◌, Bool, true, false, List, [], ◌∷◌, ◌++◌, length, drop, Option, Some, None, IfSome, refl, sym, ap, ◌∙◌, subst, arith, inl, inr, bytes_eq, length-append}
 use Rattle.std.specs.Bool.{Decides}
 use Rattle.std.proofs.lemmas.Slice.Eq.{bytes_eq-Decides}
 use Rattle.codegen_base.proofs.Assigned.{placed_new, stores_one, counted_words}
 use Rattle.codegen_base.proofs.Noted.{Noted}
 use Rattle.std.specs.Prelude.{if◌then◌else◌}
-use Rattle.syntax.specs.Tree.{Expression, NoTarget, For, Range, Block, Statements, File}
+use Rattle.syntax.specs.Tree.{Expression, NoTarget, For, Range, Block, Statements}
 use Rattle.syntax.specs.Measures.{target_size}
-use Rattle.bytecode.specs.Code.{Function as CodeFunction, Code}
 use Rattle.bytecode.specs.Effects.{kinds_in, shape_kinds}
 use Rattle.bytecode.specs.Machine.{Frames as CodeFrames}
-use Rattle.word.specs.declared.panic.Panic.{Panic as Cause}
-use Rattle.word.specs.declared.value.Word.{Word}
 use Rattle.word.specs.declared.value.Word.TheVariants.{Chan}
-use Rattle.word.specs.Values.{Request, Panic}
 use Rattle.type_table.specs.Types.{ValueType}
-use Rattle.type_table.specs.Containment.{fields_of, Structs}
+use Rattle.type_table.specs.Containment.{Structs}
 use Rattle.type_table.specs.Zeros.{zero_words}
-use Rattle.type_table.specs.Scopes.{Variable, Scope, Yield, entered, is_blank, later, last_named, Globals}
+use Rattle.type_table.specs.Scopes.{Variable, Scope, entered, is_blank, later, last_named, Globals}
 use Rattle.meaning.specs.Values.{words_in, known}
 use Rattle.meaning.specs.Variables.{Blocks, Destination, New, blank, declare, holding, entered as entered_blocks}
 use Rattle.meaning.specs.Expressions.{type_of as type_of', element_kind}
-use Rattle.meaning.specs.Tasks.{Ranging, Task, Head, EndBlock, Frame, frame, Course, Goes, Moves}
+use Rattle.meaning.specs.Tasks.{Ranging, Task, Head, EndBlock, Frame, frame, Course, Goes}
 use Rattle.meaning.specs.Source.{ranges, channel as channel_work, statement_work}
-use Rattle.codegen_base.specs.declared.element.Element.{Element}
 use Rattle.codegen_base.specs.Layouts.{keeping, carried, type_of}
 use Rattle.codegen_base.specs.Pushes.{drops}
 use Rattle.codegen_base.specs.Statements.{Local, width}
 use Rattle.codegen_base.specs.Elements.{shape_of}
 use Rattle.codegen_base.specs.Generated.{at, inside, keeps, receives, made_all}
-use Rattle.plan.specs.Plan.{Plan, Skip, Seq, Cycle, Do}
+use Rattle.plan.specs.Plan.{Plan, Skip, Seq, Cycle}
 use Rattle.bytecode.specs.Machine.{put_at}
 use Rattle.plan.proofs.Words.{Words}
 use Rattle.plan.proofs.Places.{at_once}
-use Rattle.plan.proofs.Steps.{spots, stores, stores as stores_words}
+use Rattle.plan.proofs.Steps.{stores as stores_words}
 use Rattle.codegen_base.proofs.Alike.{kind_if, last_append, drop_append, drop_all}
-use Rattle.codegen_base.proofs.Fields.{AllWide, AllTyped}
-use Rattle.codegen_base.proofs.Likeness.{kinds_long, AreLike, all_words_of}
+use Rattle.codegen_base.proofs.Likeness.{kinds_long}
 use Rattle.codegen_base.proofs.Seen.{Like, seen}
 use Rattle.codegen_base.proofs.Typing.{Free}
 use Rattle.codegen_follows.proofs.Stands.{Around, View, scope_of, variables, Together, Inner, Doing, Fine, IsOn, LeadsOn, Items, RangingAt, Sits, opened, item_view, OneMakes}
-use Rattle.codegen_follows.proofs.Begun.{FineBehind, take_front, inner_opened, fine_opened, seen_opened}
+use Rattle.codegen_follows.proofs.Begun.{take_front, inner_opened, fine_opened, seen_opened}
 use Rattle.codegen_follows.proofs.Grown.{grown_statements}
 use Rattle.typing_rules.specs.Expressions.{ExpressionHas, ChannelHas, nodes_of, default_type}
 use Rattle.codegen_follows.proofs.Outers.{has_same, worth_same}
 use Rattle.codegen_base.proofs.Running.{Compiled, Coded}
-use Rattle.codegen_follows.proofs.Simulated.{Simulated, Held, Rest, blocks_of, at as at_place, Comes, Works, Reaches, reaches_behind, works_behind, slides, moves, Point, Position, here_blocks, On', standing}
+use Rattle.codegen_follows.proofs.Simulated.{Simulated, Held, at as at_place, Comes, Works, reaches_behind, slides, Position, here_blocks, On', standing}
 use Rattle.meaning.specs.Worked.{Worked, ready, and_then}
-use Rattle.codegen_base.proofs.Gave.{Follows, stays, bind as follows_then, asks as asks_at}
 use Rattle.codegen_follows.proofs.Channels.{IsChannel, channel_there, channel_goes}
 use Rattle.codegen_follows.proofs.Follows.{lands, map_reached, end_sits, inner_same}
 use Rattle.codegen_base.proofs.Expressions.{same_worth}

@@ -1,57 +1,39 @@
 -- Requests: their operands are pushed, and the instruction asks what the source asks.
-use Rattle.std.proofs.Common.{◌≡◌, ℕ, ℤ, pos, ◌+◌, ◌≤◌, Bool, true, false, List, [], ◌∷◌, ◌++◌, length, map, Option, Some, None, option_map, Ok, refl, sym, ap, ◌∙◌, subst, arith, slice_get, inl, inr, length-append, drop}
-use Rattle.std.specs.Prelude.{if◌then◌else◌}
-use Rattle.std.specs.Option.{is_some}
+use Rattle.std.proofs.Common.{◌≡◌, ℕ, ◌+◌, true, false, List, [], ◌∷◌, ◌++◌, length, map, refl, ap, ◌∙◌, arith, inl, inr, length-append, drop}
 use Rattle.std.proofs.lemmas.List.{map-append}
-use Rattle.go_text.specs.declared.rule.Rule.TheVariants as rules
-use Rattle.syntax.specs.declared.node.Direction.{Direction}
-use Rattle.syntax.specs.Tree.{TypeExpression, NamedType, ParenthesizedType, Channel, Expression, Receive, Make, Length, Capacity, Close, Send, File, ReceiveAlone}
-use Rattle.syntax.specs.Measures.{type_size, expression_size}
+use Rattle.syntax.specs.Tree.{Expression, Close, Send, ReceiveAlone}
 use Rattle.bytecode.specs.declared.instr.WordKind.TheVariants as kinds
 use Rattle.bytecode.specs.declared.instr.Instr.TheVariants as instrs
-use Rattle.bytecode.specs.Code.{Function as CodeFunction, Code}
 use Rattle.bytecode.specs.Effects.{kinds_in, shape_kinds, gives}
-use Rattle.bytecode.specs.Machine.{Frames as CodeFrames, zero_of, if_there, if_within, code_next, pops, is_told}
-use Rattle.word.specs.declared.panic.Panic.{Panic as Cause}
-use Rattle.word.specs.declared.value.Word.TheVariants.{Int, Bool as Truth, Chan}
+use Rattle.bytecode.specs.Machine.{Frames as CodeFrames, zero_of, code_next, pops, is_told}
+use Rattle.word.specs.declared.value.Word.TheVariants.{Bool as Truth, Chan}
 use Rattle.word.specs.Values.{Request, Panic}
 use Rattle.word.specs.Values as requests
-use Rattle.word.specs.Related.{here}
-use Rattle.type_table.specs.Types.{ValueType, IntType, BoolType, StructType, ChannelType, element_type, assignable, is_int_type}
-use Rattle.type_table.specs.Containment.{fields_of, Structs}
-use Rattle.type_table.specs.Scopes.{Variable, Scope, Yield, nothing_declared, is_blank, variable_named, type_in, Globals}
+use Rattle.type_table.specs.Types.{ValueType}
+use Rattle.type_table.specs.Containment.{Structs}
+use Rattle.type_table.specs.Scopes.{Scope, Globals}
 use Rattle.type_table.specs.Zeros.{zero_words}
-use Rattle.typing_rules.specs.Worths.{Worth, Typed, Constant, Nil, is_int, worth}
-use Rattle.typing_rules.specs.Expressions.{nodes_of, ExpressionHas, ValueHas, element_of}
+use Rattle.typing_rules.specs.Expressions.{ExpressionHas}
 use Rattle.typing_rules.specs.Simples.{SimpleHas}
-use Rattle.typing_rules.specs.Operations.{MeasuredHas, ReceiveHas, TypeHas, MadeHas, SizeHas}
-use Rattle.meaning.specs.Values.{Value, known, words_in, parted, words_like, reply_words}
-use Rattle.meaning.specs.Variables.{Blocks, as_kind}
-use Rattle.meaning.specs.Expressions.{word_in}
-use Rattle.meaning.specs.Tasks.{Task, frame, Course, Goes, Moves, Frame}
-use Rattle.meaning.specs.Source.{channel, asks, simple_work}
-use Rattle.codegen_base.specs.declared.element.Element.{Element}
+use Rattle.typing_rules.specs.Operations.{MeasuredHas, ReceiveHas}
+use Rattle.meaning.specs.Values.{Value, parted, words_like, reply_words}
+use Rattle.meaning.specs.Variables.{Blocks}
+use Rattle.meaning.specs.Tasks.{frame, Course, Goes}
+use Rattle.meaning.specs.Source.{asks, simple_work}
 use Rattle.codegen_base.specs.Elements.{shape_of, kinds_of}
 use Rattle.codegen_base.specs.Layouts.{carried}
 use Rattle.codegen_base.specs.Pushes.{pushes_own}
-use Rattle.codegen_base.specs.Statements.{pushes_received, simple_plan}
+use Rattle.codegen_base.specs.Statements.{simple_plan}
 use Rattle.plan.specs.Plan.{Plan, Skip, Do}
 use Rattle.plan.proofs.Words.{Words}
-use Rattle.plan.proofs.Steps.{spots, within, pushes_int, closes, receives, discards}
-use Rattle.codegen_base.proofs.Fields.{AllWide, AllTyped}
-use Rattle.codegen_base.proofs.Alike.{type_alike}
-use Rattle.codegen_base.proofs.Likeness.{kinds_zeros, kinds_long, like_long, is_int as is_int_word, AreLike, all_words_of, like_length}
-use Rattle.codegen_base.proofs.Noted.{Noted}
-use Rattle.codegen_base.proofs.Seen.{Like, seen}
-use Rattle.codegen_base.proofs.Typing.{Free, Fits, fits, broken, nodes_end, worth_there, int_type, not_false}
-use Rattle.codegen_base.proofs.Static.{variables_known}
-use Rattle.codegen_follows.proofs.Stands.{Around, View, scope_of, variables, Together, IsOn, Fine, Taking, Sits, OneMakes}
-use Rattle.codegen_follows.proofs.Valued.{value_goes}
-use Rattle.codegen_follows.proofs.Channels.{IsChannel, channel_there, channel_goes, asks_goes, emitted_own}
+use Rattle.plan.proofs.Steps.{closes, receives, discards}
+use Rattle.codegen_base.proofs.Likeness.{kinds_zeros, kinds_long, all_words_of, like_length}
+use Rattle.codegen_base.proofs.Typing.{Free}
+use Rattle.codegen_follows.proofs.Stands.{scope_of, variables, OneMakes}
+use Rattle.codegen_follows.proofs.Channels.{channel_there, channel_goes, asks_goes, emitted_own}
 use Rattle.codegen_base.proofs.Running.{Compiled, Coded}
-use Rattle.codegen_follows.proofs.Simulated.{Simulated, Held, Rest, blocks_of, at, Comes, Works, Reaches, reaches_behind, works_behind, slides, moves, Point, Position, here_blocks, On', standing}
-use Rattle.meaning.specs.Worked.{Worked, ready, and_then, Asking}
-use Rattle.codegen_base.proofs.Gave.{Follows, stays, bind as follows_then, asks as asks_at}
+use Rattle.codegen_follows.proofs.Simulated.{Simulated, at, Comes, Works, works_behind, slides, Position, here_blocks, On', standing}
+use Rattle.meaning.specs.Worked.{Worked, ready, Asking}
 use Rattle.codegen_base.proofs.Sends.{send_goes as kernel_send}
 use Rattle.codegen_follows.proofs.Follows.{lands_same}
 use Rattle.word.specs.Kinds.{Asks}

@@ -1,46 +1,36 @@
 -- Return statements, and calls and receives whose values nobody needs.
-use Rattle.std.proofs.Common.{◌≡◌, ℕ, suc, ◌+◌, ◌≤◌, Bool, true, false, List, [], ◌∷◌, length, Option, Some, None, option_map, refl, sym, ap, ◌∙◌, subst, arith, slice_get, inl, inr}
-use Rattle.std.specs.Prelude.{if◌then◌else◌}
+use Rattle.std.proofs.Common.{◌≡◌, ℕ, ◌+◌, ◌≤◌, List, [], length, Option, Some, None, refl, sym, ap, ◌∙◌, subst, arith, inl, inr}
 use Rattle.go_text.specs.declared.rule.Rule.TheVariants as rules
-use Rattle.syntax.specs.Tree.{Expression, Arguments, CallAlone, ReceiveAlone, Returned, NoValue, ReturnedValue, Return, File}
+use Rattle.syntax.specs.Tree.{Returned, NoValue, ReturnedValue, Return}
 use Rattle.syntax.specs.Measures.{returned_size}
-use Rattle.bytecode.specs.declared.instr.Instr.TheVariants as instrs
-use Rattle.bytecode.specs.Code.{Function as CodeFunction, Code}
 use Rattle.bytecode.specs.Machine.{Frames as CodeFrames, returned}
-use Rattle.word.specs.declared.panic.Panic.{Panic as Cause}
-use Rattle.word.specs.Values.{Request, Panic}
 use Rattle.word.specs.Related.{here, here}
-use Rattle.type_table.specs.Types.{ValueType, BoolType}
-use Rattle.type_table.specs.Containment.{fields_of, Structs}
+use Rattle.type_table.specs.Types.{ValueType}
+use Rattle.type_table.specs.Containment.{Structs}
 use Rattle.type_table.specs.Scopes.{Scope, Yield, NoResult, Yields, Globals}
 use Rattle.type_table.specs.Zeros.{zero_words}
-use Rattle.typing_rules.specs.Worths.{Worth, Typed, worth}
+use Rattle.typing_rules.specs.Worths.{Worth, worth}
 use Rattle.typing_rules.specs.Expressions.{nodes_of, ValueHas}
-use Rattle.typing_rules.specs.Operations.{Given, result_of, is_receive, CallHas, ReceiveHas}
+use Rattle.typing_rules.specs.Operations.{Given, result_of}
 use Rattle.typing_rules.specs.Statements.{ReturnHas, ReturnStatementHas}
 use Rattle.meaning.specs.Values.{Value, known, words_like}
 use Rattle.meaning.specs.Variables.{Blocks}
-use Rattle.meaning.specs.Tasks.{Task, frame, Course, Goes, Moves, Frame, GivesBack}
+use Rattle.meaning.specs.Tasks.{Course, GivesBack}
 use Rattle.meaning.specs.Source.{statement_work}
 use Rattle.codegen_base.specs.declared.element.Element.{Element}
 use Rattle.codegen_base.specs.Generated.{result_type, return_plan, result_kinds}
-use Rattle.codegen_base.specs.Layouts.{carried}
-use Rattle.codegen_base.specs.Pushes.{drops}
-use Rattle.codegen_base.specs.Statements.{simple_plan, result_words, width}
-use Rattle.plan.specs.Plan.{Plan, Skip, Do, Stop}
+use Rattle.plan.specs.Plan.{Plan, Stop}
 use Rattle.plan.proofs.Words.{Words}
-use Rattle.plan.proofs.Steps.{spots, returns}
-use Rattle.codegen_base.proofs.Fields.{AllWide, AllTyped}
-use Rattle.codegen_base.proofs.Likeness.{kinds_long, assignable_zeros, AreLike, all_words_of, like_length}
-use Rattle.codegen_base.proofs.Seen.{seen}
+use Rattle.plan.proofs.Steps.{returns}
+use Rattle.codegen_base.proofs.Likeness.{kinds_long, like_length}
 use Rattle.codegen_base.proofs.Typing.{Free, Fits, fits, broken, nodes_end, worth_there}
 use Rattle.codegen_base.proofs.Static.{variables_known}
-use Rattle.codegen_follows.proofs.Stands.{Around, View, scope_of, variables, Together, IsOn, Fine, Taking, all_wide, Sits, ReturnedMakes}
+use Rattle.codegen_follows.proofs.Stands.{scope_of, ReturnedMakes}
 use Rattle.codegen_follows.proofs.Valued.{value_goes}
 use Rattle.codegen_base.proofs.Running.{Compiled, Coded}
-use Rattle.codegen_follows.proofs.Simulated.{Simulated, Held, Rest, blocks_of, at, Comes, Works, Reaches, reaches_behind, works_behind, slides, moves, Point, Position, here_blocks, On', standing}
-use Rattle.meaning.specs.Worked.{Worked, ready, and_then}
-use Rattle.codegen_base.proofs.Gave.{Follows, stays, bind as follows_then, asks as asks_at}
+use Rattle.codegen_follows.proofs.Simulated.{Simulated, at, Comes, Works, Position, here_blocks, On'}
+use Rattle.meaning.specs.Worked.{Worked, ready}
+use Rattle.codegen_base.proofs.Gave.{stays}
 use Rattle.typing_rules.specs.Calls.{result_of}
 use Rattle.meaning.specs.Expressions.{zero_result}
 

@@ -1,48 +1,43 @@
 -- What right sides give to destinations.
 use Rattle.word.specs.Values as requests
 use Rattle.bytecode.specs.declared.instr.WordKind.TheVariants as kinds
-use Rattle.std.proofs.Common.{◌≡◌, ℕ, ◌+◌, ◌==◌, ◌≤◌, Bool, true, false, List, [], ◌∷◌, ◌++◌, length, map, Option, Some, refl, sym, ap, ◌∙◌, subst, arith, slice_get, suc, zero, ◌&&◌, inl, inr, ◌⊎◌}
+use Rattle.std.proofs.Common.{◌≡◌, ℕ, ◌+◌, ◌==◌, ◌≤◌, true, false, List, [], ◌∷◌, ◌++◌, length, map, Some, refl, sym, ap, ◌∙◌, subst, arith, suc, zero, ◌&&◌, inl, inr, ◌⊎◌}
 use Rattle.std.specs.Prelude.{if◌then◌else◌, ◌&&◌}
 use Rattle.std.proofs.lemmas.Bool.Decides.{nat_tests}
-use Rattle.std.proofs.lemmas.List.{append-nil, map-append}
+use Rattle.std.proofs.lemmas.List.{map-append}
 use Rattle.go_text.specs.declared.rule.Rule.TheVariants as rules
 use Rattle.syntax.specs.declared.node.Direction.TheVariants as directions
-use Rattle.syntax.specs.Tree.{Expression, expressions, File, Receive}
+use Rattle.syntax.specs.Tree.{Expression, expressions, Receive}
 use Rattle.bytecode.specs.declared.instr.Instr.TheVariants as instrs
-use Rattle.bytecode.specs.Code.{Function as CodeFunction, Code}
 use Rattle.bytecode.specs.Machine.{Frames as CodeFrames, zero_of}
-use Rattle.word.specs.declared.panic.Panic.{Panic as Cause}
 use Rattle.word.specs.Values.{Request, Panic}
-use Rattle.word.specs.Related.{here}
 use Rattle.type_table.specs.Types.{ValueType, IntType, BoolType, StructType, ChannelType, identical, assignable}
-use Rattle.type_table.specs.Containment.{fields_of, Structs}
+use Rattle.type_table.specs.Containment.{Structs}
 use Rattle.type_table.specs.Zeros.{zero_words}
-use Rattle.type_table.specs.Scopes.{Scope, Yield, Globals}
+use Rattle.type_table.specs.Scopes.{Scope, Globals}
 use Rattle.typing_rules.specs.Flaws.{Nodes}
 use Rattle.typing_rules.specs.Worths.{Worth, Typed, Constant, Nil, is_int}
 use Rattle.typing_rules.specs.Expressions.{DefaultHas, ExpressionsHave, default_type, nodes_of, ExpressionHas}
 use Rattle.typing_rules.specs.Operations.{is_receive, also_given}
 use Rattle.meaning.specs.Values.{Value, known, parted}
 use Rattle.meaning.specs.Variables.{Blocks, Destination}
-use Rattle.meaning.specs.Tasks.{Task, frame, Course, Goes, Moves, Frame}
+use Rattle.meaning.specs.Tasks.{Course}
 use Rattle.meaning.specs.Source.{gives, stores}
 use Rattle.codegen_base.specs.declared.element.Element.{Element}
 use Rattle.codegen_base.specs.Pushes.{pushes_all}
 use Rattle.codegen_base.specs.Statements.{Spot, assigns, pushes_right, pushes_received}
 use Rattle.plan.specs.Plan.{Plan, Skip, Do}
 use Rattle.plan.proofs.Words.{Words}
-use Rattle.plan.proofs.Steps.{spots as code_spots, receives}
-use Rattle.codegen_base.proofs.Fields.{AllWide, AllTyped}
-use Rattle.codegen_base.proofs.Seen.{seen}
+use Rattle.plan.proofs.Steps.{receives}
 use Rattle.codegen_base.proofs.Assigned.{behind_all, AreSpots}
 use Rattle.codegen_base.proofs.Typing.{Free, Fits, broken, not_false}
-use Rattle.codegen_follows.proofs.Stands.{Around, View, scope_of, variables, Together, IsOn, Fine, Taking, Sits, OneMakes, ValuesMake}
+use Rattle.codegen_follows.proofs.Stands.{scope_of, variables, OneMakes, ValuesMake}
 use Rattle.codegen_follows.proofs.Calling.{all_go}
 use Rattle.codegen_base.proofs.Running.{Compiled, Coded}
-use Rattle.codegen_follows.proofs.Simulated.{Simulated, Held, Rest, blocks_of, at, Comes, Works, Reaches, reaches_behind, works_behind, slides, moves, Point, Position, here_blocks, On', standing}
-use Rattle.meaning.specs.Worked.{Worked, ready, and_then}
+use Rattle.codegen_follows.proofs.Simulated.{Simulated, at, Comes, Works, Position, here_blocks, On', standing}
+use Rattle.meaning.specs.Worked.{Worked, and_then}
 use Rattle.codegen_base.proofs.Likeness.{AreLike, all_words_of, kinds_zeros}
-use Rattle.codegen_base.proofs.Gave.{Follows, stays, bind as follows_then, asks as asks_at}
+use Rattle.codegen_base.proofs.Gave.{Follows, bind as follows_then}
 use Rattle.meaning.specs.Expressions.{right_values, values, value, received, element_kind}
 use Rattle.codegen_follows.proofs.Stored.{all_kept_goes}
 use Rattle.codegen_follows.proofs.Channels.{channel_there, channel_value_goes, emitted_own}

@@ -1,41 +1,30 @@
 -- Selects: the code asks what the source does, and goes on where it does.
-use Rattle.std.proofs.Common.{◌≡◌, ℕ, ◌+◌, ◌≤◌, List, [], ◌∷◌, length, Option, Some, None, IfSome, refl, sym, ap, ◌∙◌, arith, slice_get, inl, subst}
+use Rattle.std.proofs.Common.{◌≡◌, ℕ, ◌+◌, ◌≤◌, List, [], length, Option, Some, None, IfSome, refl, sym, ap, ◌∙◌, arith, inl, subst}
 use Rattle.std.specs.Option.{is_some}
-use Rattle.std.specs.Prelude.{unwrap_or}
-use Rattle.syntax.specs.Tree.{Comm, Statements, NoStatement, Select, Clauses, NoClause, Clause, File}
+use Rattle.syntax.specs.Tree.{Comm, Statements, Select, Clauses, NoClause, Clause}
 use Rattle.bytecode.specs.declared.instr.WordKind.{WordKind}
-use Rattle.bytecode.specs.Code.{Function as CodeFunction, Code}
 use Rattle.bytecode.specs.Effects.{all_clause_kinds, clauses_in}
 use Rattle.bytecode.specs.Machine.{Frames as CodeFrames}
-use Rattle.word.specs.declared.panic.Panic.{Panic as Cause}
 use Rattle.word.specs.declared.request.Case.{Case}
 use Rattle.word.specs.Values.{Request, Panic}
 use Rattle.word.specs.Values as requests
-use Rattle.word.specs.Related.{here}
-use Rattle.type_table.specs.Containment.{fields_of, Structs}
-use Rattle.type_table.specs.Scopes.{Scope, Yield, Globals}
+use Rattle.type_table.specs.Containment.{Structs}
+use Rattle.type_table.specs.Scopes.{Scope, Globals}
 use Rattle.meaning.specs.Variables.{Blocks}
-use Rattle.meaning.specs.Tasks.{Task, Course, Goes, Moves, Frame, frame}
+use Rattle.meaning.specs.Tasks.{Course}
 use Rattle.meaning.specs.Source.{default_of, cases_of, chosen, statement_work}
-use Rattle.codegen_base.specs.declared.element.Element.{Element}
 use Rattle.codegen_base.specs.Generated.{Site, Made, past, followed, ended, inside, with_way, select_table, pushes_clauses, comm_kinds, made_comm, made_all, made_select, made_ways, made_default, within_select}
-use Rattle.plan.specs.Plan.{Plan, Choose, starts, Do, Skip}
+use Rattle.plan.specs.Plan.{Plan, Choose, starts}
 use Rattle.plan.proofs.Words.{Words}
-use Rattle.plan.proofs.Steps.{spots}
-use Rattle.codegen_base.proofs.Fields.{AllWide, AllTyped}
-use Rattle.codegen_base.proofs.Seen.{seen}
-use Rattle.codegen_follows.proofs.Paths.{AllKnown}
-use Rattle.codegen_follows.proofs.Stands.{Around, View, scope_of, variables, Together, IsOn, Fine, Fits, Doing, in_way, behind, Sits}
-use Rattle.codegen_follows.proofs.Begun.{FineBehind}
+use Rattle.codegen_follows.proofs.Stands.{Around, scope_of, variables, IsOn, Fits, Doing, in_way, behind}
 use Rattle.codegen_follows.proofs.Grown.{grown_default}
 use Rattle.codegen_follows.proofs.Comms.{Beside}
 use Rattle.codegen_follows.proofs.Operands.{AllOffered, clauses_go, AllAt}
 use Rattle.codegen_follows.proofs.Ways.{plan_of, default_laid, ways_laid}
 use Rattle.codegen_base.proofs.Running.{Compiled, Coded}
-use Rattle.codegen_follows.proofs.Simulated.{Simulated, Held, Rest, blocks_of, at, Comes, Works, Reaches, reaches_behind, works_behind, slides, moves, Point, Position, here_blocks, On', standing}
+use Rattle.codegen_follows.proofs.Simulated.{Simulated, at, Comes, Works, Position, here_blocks, On'}
 use Rattle.meaning.specs.Worked.{Worked, ready, and_then, needs, Asking}
-use Rattle.codegen_base.proofs.Likeness.{AreLike, all_words_of}
-use Rattle.codegen_base.proofs.Gave.{Follows, stays, bind as follows_then, asks as asks_at}
+use Rattle.codegen_base.proofs.Gave.{bind as follows_then}
 use Rattle.codegen_follows.proofs.Chosen.{Choosing, ways_of, choose_goes}
 
 module _ {globals : Globals} {program : Compiled globals} (coded : Coded program) where

@@ -1,47 +1,37 @@
 -- Assignments to places.
-use Rattle.std.proofs.Common.{◌≡◌, ℕ, suc, ◌+◌, ◌==◌, ◌≤◌, Bool, true, false, List, [], ◌∷◌, length, map, Option, Some, None, option_map, refl, sym, ap, ◌∙◌, subst, arith, slice_get, inl, inr, zero, ◌⊎◌, ◌++◌}
-use Rattle.std.specs.Prelude.{if◌then◌else◌, ◌&&◌}
-use Rattle.syntax.specs.Tree.{Expression, expressions, Place, Assign, File, Receive}
+use Rattle.std.proofs.Common.{◌≡◌, ℕ, suc, ◌+◌, ◌≤◌, Bool, true, false, List, [], ◌∷◌, length, map, Option, Some, None, option_map, refl, sym, ap, ◌∙◌, subst, arith, inl, inr, zero, ◌⊎◌, ◌++◌}
+use Rattle.std.specs.Prelude.{if◌then◌else◌}
+use Rattle.syntax.specs.Tree.{Expression, expressions, Place, Assign, Receive}
 use Rattle.syntax.specs.Measures.{expression_size, simple_size}
-use Rattle.bytecode.specs.Code.{Function as CodeFunction, Code}
 use Rattle.bytecode.specs.Machine.{Frames as CodeFrames}
-use Rattle.word.specs.declared.panic.Panic.{Panic as Cause}
-use Rattle.word.specs.Values.{Request, Panic}
 use Rattle.type_table.specs.Types.{ValueType, BoolType}
-use Rattle.type_table.specs.Containment.{fields_of, Structs}
-use Rattle.type_table.specs.Scopes.{Globals, Scope, Yield, is_blank}
+use Rattle.type_table.specs.Containment.{Structs}
+use Rattle.type_table.specs.Scopes.{Globals, Scope, is_blank}
 use Rattle.type_table.specs.Zeros.{zero_words}
 use Rattle.typing_rules.specs.Worths.{Worth, Typed, worth, type_of_field, element_of}
 use Rattle.typing_rules.specs.Expressions.{nodes_of, ValueHas, DefaultHas, ExpressionsHave, default_type, ExpressionHas}
-use Rattle.typing_rules.specs.Operations.{Given, given, given_values, is_receive, GoesHas, PlaceHas, PlacesFail, PlacesHave, place_type, also_given}
+use Rattle.typing_rules.specs.Operations.{Given, given, given_values, GoesHas, PlaceHas, PlacesFail, PlacesHave, place_type}
 use Rattle.typing_rules.specs.Simples.{SimpleHas, AssignedHave}
-use Rattle.meaning.specs.Values.{known, Value}
+use Rattle.meaning.specs.Values.{known}
 use Rattle.meaning.specs.Variables.{Blocks}
 use Rattle.meaning.specs.Destinations.{placed}
-use Rattle.meaning.specs.Tasks.{Task, Course, Goes, Moves, Frame, frame}
-use Rattle.meaning.specs.Source.{stores, simple_work, gives}
-use Rattle.codegen_base.specs.declared.element.Element.{Element}
+use Rattle.meaning.specs.Tasks.{Course}
+use Rattle.meaning.specs.Source.{stores, simple_work}
 use Rattle.codegen_base.specs.Layouts.{given_types, carried}
-use Rattle.codegen_base.specs.Statements.{assigns, place_spots, taken_type, taken_types, pushes_right, right_types, simple_plan, pushes_received, Spot}
-use Rattle.plan.specs.Plan.{Plan, Skip, Do}
+use Rattle.codegen_base.specs.Statements.{assigns, place_spots, taken_type, taken_types, pushes_right, right_types, simple_plan, pushes_received}
+use Rattle.plan.specs.Plan.{Plan, Skip}
 use Rattle.plan.proofs.Words.{Words}
-use Rattle.plan.proofs.Steps.{spots as code_spots}
 use Rattle.codegen_base.proofs.Alike.{worth_alike}
 use Rattle.codegen_base.proofs.Called.{same_count, AllFit}
-use Rattle.codegen_base.proofs.Fields.{AllWide, AllTyped}
-use Rattle.codegen_base.proofs.Likeness.{assignable_zeros, AreLike, all_words_of}
-use Rattle.codegen_base.proofs.Seen.{seen}
+use Rattle.codegen_base.proofs.Likeness.{assignable_zeros}
 use Rattle.codegen_base.proofs.Typing.{Free, Fits, fits, nodes_end, worth_there}
 use Rattle.codegen_base.proofs.Static.{variables_known}
-use Rattle.codegen_follows.proofs.Paths.{AllKnown}
-use Rattle.codegen_follows.proofs.Stands.{Around, View, scope_of, variables, Together, IsOn, Fine, Sits, OneMakes, ValuesMake}
+use Rattle.codegen_follows.proofs.Stands.{View, scope_of, variables, Fine, OneMakes, ValuesMake}
 use Rattle.codegen_follows.proofs.Places.{reaches, Suits, AllSuit, places_are, places_stay}
 use Rattle.codegen_base.proofs.Running.{Compiled, Coded}
-use Rattle.codegen_follows.proofs.Simulated.{Simulated, Held, Rest, blocks_of, at, Comes, Works, Reaches, reaches_behind, works_behind, slides, moves, Point, Position, here_blocks, On', standing}
-use Rattle.meaning.specs.Worked.{Worked, ready, and_then}
-use Rattle.codegen_base.proofs.Gave.{Follows, stays, bind as follows_then, asks as asks_at}
-use Rattle.meaning.specs.Expressions.{right_values, values, value, received, element_kind}
-use Rattle.codegen_base.specs.Pushes.{pushes_all}
+use Rattle.codegen_follows.proofs.Simulated.{Simulated, at, Works, Position, here_blocks, On'}
+use Rattle.meaning.specs.Worked.{Worked, and_then}
+use Rattle.meaning.specs.Expressions.{right_values}
 use Rattle.codegen_follows.proofs.Channels.{channel_there}
 use Rattle.codegen_follows.proofs.Rights.{IsPlain, IsBoth, form, values_go, both_go}
 use Rattle.std.proofs.lemmas.List.{append-nil, length-map}

@@ -1,19 +1,16 @@
 -- Loops over channels whose items go somewhere.
-use Rattle.std.proofs.Common.{◌≡◌, ℕ, ◌+◌, ◌≤◌, Bool, true, false, List, [], ◌∷◌, length, take, drop, Option, Some, None, option_map, refl, sym, ap, ◌∙◌, subst, arith, slice_get, inl, inr}
+use Rattle.std.proofs.Common.{◌≡◌, ℕ, ◌+◌, ◌≤◌, Bool, true, false, List, [], ◌∷◌, length, take, drop, Option, Some, None, option_map, refl, sym, ap, ◌∙◌, subst, arith, inl, inr}
 use Rattle.std.specs.Prelude.{if◌then◌else◌, ◌&&◌, ◌||◌, not}
 use Rattle.std.specs.Option.{is_none}
 use Rattle.std.specs.List.{list_any}
 use Rattle.go_text.specs.declared.rule.Rule.TheVariants as rules
-use Rattle.syntax.specs.Tree.{Expression, Target, DefineTarget, AssignTarget, Place, For, Range, Statements, File}
+use Rattle.syntax.specs.Tree.{Expression, Target, DefineTarget, AssignTarget, Place, For, Range, Statements}
 use Rattle.syntax.specs.Measures.{target_size}
-use Rattle.bytecode.specs.Code.{Function as CodeFunction, Code}
 use Rattle.bytecode.specs.Machine.{Frames as CodeFrames}
-use Rattle.word.specs.declared.panic.Panic.{Panic as Cause}
-use Rattle.word.specs.Values.{Request, Panic}
 use Rattle.type_table.specs.Types.{ValueType}
-use Rattle.type_table.specs.Containment.{Structs, fields_of}
+use Rattle.type_table.specs.Containment.{Structs}
 use Rattle.type_table.specs.Zeros.{zero_words}
-use Rattle.type_table.specs.Scopes.{Scope, Yield, entered, declared, is_blank, own_variable, last_named, Globals}
+use Rattle.type_table.specs.Scopes.{Scope, entered, declared, is_blank, own_variable, last_named, Globals}
 use Rattle.typing_rules.specs.Worths.{Typed, worth}
 use Rattle.typing_rules.specs.Expressions.{ExpressionHas, ChannelHas, nodes_of, element_of}
 use Rattle.typing_rules.specs.Operations.{PlacesHave, PlacesFail}
@@ -21,34 +18,29 @@ use Rattle.typing_rules.specs.Simples.{has_twice, is_declarable, DefinedHave}
 use Rattle.typing_rules.specs.Statements.{item_given, after_for_head}
 use Rattle.meaning.specs.Values.{words_in, whole, slot_along}
 use Rattle.meaning.specs.Variables.{Blocks, Destination, Nowhere, New, Into, kind_of}
-use Rattle.meaning.specs.Tasks.{Task, Course, Goes, Moves, Frame, frame}
+use Rattle.meaning.specs.Tasks.{Course}
 use Rattle.meaning.specs.Source.{item_destinations, statement_work}
 use Rattle.meaning.specs.Destinations.{placed, place_slot}
-use Rattle.codegen_base.specs.declared.element.Element.{Element}
 use Rattle.codegen_base.specs.Layouts.{Layout, entering, keeping, carried, declaring}
 use Rattle.codegen_base.specs.Statements.{Spot, Local, width, assigns, name_spot, own_spot, place_spot}
 use Rattle.codegen_base.specs.Generated.{at, inside, takes, item_site, made_all}
-use Rattle.plan.specs.Plan.{Plan, Skip, Do}
+use Rattle.plan.specs.Plan.{Plan, Skip}
 use Rattle.plan.proofs.Words.{Words}
-use Rattle.plan.proofs.Steps.{spots}
 use Rattle.codegen_base.proofs.Alike.{drop_all}
-use Rattle.codegen_base.proofs.Fields.{AllWide, AllTyped}
-use Rattle.codegen_base.proofs.Likeness.{kinds_long, AreLike, all_words_of}
+use Rattle.codegen_base.proofs.Likeness.{kinds_long}
 use Rattle.codegen_base.proofs.Seen.{seen, seen_one, seen_lookup}
 use Rattle.codegen_base.proofs.Typing.{Free, broken, nodes_end}
 use Rattle.codegen_follows.proofs.Outers.{has_same, worth_same}
-use Rattle.codegen_follows.proofs.Paths.{AllKnown}
 use Rattle.codegen_follows.proofs.Places.{places_are, places_stay}
 use Rattle.codegen_follows.proofs.Sets.{typed_suit}
-use Rattle.codegen_follows.proofs.Stands.{Around, View, scope_of, variables, Together, Doing, Fine, IsOn, Items, Assigning, RangingAt, item_view, Sits}
-use Rattle.codegen_follows.proofs.Begun.{FineBehind, take_front}
+use Rattle.codegen_follows.proofs.Stands.{Around, View, scope_of, variables, Together, Doing, Fine, IsOn, Items, Assigning, RangingAt, item_view}
+use Rattle.codegen_follows.proofs.Begun.{take_front}
 use Rattle.codegen_follows.proofs.Grown.{grown_statements}
 use Rattle.codegen_follows.proofs.Declared.{fine_declared}
 use Rattle.codegen_follows.proofs.Ranges.{unfound, other_than_blank, kept_view, channel, fine_item, loop_at, kept_goes}
 use Rattle.codegen_base.proofs.Running.{Compiled, Coded}
-use Rattle.codegen_follows.proofs.Simulated.{Simulated, Held, Rest, blocks_of, at as at_place, Comes, Works, Reaches, reaches_behind, works_behind, slides, moves, Point, Position, here_blocks, On', standing}
-use Rattle.meaning.specs.Worked.{Worked, ready, and_then}
-use Rattle.codegen_base.proofs.Gave.{Follows, stays, bind as follows_then, asks as asks_at}
+use Rattle.codegen_follows.proofs.Simulated.{Simulated, at as at_place, Works, Position, here_blocks, On'}
+use Rattle.meaning.specs.Worked.{Worked}
 use Rattle.codegen_follows.proofs.Channels.{IsChannel, channel_there}
 use Rattle.codegen_follows.proofs.Follows.{map_reached}
 use Rattle.meaning.specs.Expressions.{element_kind}

@@ -1,57 +1,49 @@
 -- Variables of a type that are given values.
-use Rattle.std.proofs.Common.{◌≡◌, ℕ, suc, ◌+◌, ◌≤◌, Bool, true, false, List, [], ◌∷◌, length, map, Option, Some, None, refl, sym, ap, ◌∙◌, subst, arith, slice_get, inl, inr, ◌++◌, append_assoc, zero, ◌⊎◌, option_map, sum_by}
+use Rattle.std.proofs.Common.{◌≡◌, ℕ, suc, ◌+◌, ◌≤◌, Bool, true, false, List, [], ◌∷◌, length, map, Option, Some, None, refl, sym, ap, ◌∙◌, subst, arith, inl, inr, ◌++◌, append_assoc, zero, ◌⊎◌, sum_by}
 use Rattle.std.proofs.lemmas.List.{append-nil, length-map}
 use Rattle.std.specs.Option.{is_some}
 use Rattle.std.specs.List.{list_any}
 use Rattle.go_text.specs.declared.rule.Rule.TheVariants as rules
-use Rattle.syntax.specs.Tree.{TypeExpression, Expression, expressions, VarTyped, File, Receive, Assign}
+use Rattle.syntax.specs.Tree.{TypeExpression, Expression, expressions, VarTyped, Receive}
 use Rattle.syntax.specs.Measures.{type_size, expression_size, if_any}
-use Rattle.bytecode.specs.Code.{Function as CodeFunction, Code}
 use Rattle.bytecode.specs.Machine.{Frames as CodeFrames, code_next}
-use Rattle.word.specs.declared.panic.Panic.{Panic as Cause}
-use Rattle.word.specs.Values.{Request, Panic}
 use Rattle.word.specs.Related.{Slips, here as slips_here}
 use Rattle.type_table.specs.Types.{ValueType, BoolType}
-use Rattle.type_table.specs.Containment.{fields_of, Structs}
-use Rattle.type_table.specs.Scopes.{Variable, Scope, Yield, own_variable, type_in, Globals}
+use Rattle.type_table.specs.Containment.{Structs}
+use Rattle.type_table.specs.Scopes.{Variable, Scope, own_variable, type_in, Globals}
 use Rattle.typing_rules.specs.Expressions.{nodes_of, ValueHas, ExpressionsHave, ExpressionHas, NumbersHave}
-use Rattle.typing_rules.specs.Worths.{Typed, element_of, worth}
-use Rattle.typing_rules.specs.Operations.{Given, given, given_values, TypeHas, also_given, RightHas}
-use Rattle.typing_rules.specs.Simples.{AllFail, TypedVariablesHave, AssignedHave, SimpleHas, has_twice}
+use Rattle.typing_rules.specs.Worths.{Typed}
+use Rattle.typing_rules.specs.Operations.{Given, given, given_values, TypeHas, RightHas}
+use Rattle.typing_rules.specs.Simples.{AllFail, TypedVariablesHave, has_twice}
 use Rattle.type_table.specs.Zeros.{zero_words}
 use Rattle.meaning.specs.Values.{Value, known}
 use Rattle.meaning.specs.Variables.{Blocks, Destination}
 use Rattle.meaning.specs.Destinations.{new, all_new, all_defined}
-use Rattle.meaning.specs.Tasks.{Task, frame, Course, Goes, Moves, Frame}
-use Rattle.meaning.specs.Source.{gives, stores, simple_work, statement_work}
-use Rattle.codegen_base.specs.declared.element.Element.{Element}
+use Rattle.meaning.specs.Tasks.{Course}
+use Rattle.meaning.specs.Source.{gives, stores, statement_work}
 use Rattle.codegen_base.specs.Generated.{same_types, variables_plan, zero_values}
 use Rattle.codegen_base.specs.Elements.{kinds_of}
-use Rattle.codegen_base.specs.Layouts.{Layout, declaring_new, declaring_each, declaring_all, carried, given_types}
-use Rattle.codegen_base.specs.Pushes.{pushes_all}
-use Rattle.codegen_base.specs.Statements.{assigns, name_spots, name_type, name_types, pushes_right, pushes_received, Spot, right_types, simple_plan, place_spots, taken_types}
-use Rattle.plan.specs.Plan.{Plan, Skip, Do}
+use Rattle.codegen_base.specs.Layouts.{Layout, declaring_new, declaring_each, declaring_all, carried}
+use Rattle.codegen_base.specs.Statements.{assigns, name_spots, name_type, name_types, pushes_right, Spot}
+use Rattle.plan.specs.Plan.{Plan, Skip}
 use Rattle.plan.proofs.Words.{Words}
-use Rattle.plan.proofs.Steps.{spots as code_spots, slips_more}
+use Rattle.plan.proofs.Steps.{slips_more}
 use Rattle.codegen_base.proofs.Alike.{there_alike, own_alike, type_alike}
 use Rattle.codegen_base.proofs.Called.{same_count, AllFit}
-use Rattle.codegen_base.proofs.Fields.{AllWide, AllTyped}
 use Rattle.codegen_base.proofs.Likeness.{kinds_zeros, zeros_like, assignable_zeros, AreLike, all_words_of}
 use Rattle.codegen_base.proofs.Expressions.{zeros_goes}
 use Rattle.codegen_base.proofs.Seen.{seen}
 use Rattle.codegen_base.proofs.Typing.{Free, fits, broken, nodes_end, worth_there}
 use Rattle.codegen_base.proofs.Static.{variables_known}
-use Rattle.codegen_follows.proofs.Stands.{Around, View, scope_of, variables, Together, IsOn, Fine, Sits, OneMakes, ValuesMake}
+use Rattle.codegen_follows.proofs.Stands.{View, scope_of, variables, Fine, ValuesMake}
 use Rattle.codegen_follows.proofs.Sets.{AreTyped, given_long, plain_given, both_typed}
 use Rattle.codegen_follows.proofs.Names.{neither, AllNamesSuit, NameSuits, names_are, AreNew, new_names}
 use Rattle.codegen_follows.proofs.Untyped.{declared_there}
 use Rattle.codegen_base.proofs.Running.{Compiled, Coded}
-use Rattle.codegen_follows.proofs.Simulated.{Simulated, Held, Rest, blocks_of, at, Comes, Works, Reaches, reaches_behind, works_behind, slides, moves, Point, Position, here_blocks, On', standing}
-use Rattle.meaning.specs.Worked.{Worked, ready, and_then}
-use Rattle.codegen_base.proofs.Gave.{Follows, stays, bind as follows_then, asks as asks_at}
-use Rattle.meaning.specs.Expressions.{right_values, values, value, received, element_kind, written_kind}
-use Rattle.codegen_follows.proofs.Channels.{channel_there}
-use Rattle.codegen_follows.proofs.Rights.{IsPlain, IsBoth, form, values_go, both_go, gives_plain, gives_both, Targets, stored_go}
+use Rattle.codegen_follows.proofs.Simulated.{Simulated, at, Works, works_behind, Position, here_blocks, On', standing}
+use Rattle.meaning.specs.Worked.{Worked}
+use Rattle.meaning.specs.Expressions.{written_kind}
+use Rattle.codegen_follows.proofs.Rights.{IsPlain, IsBoth, form, gives_plain, gives_both, Targets, stored_go}
 use Rattle.codegen_base.proofs.Makes.{type_anywhere}
 
 module _ {globals : Globals} {program : Compiled globals} (coded : Coded program) (ls : Words) (view : View) (fine : Fine coded view) where

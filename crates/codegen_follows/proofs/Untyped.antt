@@ -1,51 +1,31 @@
 -- Variables without a type.
-use Rattle.std.proofs.Common.{◌≡◌, ℕ, ◌+◌, ◌≤◌, Bool, true, false, List, [], length, Option, Some, refl, sym, subst, arith, slice_get, inl, inr, suc, zero, map, ◌⊎◌, option_map, sum_by}
+use Rattle.std.proofs.Common.{◌≡◌, ℕ, ◌+◌, ◌≤◌, Bool, true, false, List, [], length, refl, sym, subst, arith, inl, inr, sum_by}
 use Rattle.std.specs.Prelude.{◌||◌}
 use Rattle.std.specs.Option.{is_some}
 use Rattle.std.specs.List.{list_any}
 use Rattle.go_text.specs.declared.rule.Rule.TheVariants as rules
-use Rattle.syntax.specs.Tree.{VarUntyped, File, Receive, Expression, expressions, Assign}
+use Rattle.syntax.specs.Tree.{VarUntyped, Expression}
 use Rattle.syntax.specs.Measures.{expression_size}
-use Rattle.bytecode.specs.Code.{Function as CodeFunction, Code}
 use Rattle.bytecode.specs.Machine.{Frames as CodeFrames}
-use Rattle.word.specs.declared.panic.Panic.{Panic as Cause}
-use Rattle.word.specs.Values.{Request, Panic}
-use Rattle.type_table.specs.Containment.{fields_of, Structs}
-use Rattle.type_table.specs.Scopes.{Scope, Yield, is_reserved, own_variable, Globals}
-use Rattle.typing_rules.specs.Simples.{has_twice, VariablesHave, UntypedVariablesHave, AssignedHave, SimpleHas}
-use Rattle.typing_rules.specs.Operations.{given, also_given, given_values, Given}
+use Rattle.type_table.specs.Containment.{Structs}
+use Rattle.type_table.specs.Scopes.{Scope, is_reserved, own_variable, Globals}
+use Rattle.typing_rules.specs.Simples.{has_twice, VariablesHave, UntypedVariablesHave}
+use Rattle.typing_rules.specs.Operations.{given}
 use Rattle.typing_rules.proofs.Defaults.{untyped_names}
 use Rattle.meaning.specs.Variables.{Blocks, Destination}
 use Rattle.meaning.specs.Destinations.{given_kinds}
-use Rattle.meaning.specs.Tasks.{Task, Course, Goes, Moves, Frame, frame}
-use Rattle.meaning.specs.Source.{gives, stores, simple_work, statement_work}
-use Rattle.codegen_base.specs.declared.element.Element.{Element}
-use Rattle.codegen_base.specs.Layouts.{declaring_all, carried, given_types}
-use Rattle.codegen_base.specs.Statements.{right_types, defines, pushes_right, pushes_received, assigns, Spot, simple_plan, place_spots, taken_types}
+use Rattle.meaning.specs.Tasks.{Course}
+use Rattle.meaning.specs.Source.{gives, statement_work}
+use Rattle.codegen_base.specs.Statements.{right_types, defines}
 use Rattle.plan.proofs.Words.{Words}
-use Rattle.plan.proofs.Steps.{spots as code_spots}
-use Rattle.codegen_base.proofs.Fields.{AllWide, AllTyped}
-use Rattle.codegen_base.proofs.Seen.{seen}
-use Rattle.codegen_base.proofs.Typing.{Free, broken, nodes_end}
-use Rattle.codegen_follows.proofs.Stands.{Around, View, scope_of, variables, Together, IsOn, Fine, Sits, OneMakes, ValuesMake}
+use Rattle.codegen_base.proofs.Typing.{Free, broken}
+use Rattle.codegen_follows.proofs.Stands.{scope_of, ValuesMake}
 use Rattle.codegen_follows.proofs.Names.{neither, AreNew, new_names}
 use Rattle.codegen_follows.proofs.Defined.{names_go, Behind}
 use Rattle.codegen_base.proofs.Running.{Compiled, Coded}
-use Rattle.codegen_follows.proofs.Simulated.{Simulated, Held, Rest, blocks_of, at, Comes, Works, Reaches, reaches_behind, works_behind, slides, moves, Point, Position, here_blocks, On', standing}
-use Rattle.meaning.specs.Worked.{Worked, ready, and_then}
-use Rattle.codegen_base.proofs.Likeness.{AreLike, all_words_of}
-use Rattle.plan.specs.Plan.{Plan, Do, Skip}
-use Rattle.codegen_base.proofs.Gave.{Follows, stays, bind as follows_then, asks as asks_at}
-use Rattle.meaning.specs.Expressions.{right_values, values, value, received, element_kind}
-use Rattle.codegen_base.specs.Pushes.{pushes_all}
-use Rattle.codegen_follows.proofs.Channels.{channel_there}
-use Rattle.codegen_follows.proofs.Rights.{IsPlain, IsBoth, form, values_go, both_go}
-use Rattle.codegen_base.proofs.Called.{AllFit, same_count}
-use Rattle.meaning.specs.Values.{Value}
-use Rattle.std.proofs.lemmas.List.{append-nil, length-map}
-use Rattle.typing_rules.specs.Worths.{element_of, worth, Typed}
-use Rattle.typing_rules.specs.Expressions.{ExpressionHas, ExpressionsHave}
-use Rattle.type_table.specs.Types.{BoolType, ValueType}
+use Rattle.codegen_follows.proofs.Simulated.{Simulated, at, Works, Position, here_blocks, On'}
+use Rattle.meaning.specs.Worked.{Worked}
+use Rattle.plan.specs.Plan.{Plan}
 
 -- names that a declaration may have
 pub record IsDeclared (s : Scope) (names : List (List ℕ)) : Type 0 where

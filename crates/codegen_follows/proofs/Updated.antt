@@ -1,23 +1,20 @@
 -- Assignments with an operator.
-use Rattle.std.proofs.Common.{◌≡◌, ℕ, zero, suc, ◌+◌, ◌≤◌, Bool, true, false, List, [], ◌∷◌, ◌++◌, length, take, drop, Option, Some, pos, option_map, Result, Ok, Err, refl, sym, ap, ◌∙◌, subst, arith, slice_get, inl, inr}
+use Rattle.std.proofs.Common.{◌≡◌, ℕ, zero, suc, ◌+◌, ◌≤◌, Bool, true, false, List, [], ◌∷◌, ◌++◌, length, take, drop, Option, Some, pos, option_map, Result, Ok, Err, refl, sym, ap, ◌∙◌, subst, arith, inl, inr}
 use Rattle.std.specs.Prelude.{if◌then◌else◌, ◌&&◌, ◌||◌, not}
 use Rattle.std.specs.Result.{result_ok}
 use Rattle.std.proofs.lemmas.List.{append-nil, drop-drop}
 use Rattle.go_text.specs.declared.rule.Rule.TheVariants as rules
 use Rattle.syntax.specs.declared.node.BinaryOperator.{BinaryOperator}
 use Rattle.syntax.specs.declared.node.BinaryOperator.TheVariants as ops
-use Rattle.syntax.specs.Tree.{Expression, Place, Increment, Decrement, Update, File}
+use Rattle.syntax.specs.Tree.{Expression, Place, Increment, Decrement, Update}
 use Rattle.syntax.specs.Measures.{expression_size}
 use Rattle.bytecode.specs.declared.instr.Instr.TheVariants as instrs
-use Rattle.bytecode.specs.Code.{Function as CodeFunction, Code}
 use Rattle.bytecode.specs.Machine.{Frames as CodeFrames, code_next}
-use Rattle.word.specs.declared.panic.Panic.{Panic as Cause}
 use Rattle.word.specs.declared.value.Word.TheVariants.{Int}
-use Rattle.word.specs.Values.{Request, Panic}
-use Rattle.word.specs.Related.{Slips, here}
+use Rattle.word.specs.Related.{Slips}
 use Rattle.type_table.specs.Types.{ValueType, IntType, BoolType, is_int_type, is_channel_type}
-use Rattle.type_table.specs.Containment.{fields_of, Structs}
-use Rattle.type_table.specs.Scopes.{Scope, Yield, is_blank, Globals}
+use Rattle.type_table.specs.Containment.{Structs}
+use Rattle.type_table.specs.Scopes.{Scope, is_blank, Globals}
 use Rattle.type_table.specs.Zeros.{zero_words}
 use Rattle.typing_rules.specs.declared.flaw.Misuse.{Misuse}
 use Rattle.typing_rules.specs.declared.flaw.Misuse.TheVariants as misuses
@@ -30,14 +27,13 @@ use Rattle.meaning.specs.Values.{Value, Slot, slot, known, words_in, words_at, w
 use Rattle.meaning.specs.Variables.{Blocks, value_of, lookup, scope_in}
 use Rattle.meaning.specs.Expressions.{binary}
 use Rattle.meaning.specs.Destinations.{placed}
-use Rattle.meaning.specs.Tasks.{Task, frame, Course, Goes, Moves, Frame}
+use Rattle.meaning.specs.Tasks.{Course}
 use Rattle.meaning.specs.Source.{value_at, stores, simple_work}
-use Rattle.codegen_base.specs.declared.element.Element.{Element}
 use Rattle.codegen_base.specs.Pushes.{emits, operates, between as between_plan}
 use Rattle.codegen_base.specs.Statements.{Spot, Dropped, Local, assigns, spot_of, place_spot, loads_spot, width, simple_plan}
 use Rattle.plan.specs.Plan.{Plan, Skip, Do}
 use Rattle.plan.proofs.Words.{Words, part}
-use Rattle.plan.proofs.Steps.{spots as code_spots, loads}
+use Rattle.plan.proofs.Steps.{loads}
 use Rattle.codegen_base.proofs.Alike.{worth_alike}
 use Rattle.codegen_base.proofs.Evaluates.{range_part, pushed_int, Evals, Lies, lies}
 use Rattle.codegen_base.proofs.Operators.{ints}
@@ -45,18 +41,17 @@ use Rattle.codegen_base.proofs.Pushed.{emits_goes}
 use Rattle.codegen_base.proofs.Settled.{two_pushed, typed_goes}
 use Rattle.codegen_base.proofs.Splits.{right_operand}
 use Rattle.codegen_base.proofs.Static.{seen_alike, variables_known, found_like}
-use Rattle.codegen_base.proofs.Fields.{AllWide, AllTyped, held_within, held_like}
-use Rattle.codegen_base.proofs.Likeness.{kinds_long, assignable_zeros, AreLike, all_words_of}
-use Rattle.codegen_base.proofs.Seen.{seen, seen_one, seen_lookup, found_below}
+use Rattle.codegen_base.proofs.Fields.{held_within, held_like}
+use Rattle.codegen_base.proofs.Likeness.{kinds_long, assignable_zeros}
+use Rattle.codegen_base.proofs.Seen.{seen_one, seen_lookup, found_below}
 use Rattle.codegen_base.proofs.Assigned.{AreSpots}
 use Rattle.codegen_base.proofs.Typing.{Free, fits, broken, made, nodes_end, worth_there}
-use Rattle.codegen_follows.proofs.Paths.{AllKnown}
-use Rattle.codegen_follows.proofs.Stands.{Around, View, scope_of, variables, Together, IsOn, Fine, Sits, OneMakes}
+use Rattle.codegen_follows.proofs.Stands.{scope_of, variables, OneMakes}
 use Rattle.codegen_follows.proofs.Places.{Reaches, reaches, places_are, places_stay}
 use Rattle.codegen_base.proofs.Running.{Compiled, Coded}
-use Rattle.codegen_follows.proofs.Simulated.{Simulated, Held, Rest, blocks_of, at, Comes, Works, reaches_behind, works_behind, slides, moves, Point, Position, here_blocks, On', standing}
+use Rattle.codegen_follows.proofs.Simulated.{Simulated, at, Comes, Works, Position, here_blocks, On', standing}
 use Rattle.meaning.specs.Worked.{Worked, ready, and_then}
-use Rattle.codegen_base.proofs.Gave.{Follows, stays, bind as follows_then, asks as asks_at}
+use Rattle.codegen_base.proofs.Gave.{bind as follows_then}
 use Rattle.codegen_follows.proofs.Stored.{kept_goes}
 
 -- ---- a part of a part

@@ -1,50 +1,40 @@
 -- The ways of a select: each stands where its clause of the table leads.
-use Rattle.std.proofs.Common.{◌≡◌, ℕ, ◌+◌, ◌≤◌, Bool, true, false, List, [], ◌∷◌, ◌++◌, length, map, Option, Some, None, IfSome, refl, sym, ap, ◌∙◌, subst, arith, slice_get, inl, inr}
+use Rattle.std.proofs.Common.{◌≡◌, ℕ, ◌+◌, ◌≤◌, Bool, true, false, List, [], ◌∷◌, ◌++◌, length, map, Option, Some, None, IfSome, refl, sym, ap, ◌∙◌, subst, arith, inl, inr}
 use Rattle.std.specs.Prelude.{unwrap_or}
 use Rattle.std.specs.Option.{is_some}
 use Rattle.std.proofs.lemmas.List.{map-append}
-use Rattle.syntax.specs.Tree.{Expression, Comm, CommSend, CommReceive, CommDefine, CommAssign, Statements, NoStatement, Clauses, NoClause, Clause, File}
+use Rattle.syntax.specs.Tree.{Expression, Comm, CommSend, CommReceive, CommDefine, CommAssign, Statements, NoStatement, Clauses, NoClause, Clause}
 use Rattle.syntax.specs.Measures.{if_any, comm_size, statements_size}
 use Rattle.bytecode.specs.declared.instr.WordKind.{WordKind}
 use Rattle.bytecode.specs.declared.instr.WordKind.TheVariants as kinds
 use Rattle.bytecode.specs.declared.table.Clause.{Clause as TableClause}
-use Rattle.bytecode.specs.Code.{Function as CodeFunction, Code}
 use Rattle.bytecode.specs.Effects.{clause_gives, clause_target, kinds_in, shape_kinds}
 use Rattle.bytecode.specs.Machine.{Frames as CodeFrames, zero_of}
-use Rattle.word.specs.declared.panic.Panic.{Panic as Cause}
 use Rattle.word.specs.declared.value.Word.TheVariants.{Bool as Truth}
-use Rattle.word.specs.Values.{Request, Panic}
 use Rattle.type_table.specs.Types.{ValueType}
-use Rattle.type_table.specs.Containment.{fields_of, Structs}
-use Rattle.type_table.specs.Scopes.{Scope, Yield, entered, Globals}
+use Rattle.type_table.specs.Containment.{Structs}
+use Rattle.type_table.specs.Scopes.{entered, Globals}
 use Rattle.type_table.specs.Zeros.{zero_words}
 use Rattle.typing_rules.specs.Simples.{SimpleHas, comm_simple}
 use Rattle.typing_rules.specs.Statements.{after_all, after_any, StatementsHave, ClausesHave}
 use Rattle.meaning.specs.Variables.{Blocks, Destination}
-use Rattle.meaning.specs.Tasks.{Task, Course, Goes, Moves, Frame, frame}
+use Rattle.meaning.specs.Tasks.{Task}
 use Rattle.meaning.specs.Source.{default_of, comm_zeros, comm_destinations}
-use Rattle.codegen_base.specs.declared.element.Element.{Element}
 use Rattle.codegen_base.specs.Elements.{shape_of}
 use Rattle.codegen_base.specs.Layouts.{carried}
 use Rattle.codegen_base.specs.Generated.{Site, Made, past, followed, ended, inside, with_way, default_at, table_clause, table_clauses, default_places, comm_kinds, made_comm, made_all, made_ways, made_default}
-use Rattle.plan.specs.Plan.{Plan, Skip, jump_size, size, starts, table_count, Do}
+use Rattle.plan.specs.Plan.{Plan, Skip, jump_size, size, starts, table_count}
 use Rattle.plan.proofs.Words.{Words}
 use Rattle.plan.proofs.Places.{at_once}
-use Rattle.codegen_base.proofs.Static.{Holding}
-use Rattle.codegen_base.proofs.Fields.{AllWide, AllTyped}
-use Rattle.codegen_base.proofs.Likeness.{kinds_zeros, AreLike, all_words_of}
-use Rattle.codegen_base.proofs.Seen.{seen}
+use Rattle.codegen_base.proofs.Likeness.{kinds_zeros, all_words_of}
 use Rattle.codegen_base.proofs.Typing.{Free}
-use Rattle.codegen_follows.proofs.Paths.{AllKnown}
-use Rattle.codegen_follows.proofs.Stands.{Around, View, scope_of, variables, opened, IsOn, Fine, Fits, within, AllMake, ClausesMake, Live, in_way, WayAt, Sits, SimpleMakes}
-use Rattle.codegen_follows.proofs.Begun.{FineBehind, fine_opened, prints_front, prints_back}
+use Rattle.codegen_follows.proofs.Stands.{View, scope_of, opened, IsOn, Fits, within, AllMake, ClausesMake, Live, in_way, WayAt, SimpleMakes}
+use Rattle.codegen_follows.proofs.Begun.{fine_opened, prints_front, prints_back}
 use Rattle.codegen_follows.proofs.Grown.{Grown, grown_statements, grown_ways, grown_comm}
 use Rattle.codegen_follows.proofs.Comms.{Beside, beside, fine_beside, comm_channel, comm_view, comm_together, comm_fine, kind_item, received_types, comm_taking}
 use Rattle.codegen_follows.proofs.Operands.{comm_count, comm_waited}
 use Rattle.codegen_base.proofs.Running.{Compiled, Coded}
-use Rattle.codegen_follows.proofs.Simulated.{Simulated, Held, Rest, blocks_of, at, Comes, Works, Reaches, reaches_behind, works_behind, slides, moves, Point, Position, here_blocks, standing}
-use Rattle.meaning.specs.Worked.{Worked, ready, and_then}
-use Rattle.codegen_base.proofs.Gave.{Follows, stays, bind as follows_then, asks as asks_at}
+use Rattle.codegen_follows.proofs.Simulated.{Simulated, at, Point, here_blocks}
 use Rattle.codegen_follows.proofs.Channels.{IsChannel}
 use Rattle.codegen_follows.proofs.Chosen.{WaysAt, ways_of}
 use Rattle.meaning.specs.Expressions.{element_kind}
