@@ -4,7 +4,7 @@ use Rattle.std.proofs.Common.{◌≡◌, ℕ, suc, Bool, true, false, cond, List
 use Rattle.std.specs.Prelude.{nat_lt}
 use Rattle.syntax.specs.Tree.{Function, File}
 use Rattle.bytecode.specs.Code.{Function as CodeFunction, Code}
-use Rattle.bytecode.specs.Machine.{Frame as CodeFrame, Frames as CodeFrames, begun as code_begun, returned, code_next, code_answer, code_kind}
+use Rattle.bytecode.specs.Machine.{Frame as CodeFrame, Frames as CodeFrames, begun as code_begun, entered, returned, code_next, code_answer, code_kind}
 use Rattle.word.specs.declared.limits.TheConstants.{MAX_DEPTH}
 use Rattle.word.specs.declared.panic.Panic.TheVariants.{CallDepth}
 use Rattle.word.specs.Values.{Request, Reply, Panic}
@@ -212,7 +212,7 @@ module _ (file : File) (program : Compiled (globals file)) (Sat : ℕ → Frame 
   AllStarted = (n : ℕ) (vs : List Value) (callee : CodeFunction) → AreLike (globals file).structs (map known (parameters_of (globals file) n)) vs → slice_get code.functions n ≡ Some callee
       → Near ((source_kind file).begin n (all_words_of vs)) ((code_kind code).begin n (all_words_of vs))
 
-  calm_begins : (q : Request) (d : CodeFrames) → IsCalm q → Begins (Asking q) d
+  pub calm_begins : (q : Request) (d : CodeFrames) → IsCalm q → Begins (Asking q) d
   calm_begins (requests.Go n args) d calm = absurd calm
   calm_begins (requests.Make size zero) d calm = tt
   calm_begins (requests.Send c item) d calm = tt
@@ -244,16 +244,22 @@ module _ (file : File) (program : Compiled (globals file)) (Sat : ℕ → Frame 
   enters_same true callee y bs ys e = (ap (λ (x : Next CodeFrames). first_of callee (ticked x)) e, ap (λ (x : Next CodeFrames). rest_of (ticked x)) e)
   enters_same false callee y bs ys e = absurd cc
 
-  pub runs : AllEntered → AllStarted → (coded : Coded program) (ds : CodeFrames) → Running coded
-  runs entered' started coded ds = record {
+  -- a call begins alike in the source and in the code
+  pub calls_begin : AllEntered → (n : ℕ) (vs : List Value) (d : CodeFrames) (b : CodeFrame) (ds : CodeFrames) (callee : CodeFunction) → AreLike (globals file).structs (map known (parameters_of (globals file) n)) vs → slice_get code.functions n ≡ Some callee
+      → code_next code d ≡ entered n (all_words_of vs) (b ∷ ds) callee → Begins (Calling n vs) d
+  calls_begin all_entered n vs d b ds callee like has is =
+      let (F, source, sat) = all_entered n vs callee like has in (
+        F,
+        source,
+        λ x bs ticks.
+            let same = enters_same (nat_lt (length (b ∷ ds)) MAX_DEPTH) (code_begun callee.locals n (all_words_of vs)) x (b ∷ ds) bs (sym is ∙ ticks) in
+            (ap (λ (y : CodeFrame). y.function) (sym same.0), subst (λ (y : CodeFrame). Sat n (entered_with (globals file) F vs) bs (y ∷ bs)) same.0 (sat bs)),
+      )
+
+  abbrev pub runs : AllEntered → AllStarted → (coded : Coded program) → CodeFrames → Running coded
+  runs all_entered all_started coded ds = record {
     context = context ds;
     calm = calm_begins;
-    calls = λ n vs d b callee like has is. let (F, source, sat) = entered' n vs callee like has in (
-      F,
-      source,
-      λ x bs ticks.
-          let same = enters_same (nat_lt (length (b ∷ ds)) MAX_DEPTH) (code_begun callee.locals n (all_words_of vs)) x (b ∷ ds) bs (sym is ∙ ticks) in
-          (ap (λ (y : CodeFrame). y.function) (sym same.0), subst (λ (y : CodeFrame). Sat n (entered_with (globals file) F vs) bs (y ∷ bs)) same.0 (sat bs)),
-    );
-    starts = λ n vs d callee like has. started n vs callee like has;
+    calls = λ n vs d b callee like has is. calls_begin all_entered n vs d b ds callee like has is;
+    starts = λ n vs d callee like has. all_started n vs callee like has;
   }

@@ -39,3 +39,4 @@ pub mod Ways
 pub mod Selects
 pub mod Statements
 pub mod Step
+pub mod Matching
