@@ -76,9 +76,6 @@ module _ (structs : Structs) where
 
   -- ---- what the locals hold, and what the variables of a run hold
 
-  abbrev HoldingIn : Words → List Variable → Type 0
-  HoldingIn ls vs = LikeBlock (seen_block structs ls vs)
-
   block_split : (xs ys : Block) → LikeBlock (xs ++ ys) → LikeBlock xs × LikeBlock ys
   block_split [] ys l = (tt, l)
   block_split (x ∷ xs) ys l = let r = block_split xs ys l.1 in ((l.0, r.0), r.1)

@@ -46,9 +46,6 @@ module _ {globals : Globals} {program : Compiled globals} {coded : Coded program
   abbrev pub Slip : ℕ → List Word → ℕ → List Word → Type 0
   Slip place stack to result = Slips (code_next code) (at place stack) (at to result)
 
-  pub then_slip : (place : ℕ) (stack : List Word) (mid : ℕ) (result : List Word) (d : Frames) → Slip place stack mid result → Slips (code_next code) (at mid result) d → Slips (code_next code) (at place stack) d
-  then_slip place stack mid result d a b = slips_more (code_next code) (at place stack) (at mid result) d a b
-
   abbrev pub Stands : Plan → ℕ → Option ℕ → Type 0
   Stands plan place out = On code.selects f.instrs leave again plan place out
 

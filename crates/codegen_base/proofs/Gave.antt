@@ -100,13 +100,6 @@ module _ {globals : Globals} {code : Code} (context : Context globals code) wher
     go (Fails cause) d e = e
     go (Needs need) d e = e
 
-  pub weaker : {A : Type 0} (work : Worked A) (L M : A → Frames → Type 0) (c : Frames) → Follows work L c → ((a : A) (d : Frames) → L a d → M a d) → Follows work M c
-  weaker work L M c first each = record { ends = λ given d gave. go (work given) d (first.ends given d gave) } where
-    go : (r : Reached _) (d : Frames) → Ends L r d → Ends M r d
-    go (Came a left) d (c', l, gave) = (c', each a c' l, gave)
-    go (Fails cause) d e = e
-    go (Needs need) d e = e
-
   not_told : (q : Request) (cause : Cause) (reply : Reply) → q ≡ Panic cause → Suits q reply → ⊥
   not_told q cause reply is suits = subst (λ x. Suits x reply) is suits
 

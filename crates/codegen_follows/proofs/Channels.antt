@@ -3,7 +3,6 @@ use Rattle.std.proofs.Common.{◌≡◌, ℕ, List, [], ◌∷◌, ◌++◌, len
 use Rattle.syntax.specs.declared.node.Direction.{Direction}
 use Rattle.syntax.specs.Tree.{Expression}
 use Rattle.bytecode.specs.Machine.{Frames as CodeFrames, fitted, is_told, pops, zero_of, code_next, code_answer, reply_words as machine_words}
-use Rattle.word.specs.declared.value.Word.{Word}
 use Rattle.word.specs.declared.value.Word.TheVariants.{Chan}
 use Rattle.word.specs.Values.{Request, Reply}
 use Rattle.type_table.specs.Types.{ValueType, ChannelType}
@@ -12,9 +11,9 @@ use Rattle.typing_rules.specs.Worths.{Typed, worth, element_of}
 use Rattle.typing_rules.specs.Expressions.{nodes_of, ExpressionHas, ChannelHas, element_of, default_type}
 use Rattle.meaning.specs.Values.{Value, known, parted, reply_words, words_like}
 use Rattle.meaning.specs.Variables.{Blocks}
-use Rattle.meaning.specs.Expressions.{word_in, channel_in, element_kind, value}
+use Rattle.meaning.specs.Expressions.{element_kind, value}
 use Rattle.meaning.specs.Tasks.{Task}
-use Rattle.meaning.specs.Source.{channel, one}
+use Rattle.meaning.specs.Source.{channel}
 use Rattle.codegen_base.specs.Elements.{shape_of, kinds_of}
 use Rattle.codegen_base.specs.Layouts.{type_of, carried}
 use Rattle.codegen_base.specs.Pushes.{pushes_own, settled, emits}
@@ -29,8 +28,8 @@ use Rattle.codegen_follows.proofs.Stands.{scope_of, OneMakes}
 use Rattle.codegen_follows.proofs.Valued.{own_goes}
 use Rattle.codegen_base.proofs.Running.{Compiled, Coded}
 use Rattle.codegen_follows.proofs.Simulated.{Simulated, at, Point, here_blocks, On', standing}
-use Rattle.meaning.specs.Worked.{Worked, ready, and_then, needs, Asking, Given, Told}
-use Rattle.codegen_base.proofs.Gave.{Follows, stays, bind as follows_then, asks as asks_at, behind as follows_behind}
+use Rattle.meaning.specs.Worked.{Worked, and_then, needs, Asking, Given, Told}
+use Rattle.codegen_base.proofs.Gave.{Follows, bind as follows_then, asks as asks_at, behind as follows_behind}
 use Rattle.codegen_base.proofs.Pushed.{channel_at, checked, shaped}
 use Rattle.codegen_base.proofs.Expressions.{same_worth}
 use Rattle.codegen_base.proofs.Told.{same_reply, parted_words}
@@ -38,6 +37,7 @@ use Rattle.bytecode.specs.Effects.{gives}
 use Rattle.bytecode.specs.declared.instr.Instr.{Instr}
 use Rattle.plan.proofs.Places.{At}
 use Rattle.word.specs.Kinds.{Asks, Suits}
+use Rattle.codegen_base.proofs.Sends.{channel_goes as kernel_channel}
 use Rattle.word.specs.Related.{Slips}
 
 module _ {globals : Globals} {program : Compiled globals} {coded : Coded program} {simulated : Simulated coded} (point : Point simulated) where
@@ -94,16 +94,10 @@ module _ {globals : Globals} {program : Compiled globals} {coded : Coded program
       → ((c : Option ℕ) (to : ℕ) → On' point rest to out → Follows context (go c) L (at simulated to ls (stack ++ Chan c ∷ []))) → Follows context (and_then (channel globals here k e) go) L (at simulated place ls stack)
   channel_goes e first free makes c k go L rest out place stack on then' =
       follows_then context (channel globals here k e) go M L (at simulated place ls stack)
-      (follows_then context (one globals here k e) (λ word. ready (channel_in word)) N M (at simulated place ls stack)
-      (channel_value_goes e first free makes c (λ words. ready (word_in words)) N rest out place stack on
-      (λ w to on1. stays context (Chan w) N (at simulated to ls (stack ++ Chan w ∷ [])) (w, to, refl, refl, on1)))
-      (λ word d n. subst (λ x. Follows context (ready (channel_in x)) M d) (sym n.2) (stays context n.0 M d (n.1, n.3, n.4))))
+      (kernel_channel (standing point) e first free makes c.direction c.element (sym (checked (standing point) e) ∙ c.is) k rest out place stack on)
       (λ w d m. subst (λ x. Follows context (go w) L x) (sym m.1) (then' w m.0 m.2)) where
         M : Option ℕ → CodeFrames → Type 0
         M c d = (to : ℕ) × (d ≡ at simulated to ls (stack ++ Chan c ∷ [])) × On' point rest to out
-
-        N : Word → CodeFrames → Type 0
-        N word d = (c : Option ℕ) × (to : ℕ) × (word ≡ Chan c) × (d ≡ at simulated to ls (stack ++ Chan c ∷ [])) × On' point rest to out
 
   -- an instruction that asks: what is told to it lies on the stack
   pub asks_goes : {B : Type 0} (q : Request) (i : Instr) (xs : Words) (zeros : List Value) (go : Given → Worked B) (L : B → CodeFrames → Type 0) (place : ℕ) (stack : Words) → At f.instrs place i → pops code f i ≡ length xs → is_told i ≡ true

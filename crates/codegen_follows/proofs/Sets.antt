@@ -16,9 +16,9 @@ use Rattle.meaning.specs.Values.{known}
 use Rattle.meaning.specs.Variables.{Blocks}
 use Rattle.meaning.specs.Destinations.{placed}
 use Rattle.meaning.specs.Tasks.{Course}
-use Rattle.meaning.specs.Source.{stores, simple_work}
+use Rattle.meaning.specs.Source.{simple_work}
 use Rattle.codegen_base.specs.Layouts.{given_types, carried}
-use Rattle.codegen_base.specs.Statements.{assigns, place_spots, taken_type, taken_types, pushes_right, right_types, simple_plan, pushes_received}
+use Rattle.codegen_base.specs.Statements.{assigns, place_spots, taken_type, taken_types, pushes_right, right_types, simple_plan}
 use Rattle.plan.specs.Plan.{Plan, Skip}
 use Rattle.plan.proofs.Words.{Words}
 use Rattle.codegen_base.proofs.Alike.{worth_alike}
@@ -30,10 +30,9 @@ use Rattle.codegen_follows.proofs.Stands.{View, scope_of, variables, Fine, OneMa
 use Rattle.codegen_follows.proofs.Places.{reaches, Suits, AllSuit, places_are, places_stay}
 use Rattle.codegen_base.proofs.Running.{Compiled, Coded}
 use Rattle.codegen_follows.proofs.Simulated.{Simulated, at, Works, Position, here_blocks, On'}
-use Rattle.meaning.specs.Worked.{Worked, and_then}
-use Rattle.meaning.specs.Expressions.{right_values}
+use Rattle.meaning.specs.Worked.{Worked}
 use Rattle.codegen_follows.proofs.Channels.{channel_there}
-use Rattle.codegen_follows.proofs.Rights.{IsPlain, IsBoth, form, values_go, both_go}
+use Rattle.codegen_follows.proofs.Rights.{IsPlain, IsBoth, form, gives_plain, gives_both}
 use Rattle.std.proofs.lemmas.List.{append-nil, length-map}
 use Rattle.codegen_follows.proofs.Rights.{default_fits}
 
@@ -165,14 +164,12 @@ module _ {globals : Globals} {program : Compiled globals} {coded : Coded program
       let destinations = map (placed globals blocks) places in
       let count-is : length destinations ≡ length places = length-map places (placed globals blocks) in
       let on1 : On (pushes_right globals elements scope (length places) others es (assigns spots Skip)) place = subst (λ (ts : List ValueType). On (pushes_right globals elements scope (length places) (taken_types globals elements scope places ts) es (assigns (place_spots globals elements scope places ts) Skip)) place) types-are on in
-      subst (λ n. Works' (and_then (right_values globals blocks n es) (stores globals blocks k destinations)) (place_at place ls [])) (sym count-is)
-      (subst (λ x. Works' (and_then x (stores globals blocks k destinations)) (place_at place ls [])) (sym (plain.values_are globals blocks))
-      (values_go position destinations others spots es second place
+      gives_plain position destinations others spots (length places) es second place count-is plain
       (record {
         are = places_are coded ls view fine places first types others (λ flaw x. free flaw (inl x)) suit.1;
         fit = subst (λ (s : Scope). s.words ≤ length f.locals) (sym stay) most;
         variables_are = same ∙ ap (λ (s : Scope). s.variables) (sym stay);
-      }) (λ flaw x. free flaw (inr (inl x))) makes suit.0 (subst (λ p. On p place) (plain.plan_is globals elements scope others (assigns spots Skip)) on1)))
+      }) (λ flaw x. free flaw (inr (inl x))) makes suit.0 on1
 
   assign_both : (places : List Place) (e : Expression) (first place : ℕ) → length places ≡ suc (suc zero) → OneMakes globals elements e → Free (SimpleHas globals view.checked first (Assign places (Receive e ∷ []))) → On (simple_plan globals elements view.site.layout view.site.prints (Assign places (Receive e ∷ []))) place
       → variables next ≡ variables view → scope.words ≤ length f.locals → Works' (simple_work globals blocks k (Assign places (Receive e ∷ []))) (place_at place ls [])
@@ -188,17 +185,16 @@ module _ {globals : Globals} {program : Compiled globals} {coded : Coded program
       let suit = typed_suit coded ls view fine places vs types first (both_typed e second good makes) many (λ flaw x. free flaw (inl x)) (λ flaw x. assigned flaw (inr x)) in
       let stay = places_stay coded ls view fine places in
       let destinations = map (placed globals blocks) places in
-      let count-is : length destinations ≡ suc (suc zero) = length-map places (placed globals blocks) ∙ two in
       let spots = place_spots globals elements scope places types in
-      let on1 : On (pushes_received globals elements scope e (assigns spots Skip)) place = subst (λ (ts : List ValueType). On (pushes_received globals elements scope e (assigns (place_spots globals elements scope places ts) Skip)) place) (both_types e)
-      (subst (λ n. On (pushes_right globals elements scope n (taken_types globals elements scope places (right_types globals elements scope n es)) es (assigns (place_spots globals elements scope places (right_types globals elements scope n es)) Skip)) place) two on) in
-      subst (λ n. Works' (and_then (right_values globals blocks n es) (stores globals blocks k destinations)) (place_at place ls [])) (sym count-is)
-      (both_go position destinations types spots e second place refl
+      let types-are : right_types globals elements scope (length places) es ≡ types = ap (λ n. right_types globals elements scope n es) two ∙ both_types e in
+      let on1 : On (pushes_right globals elements scope (length places) (taken_types globals elements scope places types) es (assigns spots Skip)) place =
+      subst (λ (ts : List ValueType). On (pushes_right globals elements scope (length places) (taken_types globals elements scope places ts) es (assigns (place_spots globals elements scope places ts) Skip)) place) types-are on in
+      gives_both position destinations (taken_types globals elements scope places types) types spots (length places) e second place (length-map places (placed globals blocks)) two refl
       (record {
         are = places_are coded ls view fine places first types types (λ flaw x. free flaw (inl x)) suit;
         fit = subst (λ (s : Scope). s.words ≤ length f.locals) (sym stay) most;
         variables_are = same ∙ ap (λ (s : Scope). s.variables) (sym stay);
-      }) good makes on1)
+      }) good makes on1
 
   pub assign_goes : (places : List Place) (right : List Expression) (first place : ℕ) → ValuesMake globals elements right → Free (SimpleHas globals view.checked first (Assign places right)) → On (simple_plan globals elements view.site.layout view.site.prints (Assign places right)) place
       → variables next ≡ variables view → scope.words ≤ length f.locals → Works' (simple_work globals blocks k (Assign places right)) (place_at place ls [])

@@ -24,7 +24,7 @@ use Rattle.typing_rules.specs.Expressions.{nodes_of, ValueHas, ExpressionHas, de
 use Rattle.typing_rules.specs.Operations.{selected, place_type, ReadPlaceHas, PlaceHas, PlacesHave}
 use Rattle.typing_rules.specs.Simples.{MadeHas, UpdatedHas, SimpleHas}
 use Rattle.meaning.specs.Values.{Value, Slot, slot, known, words_in, words_at, words_like}
-use Rattle.meaning.specs.Variables.{Blocks, value_of, lookup, scope_in}
+use Rattle.meaning.specs.Variables.{Blocks, value_of, lookup}
 use Rattle.meaning.specs.Expressions.{binary}
 use Rattle.meaning.specs.Destinations.{placed}
 use Rattle.meaning.specs.Tasks.{Course}
@@ -40,7 +40,7 @@ use Rattle.codegen_base.proofs.Operators.{ints}
 use Rattle.codegen_base.proofs.Pushed.{emits_goes}
 use Rattle.codegen_base.proofs.Settled.{two_pushed, typed_goes}
 use Rattle.codegen_base.proofs.Splits.{right_operand}
-use Rattle.codegen_base.proofs.Static.{seen_alike, variables_known, found_like}
+use Rattle.codegen_base.proofs.Static.{variables_known, found_like}
 use Rattle.codegen_base.proofs.Fields.{held_within, held_like}
 use Rattle.codegen_base.proofs.Likeness.{kinds_long, assignable_zeros}
 use Rattle.codegen_base.proofs.Seen.{seen_one, seen_lookup, found_below}
@@ -206,9 +206,6 @@ module _ {globals : Globals} {program : Compiled globals} {coded : Coded program
 
   abbrev loads_place : Place → Plan → Plan
   loads_place place rest = loads_spot globals elements scope (spot place) rest
-
-  same_worths : (e : Expression) → worth globals (scope_in blocks) e ≡ worth globals scope e
-  same_worths e = worth_alike (scope_in blocks) scope (seen_alike globals.structs ls scope view.begins fine.placed) globals e
 
   -- the place's value, and one
   stepped : (operator : BinaryOperator) (place : Place) (u : IsUpdated operator place (Constant (pos 1))) → Pushes' (binary operator (ready (value_at globals blocks k place)) (ready (Int (pos 1) ∷ []))) u.kind (λ rest. between_plan operator IntType (loads_place place) (λ more. Do (instrs.Int (pos 1)) more) rest)
