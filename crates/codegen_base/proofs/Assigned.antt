@@ -17,11 +17,10 @@ use Rattle.meaning.specs.Variables.{Binding, Block, Blocks, in_block, or_outer, 
 use Rattle.codegen_base.specs.Statements.{Spot, Dropped, Local}
 use Rattle.plan.proofs.Words.{Words, put_length}
 use Rattle.codegen_base.proofs.Seen.{Like, seen_one, seen_block, seen, Rising, rising_new, Begins, found_below, seen_lookup, seen_new, seen_assign}
-use Rattle.codegen_base.proofs.Static.{Nested, IsPlaced, known_new}
-use Rattle.codegen_base.proofs.Likeness.{like_append, like_parts, like_long}
+use Rattle.codegen_base.proofs.Static.{Nested, IsPlaced, known_new, Holding}
+use Rattle.codegen_base.proofs.Likeness.{like_append, like_parts, like_long, AreLike, all_words_of}
 use Rattle.codegen_base.proofs.Fields.{AllWide, Holds, held_within}
 use Rattle.codegen_base.proofs.Stores.{put_spot, spot_words, put_forward}
-use Rattle.codegen_base.proofs.Expressions.{Holding}
 
 module _ (structs : Structs) where
   -- ---- variables that hold values of their types
@@ -76,9 +75,6 @@ module _ (structs : Structs) where
     go (Some x) is e more = rw is (like_assign_in block name from kind new b (is ∙ e) h ln all.0, all.1)
 
   -- ---- what the locals hold, and what the variables of a run hold
-
-  abbrev HoldingIn : Words → List Variable → Type 0
-  HoldingIn ls vs = LikeBlock (seen_block structs ls vs)
 
   block_split : (xs ys : Block) → LikeBlock (xs ++ ys) → LikeBlock xs × LikeBlock ys
   block_split [] ys l = (tt, l)
@@ -202,16 +198,6 @@ module _ (structs : Structs) where
 
     -- ---- several values
 
-    -- values of these types
-    abbrev pub AreLike : List ValueType → List Value → Type 0
-    AreLike [] [] = Unit {0}
-    AreLike (kind ∷ types) (v ∷ vs) = Like structs kind v × AreLike types vs
-    AreLike types vs = ⊥
-
-    abbrev pub all_words_of : List Value → Words
-    all_words_of [] = []
-    all_words_of (v ∷ vs) = v ++ all_words_of vs
-
     -- spots for destinations that take values of these types, each where the ones before have declared theirs
     abbrev pub AreSpots : Scope → List Destination → List ValueType → List Spot → Type 0
     AreSpots scope [] [] [] = Unit {0}
@@ -244,7 +230,7 @@ module _ (structs : Structs) where
       pub holding : Holding structs ms (behind_all ds scope).variables
       pub many : length ms ≡ length ls
 
-    pub stores_forward : (ds : List Destination) (types : List ValueType) (spots : List Spot) (vs : List Value) (scope : Scope) (ns : List ℕ) (ls : Words) → IsPlaced structs scope ns → Holding structs ls scope.variables → (behind_all ds scope).words ≤ length ls → AreSpots scope ds types spots → AreLike types vs
+    pub stores_forward : (ds : List Destination) (types : List ValueType) (spots : List Spot) (vs : List Value) (scope : Scope) (ns : List ℕ) (ls : Words) → IsPlaced structs scope ns → Holding structs ls scope.variables → (behind_all ds scope).words ≤ length ls → AreSpots scope ds types spots → AreLike structs types vs
         → AreStored ds vs scope ns ls (put_forward spots (all_words_of vs) ls)
     stores_forward [] [] [] [] scope ns ls p h room are like = record { seen_is = refl; placed = p; holding = h; many = refl }
     stores_forward [] [] [] (v ∷ vs) scope ns ls p h room are like = absurd like

@@ -5,18 +5,19 @@ use Rattle.syntax.specs.declared.node.UnaryOperator.{UnaryOperator}
 use Rattle.syntax.specs.declared.node.UnaryOperator.TheVariants as signs
 use Rattle.syntax.specs.declared.node.BinaryOperator.{BinaryOperator}
 use Rattle.syntax.specs.declared.node.BinaryOperator.TheVariants as symbols
-use Rattle.syntax.specs.Tree.{Expression, Integer, Named, Parenthesized, Selection, Composite, Unary, Binary, Expressions, NoMore, Behind, Comm, CommSend, CommReceive, CommDefine, CommAssign, Clauses, NoClause, Clause}
+use Rattle.syntax.specs.Tree.{Expression, Integer, Named, Parenthesized, Selection, Composite, Unary, Binary, Call, Receive, Make, MakeSized, Length, Capacity, Expressions, NoMore, Behind, expressions, Comm, CommSend, CommReceive, CommDefine, CommAssign, Clauses, NoClause, Clause}
 use Rattle.bytecode.specs.declared.instr.WordKind.{WordKind}
 use Rattle.bytecode.specs.declared.instr.Instr.{Instr}
 use Rattle.bytecode.specs.declared.instr.Instr.TheVariants as instrs
 use Rattle.bytecode.specs.Code.{SelectTable}
-use Rattle.type_table.specs.Types.{ValueType}
+use Rattle.type_table.specs.Types.{ValueType, IntType}
+use Rattle.meaning.specs.Expressions.{number_of}
 use Rattle.type_table.specs.Scopes.{Globals, Scope, Yield}
 use Rattle.typing_rules.specs.Worths.{Worth, Typed as TypedWorth, Constant, Nil, worth}
 use Rattle.codegen_base.specs.declared.element.Element.{Element}
 use Rattle.codegen_base.specs.Elements.{kinds_of}
 use Rattle.codegen_base.specs.Layouts.{Layout, type_of, carried}
-use Rattle.codegen_base.specs.Pushes.{pushes_own, pushes_zeros, signed, settled, between, operates, literal_types, emits, emits_fields, pushes, pushes_all, selects}
+use Rattle.codegen_base.specs.Pushes.{pushes_own, pushes_zeros, signed, settled, between, operates, literal_types, emits, argument_types, receives, makes, emits_all, pushes, pushes_all, selects}
 use Rattle.codegen_base.specs.Generated.{pushes_comm, pushes_clauses}
 use Rattle.plan.specs.Plan.{Plan, Skip, Do, Seq, IfElse, reaches_end, size, table_count}
 use Rattle.plan.proofs.Tables.{Numbered, Tabled}
@@ -130,26 +131,35 @@ module _ (globals : Globals) (elements : List Element) (scope : Scope) where
     emits_before (Parenthesized inner) rest = emits_before inner rest
     emits_before (Selection of field) rest = before_on (emits globals elements scope (Selection of field) rest) (selects globals elements scope (type_of globals elements scope of) field rest) rest (emits_before of (selects globals elements scope (type_of globals elements scope of) field rest)) (Step _ rest rest (Here rest))
     emits_before (Composite name NoMore trailing) rest = zeros_before (kinds_of globals.structs elements (type_of globals elements scope (Composite name NoMore trailing))) rest
-    emits_before (Composite name (Behind first others) trailing) rest = fields_before (literal_types globals elements scope (type_of globals elements scope (Composite name (Behind first others) trailing))) (Behind first others) rest
+    emits_before (Composite name (Behind first others) trailing) rest = all_before (literal_types globals elements scope (type_of globals elements scope (Composite name (Behind first others) trailing))) (Behind first others) rest
     emits_before (Unary operator operand) rest = before_on (emits globals elements scope operand (signed operator rest)) (signed operator rest) rest (emits_before operand (signed operator rest)) (signed_before operator rest)
     emits_before (Binary operator left right) rest =
         operates_before elements operator (type_of globals elements scope left) (type_of globals elements scope right) (emits globals elements scope left) (emits globals elements scope right) (emits_before left) (emits_before right) (worth globals scope left) (worth globals scope right) rest
+    emits_before (Call function values trailing) rest =
+        let number = number_of globals function in
+        before_on (emits globals elements scope (Call function values trailing) rest) (Do (instrs.Call number) rest) rest (all_before (argument_types globals elements scope number) values (Do (instrs.Call number) rest)) (Step _ rest rest (Here rest))
+    emits_before (Receive channel) rest =
+        let behind = receives globals elements scope channel (Do (instrs.Discard 1) rest) in
+        before_on (emits globals elements scope channel behind) behind rest (emits_before channel behind) (Step _ rest (Do (instrs.Discard 1) rest) (Step _ rest rest (Here rest)))
+    emits_before (Make kind) rest = Step _ rest (makes globals elements scope kind rest) (Step _ rest rest (Here rest))
+    emits_before (MakeSized kind size) rest =
+        let behind = makes globals elements scope kind rest in
+        before_on (emits globals elements scope (MakeSized kind size) rest) behind rest (settled_before elements (worth globals scope size) IntType behind (emits globals elements scope size behind) (emits_before size behind)) (Step _ rest rest (Here rest))
+    emits_before (Length channel) rest = before_on (emits globals elements scope channel (Do instrs.Len rest)) (Do instrs.Len rest) rest (emits_before channel (Do instrs.Len rest)) (Step _ rest rest (Here rest))
+    emits_before (Capacity channel) rest = before_on (emits globals elements scope channel (Do instrs.Cap rest)) (Do instrs.Cap rest) rest (emits_before channel (Do instrs.Cap rest)) (Step _ rest rest (Here rest))
 
-    fields_before : (types : List ValueType) (values : Expressions) → Stands (emits_fields globals elements scope types values)
-    fields_before types NoMore rest = Here rest
-    fields_before [] (Behind first others) rest = Here rest
-    fields_before (kind ∷ types) (Behind first others) rest =
-        let behind = emits_fields globals elements scope types others rest in
-        before_on (emits_fields globals elements scope (kind ∷ types) (Behind first others) rest) behind rest (settled_before elements (worth globals scope first) kind behind (emits globals elements scope first behind) (emits_before first behind)) (fields_before types others rest)
+    all_before : (types : List ValueType) (values : Expressions) → Stands (emits_all globals elements scope types values)
+    all_before types NoMore rest = Here rest
+    all_before [] (Behind first others) rest = Here rest
+    all_before (kind ∷ types) (Behind first others) rest =
+        let behind = emits_all globals elements scope types others rest in
+        before_on (emits_all globals elements scope (kind ∷ types) (Behind first others) rest) behind rest (settled_before elements (worth globals scope first) kind behind (emits globals elements scope first behind) (emits_before first behind)) (all_before types others rest)
 
   pub pushes_before : (kind : ValueType) (e : Expression) → Stands (pushes globals elements scope kind e)
   pushes_before kind e rest = settled_before elements (worth globals scope e) kind rest (emits globals elements scope e rest) (emits_before e rest)
 
   pub pushes_all_before : (types : List ValueType) (values : List Expression) → Stands (pushes_all globals elements scope types values)
-  pushes_all_before types [] rest = Here rest
-  pushes_all_before [] (first ∷ others) rest = Here rest
-  pushes_all_before (kind ∷ types) (first ∷ others) rest =
-      let more = pushes_all globals elements scope types others rest in before_on (pushes globals elements scope kind first more) more rest (pushes_before kind first more) (pushes_all_before types others rest)
+  pushes_all_before types values rest = all_before types (expressions values) rest
 
 module _ (globals : Globals) (elements : List Element) (layout : Layout) (result : Yield) where
   pub comm_before : (comm : Comm) (rest : Plan) → Before rest (pushes_comm globals elements result layout comm rest)

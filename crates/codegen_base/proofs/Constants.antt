@@ -5,15 +5,18 @@ use Rattle.std.specs.Prelude.{option_and_then, if◌then◌else◌, codes}
 use Rattle.std.specs.Result.{result_ok}
 use Rattle.syntax.specs.declared.node.UnaryOperator.{UnaryOperator}
 use Rattle.syntax.specs.declared.node.BinaryOperator.{BinaryOperator}
-use Rattle.syntax.specs.Tree.{Expression, Integer, Named, Parenthesized, Selection, Composite, Unary, Binary}
+use Rattle.syntax.specs.Tree.{Expression, Integer, Named, Parenthesized, Selection, Composite, Unary, Binary, Call, Receive, Make, MakeSized, Length, Capacity}
 use Rattle.type_table.specs.Types.{ValueType, IntType, BoolType, StructType, is_int_type, is_bool_type, is_channel_type}
-use Rattle.type_table.specs.Scopes.{Globals, Scope, is_truth, is_nil, variable_named}
+use Rattle.type_table.specs.Scopes.{Globals, Scope, is_truth, is_nil, variable_named, type_in}
+use Rattle.typing_rules.specs.Calls.{callee, result_type, made_of}
 use Rattle.typing_rules.specs.declared.flaw.Misuse.{Misuse}
 use Rattle.typing_rules.specs.declared.flaw.Misuse.TheVariants as misuses
-use Rattle.typing_rules.specs.Worths.{Worth, Typed, Constant, Nil, bounded, literal, is_int, is_equality, is_order, is_logical, is_not, is_far, is_wrong_right, made_type, exact_unary, exact_binary, sized, if_good, fit_operator, unary_worth, binary_worth, kind_of, named_worth, selected_worth, literal_struct, worth}
+use Rattle.typing_rules.specs.Worths.{Worth, Typed, Constant, Nil, bounded, literal, is_int, is_equality, is_order, is_logical, is_not, is_far, is_wrong_right, made_type, element_of, exact_unary, exact_binary, sized, if_good, fit_operator, unary_worth, binary_worth, kind_of, named_worth, selected_worth, literal_struct, worth}
 use Rattle.word.specs.declared.value.Word.TheVariants.{Int, Bool as Truth, Chan}
 use Rattle.meaning.specs.Variables.{Blocks, scope_in, lookup, value_of}
-use Rattle.meaning.specs.Expressions.{and_then, word_in, before, binary, compared, exactly, named, value}
+use Rattle.meaning.specs.Expressions.{word_in, before, binary, compared, exactly, named, value}
+use Rattle.meaning.specs.Values.{Value}
+use Rattle.meaning.specs.Worked.{ready, and_then}
 
 -- ---- no operator makes `nil`
 
@@ -117,8 +120,8 @@ module _ (globals : Globals) (s : Scope) where
   -- ---- their values
 
   module _ (blocks : Blocks) (same : (e : Expression) → worth globals (scope_in blocks) e ≡ worth globals s e) where
-    pub constant_value : (e : Expression) (z : ℤ) → worth globals s e ≡ Some (Constant z) → value globals blocks e ≡ Ok (Int (int_wrap w64 z) ∷ [])
-    constant_value (Integer v) z is = ap (λ o. exactly o (Ok [])) (same (Integer v) ∙ is)
+    pub constant_value : (e : Expression) (z : ℤ) → worth globals s e ≡ Some (Constant z) → value globals blocks e ≡ ready (Int (int_wrap w64 z) ∷ [])
+    constant_value (Integer v) z is = ap (λ o. exactly o (ready [])) (same (Integer v) ∙ is)
     constant_value (Named name) z is = absurd (named_constant name z is)
     constant_value (Parenthesized inner) z is = constant_value inner z is
     constant_value (Selection whole field) z is = absurd (field_constant field (worth globals s whole) z is)
@@ -126,6 +129,12 @@ module _ (globals : Globals) (s : Scope) where
     constant_value (Unary operator e) z is = ap (λ o. exactly o (and_then (value globals blocks e) (λ a. before operator (word_in a)))) (same (Unary operator e) ∙ is)
     constant_value (Binary operator l r) z is =
         ap (λ o. exactly o (compared operator (worth globals (scope_in blocks) l) (worth globals (scope_in blocks) r) (binary operator (value globals blocks l) (value globals blocks r)))) (same (Binary operator l r) ∙ is)
+    constant_value (Call function values trailing) z is = absurd (typed_constant (result_type globals (callee globals s function)) z is)
+    constant_value (Receive channel) z is = absurd (typed_constant (element_of (worth globals s channel)) z is)
+    constant_value (Make kind) z is = absurd (typed_constant (made_of (type_in globals.types s kind)) z is)
+    constant_value (MakeSized kind size) z is = absurd (typed_constant (made_of (type_in globals.types s kind)) z is)
+    constant_value (Length channel) z is = absurd cc
+    constant_value (Capacity channel) z is = absurd cc
 
     named_nil : (name : List ℕ) → named_worth s name ≡ Some Nil → named globals blocks name ≡ Chan None ∷ []
     named_nil name e = go (is_truth name) (is_nil name) e where
@@ -135,11 +144,17 @@ module _ (globals : Globals) (s : Scope) where
       go false true e = refl
       go false false e = absurd (typed_nil (kind_of (variable_named s name)) e)
 
-    pub nil_value : (e : Expression) → worth globals s e ≡ Some Nil → value globals blocks e ≡ Ok (Chan None ∷ [])
+    pub nil_value : (e : Expression) → worth globals s e ≡ Some Nil → value globals blocks e ≡ ready (Chan None ∷ [])
     nil_value (Integer v) is = absurd (integer_nil (literal v) is)
-    nil_value (Named name) is = ap Ok (named_nil name is)
+    nil_value (Named name) is = ap (λ (v : Value). ready v) (named_nil name is)
     nil_value (Parenthesized inner) is = nil_value inner is
     nil_value (Selection whole field) is = absurd (field_nil field (worth globals s whole) is)
     nil_value (Composite name values trailing) is = absurd (struct_nil (literal_struct globals s name) is)
     nil_value (Unary operator e) is = absurd (unary_nil operator (worth globals s e) is)
     nil_value (Binary operator l r) is = absurd (binary_nil operator (worth globals s l) (worth globals s r) is)
+    nil_value (Call function values trailing) is = absurd (typed_nil (result_type globals (callee globals s function)) is)
+    nil_value (Receive channel) is = absurd (typed_nil (element_of (worth globals s channel)) is)
+    nil_value (Make kind) is = absurd (typed_nil (made_of (type_in globals.types s kind)) is)
+    nil_value (MakeSized kind size) is = absurd (typed_nil (made_of (type_in globals.types s kind)) is)
+    nil_value (Length channel) is = absurd cc
+    nil_value (Capacity channel) is = absurd cc

@@ -1,67 +1,35 @@
 -- The code of an expression in which nothing is wrong pushes its value's words.
-use Rattle.std.proofs.Common.{◌≡◌, ℕ, pos, ◌+◌, ◌≤◌, Bool, true, false, List, [], ◌∷◌, ◌++◌, length, map, Option, Some, None, option_map, Ok, refl, sym, ap, ◌∙◌, subst, arith, append_assoc, slice_get, bytes_eq}
+use Rattle.std.proofs.Common.{◌≡◌, ℕ, ◌+◌, Bool, true, false, List, [], ◌∷◌, ◌++◌, map, Option, Some, None, option_map, sym, ap, ◌∙◌, subst, arith, slice_get, bytes_eq}
 use Rattle.std.specs.Prelude.{if◌then◌else◌, codes}
-use Rattle.std.proofs.lemmas.Option.{same_Some}
-use Rattle.std.proofs.lemmas.List.{append-nil}
 use Rattle.syntax.specs.Tree.{Expression}
 use Rattle.bytecode.specs.declared.instr.Instr.TheVariants as instrs
 use Rattle.bytecode.specs.declared.instr.WordKind.{WordKind}
-use Rattle.bytecode.specs.declared.instr.WordKind.TheVariants as kinds
-use Rattle.bytecode.specs.Code.{Function as CodeFunction, Code}
-use Rattle.bytecode.specs.Machine.{Frames, zero_of}
+use Rattle.bytecode.specs.Machine.{zero_of}
 use Rattle.word.specs.declared.value.Word.{Word}
 use Rattle.word.specs.declared.value.Word.TheVariants.{Bool as Truth, Chan}
-use Rattle.word.specs.Related.{here}
 use Rattle.type_table.specs.Types.{ValueType, BoolType}
-use Rattle.type_table.specs.Containment.{Structs, Selected, field_of}
-use Rattle.type_table.specs.Scopes.{Globals, Scope, Variable, is_blank, is_truth, is_nil, later, last_named, variable_named}
-use Rattle.typing_rules.specs.Worths.{Worth, Typed, Constant, Nil, kind_of, named_worth, worth}
+use Rattle.type_table.specs.Containment.{Selected, field_of}
+use Rattle.type_table.specs.Scopes.{Globals, Scope, Variable, is_blank, is_truth, is_nil, last_named, variable_named}
+use Rattle.typing_rules.specs.Worths.{Typed, Nil, kind_of, named_worth, worth}
 use Rattle.typing_rules.specs.Expressions.{default_type}
 use Rattle.meaning.specs.Values.{Value, Slot, known, whole, slot_behind, field_slot, words_in, words_at}
+use Rattle.meaning.specs.Worked.{ready, and_then}
 use Rattle.meaning.specs.Variables.{Blocks, scope_in, lookup, value_of}
-use Rattle.meaning.specs.Expressions.{and_then, type_of as type_of_value, named as named_value, selected as selected_value, value}
-use Rattle.codegen_base.specs.declared.element.Element.{Element}
+use Rattle.meaning.specs.Expressions.{type_of as type_of_value, named as named_value, selected as selected_value, value}
 use Rattle.codegen_base.specs.Layouts.{type_of}
-use Rattle.codegen_base.specs.Pushes.{words_of, loads as load_instr, named, selects as selects_plan, pushes_zeros, zero_instr}
+use Rattle.codegen_base.specs.Pushes.{words_of, loads as load_instr, named, selects as selects_plan, pushes_zeros}
 use Rattle.plan.specs.Plan.{Plan, Do}
 use Rattle.plan.proofs.Words.{Words, part}
-use Rattle.plan.proofs.Steps.{pushes_int, pushes_bool, pushes_nil, loads, picks}
+use Rattle.plan.proofs.Steps.{loads, picks}
 use Rattle.codegen_base.proofs.Alike.{worth_alike}
 use Rattle.codegen_base.proofs.Seen.{wide, Like, seen_one, seen, found_below, seen_lookup}
-use Rattle.codegen_base.proofs.Static.{IsPlaced, seen_alike}
+use Rattle.codegen_base.proofs.Static.{seen_alike, found_like}
 use Rattle.codegen_base.proofs.Likeness.{like_long, kinds_long}
-use Rattle.codegen_base.proofs.Fields.{AllWide, field_held, held_within, held_like}
-use Rattle.codegen_base.proofs.Evaluates.{range_part, at, Slip, then_slip, Stands, Evals, bind, pushed_bool}
-
--- each variable's locals hold a value of its type
-abbrev pub Holding : Structs → Words → List Variable → Type 0
-Holding structs ls [] = Unit {0}
-Holding structs ls (v ∷ vs) = Like structs (known v.kind) (part v.place (wide structs v) ls) × Holding structs ls vs
-
-pub found_like : (structs : Structs) (ls : Words) (vs : List Variable) (name : List ℕ) (v : Variable) → Holding structs ls vs → last_named vs name ≡ Some v → Like structs (known v.kind) (part v.place (wide structs v) ls)
-found_like structs ls [] name v h e = absurd cc
-found_like structs ls (w ∷ vs) name v h e = go (last_named vs name) (bytes_eq w.name name) refl e (λ x. found_like structs ls vs name v h.1 x) where
-  go : (o : Option Variable) (t : Bool) → last_named vs name ≡ o → later (if t then Some w else None) o ≡ Some v → (last_named vs name ≡ Some v → Like structs (known v.kind) (part v.place (wide structs v) ls)) → Like structs (known v.kind) (part v.place (wide structs v) ls)
-  go (Some x) t is e more = more (is ∙ e)
-  go None true is e more = subst (λ (x : Variable). Like structs (known x.kind) (part x.place (wide structs x) ls)) (same_Some w v e) h.0
-  go None false is e more = absurd cc
-
-abbrev worth_type : Option Worth → Option ValueType
-worth_type None = None
-worth_type (Some (Typed t)) = Some t
-worth_type (Some (Constant z)) = None
-worth_type (Some Nil) = None
-
-pub typed_same : (s t : ValueType) → Some (Typed s) ≡ Some (Typed t) → s ≡ t
-typed_same s t e = same_Some s t (ap worth_type e)
-
--- a name with a type is a variable, unless it is a truth value
-pub typed_variable : (o : Option Variable) (k : ValueType) → option_map Typed (kind_of o) ≡ Some (Typed k) → (v : Variable) × (o ≡ Some v) × (v.kind ≡ Some k)
-typed_variable None k e = absurd cc
-typed_variable (Some v) k e = (v, refl, go v.kind e) where
-  go : (o : Option ValueType) → option_map Typed o ≡ Some (Typed k) → o ≡ Some k
-  go None e = absurd cc
-  go (Some t) e = ap worth_type e
+use Rattle.codegen_base.proofs.Fields.{field_held, held_within, held_like}
+use Rattle.codegen_base.proofs.Evaluates.{range_part, Slip, Stands, Evals, bind, pushed_bool, lies}
+use Rattle.codegen_base.proofs.Running.{Compiled, Coded, Running, Standing}
+use Rattle.codegen_base.proofs.Typing.{typed_same, typed_variable}
+use Rattle.codegen_base.proofs.Storing.{zeros_push}
 
 unblanked : (scope : Scope) (name : List ℕ) (v : Variable) → variable_named scope name ≡ Some v → last_named scope.variables name ≡ Some v
 unblanked scope name v e = go (is_blank name) e where
@@ -69,83 +37,72 @@ unblanked scope name v e = go (is_blank name) e where
   go true e = absurd cc
   go false e = e
 
-module _ (globals : Globals) (elements : List Element) (all : AllWide globals.structs) where
-  module _ (code : Code) (g : ℕ) (f : CodeFunction) (there : slice_get code.functions g ≡ Some f) (callers : Frames) (ls : List Word) (leave again : Option ℕ) where
-    -- ---- zeros
+module _ {globals : Globals} {program : Compiled globals} {coded : Coded program} {running : Running coded} (standing : Standing running) where
+  open program use {elements, code, wide as all}
+  open coded use {number as g, function as f, there}
+  open running use {context, context.{callers}}
+  open standing use {locals as ls, scope, begins as ns, placed, room, holding}
 
-    pub zeros_goes : (ks : List WordKind) (rest : Plan) (out : Option ℕ) (place : ℕ) (stack : List Word) → Stands globals.structs code g f there callers ls leave again (pushes_zeros ks rest) place out
-        → (to : ℕ) × Slip globals.structs code g f there callers ls place stack to (stack ++ map zero_of ks) × Stands globals.structs code g f there callers ls leave again rest to out
-    zeros_goes [] rest out place stack on = (place, subst (λ (s : List Word). Slip globals.structs code g f there callers ls place stack place s) (sym (append-nil stack)) here, on)
-    zeros_goes (k ∷ ks) rest out place stack on =
-        let more = zeros_goes ks rest out (place + 1) (stack ++ zero_of k ∷ []) on.1 in (
-          more.0,
-          then_slip globals.structs code g f there callers ls place stack (place + 1) (stack ++ zero_of k ∷ []) (at globals.structs code g f there callers ls more.0 (stack ++ map zero_of (k ∷ ks))) (one k on.0)
-              (subst (λ (s : List Word). Slip globals.structs code g f there callers ls (place + 1) (stack ++ zero_of k ∷ []) more.0 s) (append_assoc stack (zero_of k ∷ []) (map zero_of ks)) more.1),
-          more.2,
-        ) where
-          one : (k : WordKind) → slice_get f.instrs place ≡ Some (zero_instr k) → Slip globals.structs code g f there callers ls place stack (place + 1) (stack ++ zero_of k ∷ [])
-          one kinds.Int is = pushes_int code g f there callers place ls stack (pos 0) is
-          one kinds.Bool is = pushes_bool code g f there callers place ls stack false is
-          one (kinds.Chan s) is = pushes_nil code g f there callers place ls stack s is
+  -- ---- zeros
 
-    module _ (scope : Scope) (ns : List ℕ) (placed : IsPlaced globals.structs scope ns) (room : scope.words ≤ length ls) (holding : Holding globals.structs ls scope.variables) where
-      abbrev pub blocks : Blocks
-      blocks = seen globals.structs ls scope.variables ns
+  pub zeros_goes : (ks : List WordKind) (rest : Plan) (out : Option ℕ) (place : ℕ) (stack : List Word) → Stands standing (pushes_zeros ks rest) place out
+      → (to : ℕ) × Slip standing place stack to (stack ++ map zero_of ks) × Stands standing rest to out
+  zeros_goes ks rest out place stack on = zeros_push running standing.leave standing.again ks ls rest out place stack on
 
-      pub same_worth : (e : Expression) → worth globals (scope_in blocks) e ≡ worth globals scope e
-      same_worth e = worth_alike (scope_in blocks) scope (seen_alike globals.structs ls scope ns placed) globals e
+  abbrev pub blocks : Blocks
+  blocks = seen globals.structs ls scope.variables ns
 
-      pub type_here : (e : Expression) (k : ValueType) → worth globals scope e ≡ Some (Typed k) → type_of globals elements scope e ≡ k
-      type_here e k is = ap (λ o. known (default_type o)) is
+  pub same_worth : (e : Expression) → worth globals (scope_in blocks) e ≡ worth globals scope e
+  same_worth e = worth_alike (scope_in blocks) scope (seen_alike globals.structs ls scope ns placed) globals e
 
-      pub type_there : (e : Expression) (k : ValueType) → worth globals scope e ≡ Some (Typed k) → type_of_value globals blocks e ≡ k
-      type_there e k is = ap (λ o. known (default_type o)) (same_worth e ∙ is)
+  pub type_here : (e : Expression) (k : ValueType) → worth globals scope e ≡ Some (Typed k) → type_of globals elements scope e ≡ k
+  type_here e k is = ap (λ o. known (default_type o)) is
 
-      -- ---- names
+  pub type_there : (e : Expression) (k : ValueType) → worth globals scope e ≡ Some (Typed k) → type_of_value globals blocks e ≡ k
+  type_there e k is = ap (λ o. known (default_type o)) (same_worth e ∙ is)
 
-      pub named_goes : (name : List ℕ) (k : ValueType) (rest : Plan) (out : Option ℕ) (place : ℕ) (stack : List Word) → named_worth scope name ≡ Some (Typed k) → Stands globals.structs code g f there callers ls leave again (Do (named globals elements scope name) rest) place out
-          → Evals globals.structs code g f there callers ls leave again (Ok (named_value globals blocks name)) k rest out place stack stack
-      named_goes name k rest out place stack is on = go (is_truth name) (is_nil name) is on where
-        go : (t n : Bool) → (if t then Some (Typed BoolType) else (if n then Some Nil else option_map Typed (kind_of (variable_named scope name)))) ≡ Some (Typed k)
-            → Stands globals.structs code g f there callers ls leave again (Do (if t then instrs.Bool (bytes_eq name (codes "true")) else load_instr globals elements scope (variable_named scope name)) rest) place out
-            → Evals globals.structs code g f there callers ls leave again (Ok (if t then Truth (bytes_eq name (codes "true")) ∷ [] else (if n then Chan None ∷ [] else value_of (lookup blocks name)))) k rest out place stack stack
-        go true n is on = subst (λ j. Evals globals.structs code g f there callers ls leave again (Ok (Truth (bytes_eq name (codes "true")) ∷ [])) j rest out place stack stack) (typed_same BoolType k is) (pushed_bool globals.structs code g f there callers ls leave again (bytes_eq name (codes "true")) rest out place stack on)
-        go false true is on = absurd cc
-        go false false is on =
-            let (v, found, kind) = typed_variable (variable_named scope name) k is in
-            let last = unblanked scope name v found in
-            let below = found_below globals.structs 0 scope.variables scope.words name v placed.rising last in
-            let many : words_of globals elements scope (known v.kind) ≡ wide globals.structs v = kinds_long globals.structs elements (known v.kind) in
-            let w = wide globals.structs v in
-            let i : slice_get f.instrs place ≡ Some (instrs.Load v.place w) = on.0 ∙ ap (λ o. Some (load_instr globals elements scope o)) found ∙ ap (λ n. Some (instrs.Load v.place n)) many in
-            let is-value : value_of (lookup blocks name) ≡ part v.place w ls = ap value_of (seen_lookup globals.structs ls scope.variables ns name ∙ ap (option_map (seen_one globals.structs ls)) last) in
-            subst (λ (x : Value). Evals globals.structs code g f there callers ls leave again (Ok x) k rest out place stack stack) (sym is-value) (
-              place + 1,
-              subst (λ o. Like globals.structs (known o) (part v.place w ls)) kind (found_like globals.structs ls scope.variables name v holding last),
-              subst (λ (x : Words). Slip globals.structs code g f there callers ls place stack (place + 1) (stack ++ x)) (range_part v.place w ls) (loads code g f there callers place ls stack v.place w i (omega (arith, below.1, room))),
-              on.1,
-            )
+  -- ---- names
 
-      -- ---- fields
+  pub named_goes : (name : List ℕ) (k : ValueType) (rest : Plan) (out : Option ℕ) (place : ℕ) (stack : List Word) → named_worth scope name ≡ Some (Typed k) → Stands standing (Do (named globals elements scope name) rest) place out
+      → Evals standing (ready (named_value globals blocks name)) k rest out place stack stack
+  named_goes name k rest out place stack is on = go (is_truth name) (is_nil name) is on where
+    go : (t n : Bool) → (if t then Some (Typed BoolType) else (if n then Some Nil else option_map Typed (kind_of (variable_named scope name)))) ≡ Some (Typed k)
+        → Stands standing (Do (if t then instrs.Bool (bytes_eq name (codes "true")) else load_instr globals elements scope (variable_named scope name)) rest) place out
+        → Evals standing (ready (if t then Truth (bytes_eq name (codes "true")) ∷ [] else (if n then Chan None ∷ [] else value_of (lookup blocks name)))) k rest out place stack stack
+    go true n is on = subst (λ j. Evals standing (ready (Truth (bytes_eq name (codes "true")) ∷ [])) j rest out place stack stack) (typed_same BoolType k is) (pushed_bool standing (bytes_eq name (codes "true")) rest out place stack on)
+    go false true is on = absurd cc
+    go false false is on =
+        let (v, found, kind) = typed_variable (variable_named scope name) k is in
+        let last = unblanked scope name v found in
+        let below = found_below globals.structs 0 scope.variables scope.words name v placed.rising last in
+        let many : words_of globals elements scope (known v.kind) ≡ wide globals.structs v = kinds_long globals.structs elements (known v.kind) in
+        let w = wide globals.structs v in
+        let i : slice_get f.instrs place ≡ Some (instrs.Load v.place w) = on.0 ∙ ap (λ o. Some (load_instr globals elements scope o)) found ∙ ap (λ n. Some (instrs.Load v.place n)) many in
+        let is-value : value_of (lookup blocks name) ≡ part v.place w ls = ap value_of (seen_lookup globals.structs ls scope.variables ns name ∙ ap (option_map (seen_one globals.structs ls)) last) in
+        subst (λ (x : Value). Evals standing (ready x) k rest out place stack stack) (sym is-value)
+        (lies standing (part v.place w ls) k rest out place stack stack (place + 1)
+        (subst (λ o. Like globals.structs (known o) (part v.place w ls)) kind (found_like globals.structs ls scope.variables name v holding last))
+        (subst (λ (x : Words). Slip standing place stack (place + 1) (stack ++ x)) (range_part v.place w ls) (loads code g f there callers place ls stack v.place w i (omega (arith, below.1, room))))
+        on.1)
 
-      pub selection_goes : (e : Expression) (field : List ℕ) (kind t : ValueType) (found : Selected) (rest : Plan) (out : Option ℕ) (place : ℕ) (stack : List Word) → field_of globals.structs kind field ≡ Some found → found.kind ≡ Some t
-          → Evals globals.structs code g f there callers ls leave again (value globals blocks e) kind (selects_plan globals elements scope kind field rest) out place stack stack
-          → Evals globals.structs code g f there callers ls leave again (and_then (value globals blocks e) (λ words. Ok (selected_value globals blocks kind field words))) t rest out place stack stack
-      selection_goes e field kind t found rest out place stack is has ev =
-          let held = field_held globals.structs all kind field found t is has in
-          let begin : 0 + found.place ≡ found.place = omega arith in
-          let slot : field_slot globals.structs (whole kind) field ≡ record { from = found.place; kind = t } = ap (slot_behind 0) is ∙ ap (λ n. record { from = n; kind = known found.kind }) begin ∙ ap (λ o. record { from = found.place; kind = known o }) has in
-          let w = words_in globals.structs t in
-          bind globals.structs code g f there callers ls leave again (value globals blocks e) (λ words. Ok (selected_value globals blocks kind field words)) kind t (selects_plan globals elements scope kind field rest) rest out out place stack stack ev
-          (λ v like to on.
-          let many : words_of globals elements scope kind ≡ words_in globals.structs kind = kinds_long globals.structs elements kind in
-          let i : slice_get f.instrs to ≡ Some (instrs.Pick (words_in globals.structs kind) found.place w) =
-          on.0 ∙ ap (λ (s : Slot). Some (instrs.Pick (words_of globals elements scope kind) s.from (words_of globals elements scope s.kind))) slot
-          ∙ ap (λ n. Some (instrs.Pick n found.place (words_of globals elements scope t))) many ∙ ap (λ n. Some (instrs.Pick (words_in globals.structs kind) found.place n)) (kinds_long globals.structs elements t) in
-          let chosen : selected_value globals blocks kind field v ≡ part found.place w v = ap (λ (s : Slot). words_at globals.structs s v) slot ∙ range_part found.place w v in
-          subst (λ (x : Value). Evals globals.structs code g f there callers ls leave again (Ok x) t rest out to (stack ++ v) stack) (sym chosen) (
-            to + 1,
-            held_like globals.structs kind found.place t v held like,
-            subst (λ (x : Words). Slip globals.structs code g f there callers ls to (stack ++ v) (to + 1) (stack ++ x)) (range_part found.place w v) (picks code g f there callers to ls stack v (words_in globals.structs kind) found.place w i (sym (like_long globals.structs kind v like)) (held_within globals.structs kind found.place t held)),
-            on.1,
-          ))
+  -- ---- fields
+
+  pub selection_goes : (e : Expression) (field : List ℕ) (kind t : ValueType) (found : Selected) (rest : Plan) (out : Option ℕ) (place : ℕ) (stack : List Word) → field_of globals.structs kind field ≡ Some found → found.kind ≡ Some t
+      → Evals standing (value globals blocks e) kind (selects_plan globals elements scope kind field rest) out place stack stack
+      → Evals standing (and_then (value globals blocks e) (λ words. ready (selected_value globals blocks kind field words))) t rest out place stack stack
+  selection_goes e field kind t found rest out place stack is has ev =
+      let held = field_held globals.structs all kind field found t is has in
+      let begin : 0 + found.place ≡ found.place = omega arith in
+      let slot : field_slot globals.structs (whole kind) field ≡ record { from = found.place; kind = t } = ap (slot_behind 0) is ∙ ap (λ n. record { from = n; kind = known found.kind }) begin ∙ ap (λ o. record { from = found.place; kind = known o }) has in
+      let w = words_in globals.structs t in
+      bind standing (value globals blocks e) (λ words. ready (selected_value globals blocks kind field words)) kind t (selects_plan globals elements scope kind field rest) rest out out place stack stack ev
+      (λ v like to on.
+      let many : words_of globals elements scope kind ≡ words_in globals.structs kind = kinds_long globals.structs elements kind in
+      let i : slice_get f.instrs to ≡ Some (instrs.Pick (words_in globals.structs kind) found.place w) =
+      on.0 ∙ ap (λ (s : Slot). Some (instrs.Pick (words_of globals elements scope kind) s.from (words_of globals elements scope s.kind))) slot
+      ∙ ap (λ n. Some (instrs.Pick n found.place (words_of globals elements scope t))) many ∙ ap (λ n. Some (instrs.Pick (words_in globals.structs kind) found.place n)) (kinds_long globals.structs elements t) in
+      let chosen : selected_value globals blocks kind field v ≡ part found.place w v = ap (λ (s : Slot). words_at globals.structs s v) slot ∙ range_part found.place w v in
+      subst (λ (x : Value). Evals standing (ready x) t rest out to (stack ++ v) stack) (sym chosen)
+      (lies standing (part found.place w v) t rest out to (stack ++ v) stack (to + 1) (held_like globals.structs kind found.place t v held like)
+      (subst (λ (x : Words). Slip standing to (stack ++ v) (to + 1) (stack ++ x)) (range_part found.place w v) (picks code g f there callers to ls stack v (words_in globals.structs kind) found.place w i (sym (like_long globals.structs kind v like)) (held_within globals.structs kind found.place t held)))
+      on.1))

@@ -1,21 +1,21 @@
 -- The code of simple statements, declarations and what selects wait for has no selects.
-use Rattle.std.proofs.Common.{ℕ, zero, suc, ◌==◌, Bool, true, false, ◌&&◌, List, [], ◌∷◌, map, length, Option, Some, None}
-use Rattle.std.specs.Prelude.{if◌then◌else◌}
-use Rattle.syntax.specs.Tree.{Expression, Operation, Call, Receive, Make, Length, Capacity, Right, RightOperation, Values, Part, Value as ValuePart, Text, Simple, CallAlone, Close, Print, ReceiveAlone, Send, Increment, Decrement, Assign, Define, Update, Comm, CommSend, CommReceive, CommDefine, CommAssign}
+use Rattle.std.proofs.Common.{ℕ, zero, suc, List, [], ◌∷◌, length, Option, Some, None}
+use Rattle.syntax.specs.Tree.{Expression, Receive, Part, Value as ValuePart, Text, Simple, CallAlone, Close, Print, ReceiveAlone, Send, Increment, Decrement, Assign, Define, Update, Comm, CommSend, CommReceive, CommDefine, CommAssign}
 use Rattle.bytecode.specs.declared.instr.Instr.{Instr}
 use Rattle.bytecode.specs.declared.instr.Instr.TheVariants as instrs
 use Rattle.type_table.specs.Types.{ValueType, BoolType}
 use Rattle.type_table.specs.Scopes.{Globals, Scope, Yield, NoResult, Yields}
 use Rattle.typing_rules.specs.Worths.{Typed as TypedWorth, worth}
-use Rattle.typing_rules.specs.Operations.{parameters_of, result_of, selected, place_type, is_receive}
+use Rattle.typing_rules.specs.Calls.{result_of}
+use Rattle.typing_rules.specs.Operations.{selected, place_type}
 use Rattle.meaning.specs.Values.{known}
-use Rattle.meaning.specs.Destinations.{number_of}
+use Rattle.meaning.specs.Expressions.{number_of}
 use Rattle.codegen_base.specs.declared.element.Element.{Element}
 use Rattle.codegen_base.specs.Elements.{kinds_of}
 use Rattle.codegen_base.specs.Generated.{zero_values, same_types, variables_plan, comm_plan, unless_two, one_or_two}
 use Rattle.codegen_base.specs.Layouts.{Layout, type_of, carried}
-use Rattle.codegen_base.specs.Pushes.{pushes, pushes_own, pushes_zeros, drops, emits}
-use Rattle.codegen_base.specs.Statements.{Spot, Dropped, Local, stores, stores_all, singles, last_counts, assigns, pushes_parts, pushes_arguments, pushes_size, pushes_received, pushes_operation, pushes_one, pushes_right, loads_spot, spot_of, result_words, defines, name_spots, name_types, place_spots, taken_types, right_types, simple_plan}
+use Rattle.codegen_base.specs.Pushes.{argument_types, pushes, pushes_own, pushes_zeros, drops, emits}
+use Rattle.codegen_base.specs.Statements.{Spot, Dropped, Local, stores, stores_all, singles, last_counts, assigns, pushes_parts, pushes_arguments, pushes_received, pushes_right, loads_spot, spot_of, result_words, defines, name_spots, name_types, place_spots, taken_types, right_types, simple_plan}
 use Rattle.plan.specs.Plan.{Plan, Skip, Do}
 use Rattle.codegen_base.proofs.Before.{Before, Here, Step, before_on, Stands, zeros_before, operates_before, emits_before, pushes_before, pushes_all_before}
 
@@ -57,34 +57,14 @@ module _ (globals : Globals) (elements : List Element) (scope : Scope) where
   parts_before (Text bytes ∷ others) rest = parts_before others rest
 
   pub arguments_before : (function : ℕ) (values : List Expression) → Stands (pushes_arguments globals elements scope function values)
-  arguments_before function values = pushes_all_before globals elements scope (map known (parameters_of globals function)) values
-
-  size_before : (size : Option Expression) → Stands (pushes_size globals elements scope size)
-  size_before None rest = Step _ rest rest (Here rest)
-  size_before (Some size) rest = pushes_before globals elements scope _ size rest
+  arguments_before function values = pushes_all_before globals elements scope (argument_types globals elements scope function) values
 
   received_before : (channel : Expression) → Stands (pushes_received globals elements scope channel)
-  received_before channel = then_step (pushes_own globals elements scope channel) _ (pushes_before globals elements scope _ channel)
+  received_before channel = then_step (emits globals elements scope channel) _ (emits_before globals elements scope channel)
 
-  operation_before : (operation : Operation) → Stands (pushes_operation globals elements scope operation)
-  operation_before (Call function arguments) rest = then_step (pushes_arguments globals elements scope (number_of globals function) arguments.values) _ (arguments_before (number_of globals function) arguments.values) rest
-  operation_before (Receive channel) rest = received_before channel rest
-  operation_before (Make kind size) rest = then_step (pushes_size globals elements scope size) _ (size_before size) rest
-  operation_before (Length channel) rest = then_step (pushes_own globals elements scope channel) _ (pushes_before globals elements scope _ channel) rest
-  operation_before (Capacity channel) rest = then_step (pushes_own globals elements scope channel) _ (pushes_before globals elements scope _ channel) rest
-
-  pub one_before : (operation : Operation) → Stands (pushes_one globals elements scope operation)
-  one_before operation rest = go (is_receive operation) where
-    go : (t : Bool) → Before rest (pushes_operation globals elements scope operation (if t then Do (instrs.Discard 1) rest else rest))
-    go true = then_step (pushes_operation globals elements scope operation) _ (operation_before operation) rest
-    go false = operation_before operation rest
-
-  pub right_before : (count : ℕ) (types : List ValueType) (right : Right) → Stands (pushes_right globals elements scope count types right)
-  right_before count types (Values all) rest = pushes_all_before globals elements scope types all rest
-  right_before count types (RightOperation operation) rest = go ((count == 2) && is_receive operation) where
-    go : (t : Bool) → Before rest (if t then pushes_operation globals elements scope operation rest else pushes_one globals elements scope operation rest)
-    go true = operation_before operation rest
-    go false = one_before operation rest
+  pub right_before : (count : ℕ) (types : List ValueType) (right : List Expression) → Stands (pushes_right globals elements scope count types right)
+  right_before (suc (suc zero)) types (Receive channel ∷ []) rest = received_before channel rest
+  right_before count types right rest = pushes_all_before globals elements scope types right rest
 
   loads_before : (spot : Spot) → Stands (loads_spot globals elements scope spot)
   loads_before (Dropped words) rest = Here rest
@@ -94,7 +74,7 @@ module _ (globals : Globals) (elements : List Element) (scope : Scope) where
   stored_before spot = both_stand (stores spot) (λ rest. Do instrs.Tick rest) (stores_before spot) ticks_before Skip
 
 module _ (globals : Globals) (elements : List Element) (layout : Layout) where
-  pub defines_before : (names : List (List ℕ)) (types : List ValueType) (right : Right) → Before Skip (defines globals elements layout names types right)
+  pub defines_before : (names : List (List ℕ)) (types : List ValueType) (right : List Expression) → Before Skip (defines globals elements layout names types right)
   defines_before names types right =
       both_stand (pushes_right globals elements layout.scope (length names) (name_types globals elements layout names types) right) (assigns (name_spots globals elements layout names types)) (right_before globals elements layout.scope (length names) (name_types globals elements layout names types) right)
       (assigns_before (name_spots globals elements layout names types)) Skip
@@ -134,7 +114,7 @@ module _ (globals : Globals) (elements : List Element) (layout : Layout) where
   zero_before count [] kind rest = Here rest
   zero_before count (name ∷ names) kind rest = both_stand (pushes_zeros (kinds_of globals.structs elements kind)) (zero_values globals elements count names kind) (zeros_before (kinds_of globals.structs elements kind)) (zero_before count names kind) rest
 
-  pub variables_before : (names : List (List ℕ)) (kind : ValueType) (right : Option Right) → Before Skip (variables_plan globals elements layout names kind right)
+  pub variables_before : (names : List (List ℕ)) (kind : ValueType) (right : Option (List Expression)) → Before Skip (variables_plan globals elements layout names kind right)
   variables_before names kind (Some right) = defines_before names (same_types globals elements names kind) right
   variables_before names kind None =
       let spots = name_spots globals elements layout names (same_types globals elements names kind) in both_stand (zero_values globals elements 0 names kind) (assigns spots) (zero_before 0 names kind) (assigns_before spots) Skip

@@ -12,9 +12,10 @@ use Rattle.word.specs.Apply.{value as applied}
 use Rattle.type_table.specs.Types.{ValueType, IntType, BoolType, StructType, ChannelType, is_int_type, is_bool_type, is_channel_type}
 use Rattle.typing_rules.specs.declared.flaw.Misuse.{Misuse}
 use Rattle.typing_rules.specs.declared.flaw.Misuse.TheVariants as misuses
-use Rattle.typing_rules.specs.Worths.{Worth, Typed, Constant, Nil, bounded, is_int, is_not, is_equality, is_order, is_logical, is_far, is_wrong_right, made_type, exact_binary, sized, if_good, are_comparable, fit_operator, beside_nil, unary_worth, binary_worth}
+use Rattle.typing_rules.specs.Worths.{Worth, Typed, Constant, Nil, bounded, is_int, is_not, is_equality, is_order, is_logical, is_far, is_wrong_right, made_type, exact_binary, exact_unary, sized, if_good, are_comparable, fit_operator, beside_nil, unary_worth, binary_worth}
 use Rattle.meaning.specs.Values.{Value}
-use Rattle.meaning.specs.Expressions.{Worked, and_then, word_in, operator_at, between, beside}
+use Rattle.meaning.specs.Expressions.{word_in, operator_at, between, beside}
+use Rattle.meaning.specs.Worked.{Worked, and_then}
 use Rattle.codegen_base.specs.Pushes.{operator_of, between as between_plan}
 use Rattle.plan.specs.Plan.{Plan, Do}
 
@@ -307,3 +308,11 @@ two_constants operator a b k e = go (is_equality operator || is_order operator) 
   go false false false true o e = absurd cc
   go false false false false None e = absurd cc
   go false false false false (Some z) e = absurd cc
+
+-- an operator makes no typed value of a constant
+pub constant_untyped : (operator : UnaryOperator) (z : ℤ) (k : ValueType) → unary_worth operator (Constant z) ≡ Ok (Typed k) → ⊥
+constant_untyped operator z k e = go (is_not operator) (bounded (exact_unary operator z)) e where
+  go : (n : Bool) (o : Option ℤ) → (if n then Err misuses.Operands else sized o) ≡ Ok (Typed k) → ⊥
+  go true o e = absurd cc
+  go false None e = absurd cc
+  go false (Some y) e = absurd cc

@@ -81,9 +81,6 @@ drop_length zero ws m le = omega (arith, le)
 drop_length (suc n) [] m le = absurd (omega (arith, le))
 drop_length (suc n) (w ∷ ws) m le = drop_length n ws m (omega (arith, le))
 
-same_or_not : (p q : ℕ) → (b : Bool) × ((p == q) ≡ b)
-same_or_not p q = (p == q, refl)
-
 back_length : (spots : List Spot) (ws ls : Words) → AreSingle (length ls) spots → all_words spots ≤ length ws → length (put_backward (last_counts spots) ws ls) ≡ length ls
 back_length [] ws ls single le = refl
 back_length (Dropped words ∷ spots) ws ls single le = back_length spots (drop words ws) ls single (drop_length words ws (all_words spots) le)

@@ -1,18 +1,25 @@
 -- The code that stores values puts them where they go.
-use Rattle.std.proofs.Common.{◌≡◌, ℕ, zero, suc, ◌+◌, List, [], ◌∷◌, ◌++◌, length, take, drop, Option, Some, sym, ap, ◌∙◌, subst, arith, append_assoc, length-take, length-drop, slice_get}
+use Rattle.std.proofs.Common.{◌≡◌, ℕ, zero, suc, ◌+◌, List, [], ◌∷◌, ◌++◌, length, take, drop, Option, sym, ap, ◌∙◌, subst, arith, append_assoc, length-take, length-drop, pos, false, map, slice_get, Some}
 use Rattle.std.proofs.lemmas.List.{append-nil, take-append-drop}
-use Rattle.bytecode.specs.Code.{Function as CodeFunction, Code}
-use Rattle.bytecode.specs.Machine.{Frames, code_next}
+use Rattle.bytecode.specs.Machine.{Frames, code_next, zero_of}
+use Rattle.bytecode.specs.declared.instr.WordKind.{WordKind}
+use Rattle.bytecode.specs.declared.instr.WordKind.TheVariants as kinds
 use Rattle.word.specs.Related.{Slips, here}
-use Rattle.codegen_base.specs.Pushes.{drops}
+use Rattle.codegen_base.specs.Pushes.{drops, pushes_zeros, zero_instr}
 use Rattle.codegen_base.specs.Statements.{Spot, Dropped, Local, stores, stores_all}
 use Rattle.plan.specs.Plan.{Plan}
 use Rattle.plan.proofs.Words.{Words, put_length}
 use Rattle.plan.proofs.Places.{On}
-use Rattle.plan.proofs.Steps.{spots as frames, slips_more, discards, stores as stores_words}
+use Rattle.plan.proofs.Steps.{spots as frames, slips_more, discards, stores as stores_words, pushes_int, pushes_bool, pushes_nil}
 use Rattle.codegen_base.proofs.Stores.{spot_words, put_spot, put_backward, all_words, AreThere}
+use Rattle.codegen_base.proofs.Running.{Compiled, Coded, Running}
+use Rattle.type_table.specs.Scopes.{Globals}
 
-module _ (code : Code) (g : ℕ) (f : CodeFunction) (there : slice_get code.functions g ≡ Some f) (callers : Frames) (leave again : Option ℕ) where
+module _ {globals : Globals} {program : Compiled globals} {coded : Coded program} (running : Running coded) (leave again : Option ℕ) where
+  open program use {code}
+  open coded use {number as g, function as f, there}
+  open running use {context.{callers}}
+
   abbrev Place : ℕ → Words → Words → Frames
   Place place ls stack = frames code g f there callers place ls stack
 
@@ -22,6 +29,21 @@ module _ (code : Code) (g : ℕ) (f : CodeFunction) (there : slice_get code.func
   -- the code leads on with other locals and another stack, to where what follows stands
   abbrev pub Leads : ℕ → Words → Words → Words → Words → Plan → Option ℕ → Type 0
   Leads place ls stack ms rest-stack rest out = (to : ℕ) × Slips (code_next code) (Place place ls stack) (Place to ms rest-stack) × Stands rest to out
+
+  -- zeros are pushed
+  pub zeros_push : (ks : List WordKind) (ls : Words) (rest : Plan) (out : Option ℕ) (place : ℕ) (stack : Words) → Stands (pushes_zeros ks rest) place out → Leads place ls stack ls (stack ++ map zero_of ks) rest out
+  zeros_push [] ls rest out place stack on = (place, subst (λ (s : Words). Slips (code_next code) (Place place ls stack) (Place place ls s)) (sym (append-nil stack)) here, on)
+  zeros_push (k ∷ ks) ls rest out place stack on =
+      let more = zeros_push ks ls rest out (place + 1) (stack ++ zero_of k ∷ []) on.1 in (
+        more.0,
+        slips_more (code_next code) (Place place ls stack) (Place (place + 1) ls (stack ++ zero_of k ∷ [])) (Place more.0 ls (stack ++ map zero_of (k ∷ ks))) (one k on.0)
+            (subst (λ (s : Words). Slips (code_next code) (Place (place + 1) ls (stack ++ zero_of k ∷ [])) (Place more.0 ls s)) (append_assoc stack (zero_of k ∷ []) (map zero_of ks)) more.1),
+        more.2,
+      ) where
+        one : (k : WordKind) → slice_get f.instrs place ≡ Some (zero_instr k) → Slips (code_next code) (Place place ls stack) (Place (place + 1) ls (stack ++ zero_of k ∷ []))
+        one kinds.Int is = pushes_int code g f there callers place ls stack (pos 0) is
+        one kinds.Bool is = pushes_bool code g f there callers place ls stack false is
+        one (kinds.Chan s) is = pushes_nil code g f there callers place ls stack s is
 
   pub drops_goes : (n : ℕ) (ws base ls : Words) (rest : Plan) (out : Option ℕ) (place : ℕ) → n ≡ length ws → Stands (drops n rest) place out → Leads place ls (base ++ ws) ls base rest out
   drops_goes zero [] base ls rest out place e on = (place, subst (λ (s : Words). Slips (code_next code) (Place place ls s) (Place place ls base)) (sym (append-nil base)) here, on)

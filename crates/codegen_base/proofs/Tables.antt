@@ -5,12 +5,10 @@ use Rattle.std.proofs.lemmas.Option.{same_Some}
 use Rattle.type_table.specs.declared.entry.FieldEntry.{FieldEntry}
 use Rattle.type_table.specs.declared.entry.StructEntry.{StructEntry}
 use Rattle.type_table.specs.Types.{ValueType, IntType, BoolType, StructType, ChannelType}
-use Rattle.type_table.specs.Containment.{Field, Structs, fields_of, fields_in, Selected, behind, variable_words, field_among}
+use Rattle.type_table.specs.Containment.{Field, Structs, fields_of, fields_in, Selected, behind, variable_words, field_among, field_of}
 use Rattle.type_table.specs.Views.{field_in, structs_of, AreWidths}
-use Rattle.type_table.specs.Scopes.{Globals, Scope}
 use Rattle.meaning.specs.Values.{known}
 use Rattle.codegen_base.proofs.Fields.{AllWide, AllTyped}
-use Rattle.codegen_base.proofs.Typing.{FieldsKnown}
 
 -- widths that are known
 pub all_wide : (structs : Structs) (widths : List ℕ) → AreWidths structs widths → AllWide structs
@@ -38,8 +36,8 @@ field_known structs (field ∷ rest) name at typed e = go (bytes_eq field.name n
   go false (Some x) e more =
       let m = more x refl in (m.0, sym (ap (λ (s : Selected). s.kind) (same_Some (behind (variable_words structs field.kind) x) at e)) ∙ m.1)
 
-pub fields_known : (globals : Globals) (s : Scope) → ((n : ℕ) → AllTyped globals.structs (fields_of globals.structs n)) → FieldsKnown globals s
-fields_known globals s typed IntType name at e = absurd cc
-fields_known globals s typed BoolType name at e = absurd cc
-fields_known globals s typed (ChannelType d t) name at e = absurd cc
-fields_known globals s typed (StructType n) name at e = field_known globals.structs (fields_of globals.structs n) name at (typed n) e
+pub fields_known : (structs : Structs) → ((n : ℕ) → AllTyped structs (fields_of structs n)) → (kind : ValueType) (name : List ℕ) (at : Selected) → field_of structs kind name ≡ Some at → (t : ValueType) × (at.kind ≡ Some t)
+fields_known structs typed IntType name at e = absurd cc
+fields_known structs typed BoolType name at e = absurd cc
+fields_known structs typed (ChannelType d t) name at e = absurd cc
+fields_known structs typed (StructType n) name at e = field_known structs (fields_of structs n) name at (typed n) e

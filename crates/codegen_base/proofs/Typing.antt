@@ -9,19 +9,21 @@ use Rattle.go_text.specs.declared.rule.LimitKind.{LimitKind}
 use Rattle.go_text.specs.declared.rule.LimitKind.TheVariants as limits
 use Rattle.syntax.specs.declared.node.UnaryOperator.{UnaryOperator}
 use Rattle.syntax.specs.declared.node.BinaryOperator.{BinaryOperator}
-use Rattle.syntax.specs.Tree.{Expression, Integer, Named, Parenthesized, Selection, Composite, Unary, Binary, Expressions, expressions_in}
+use Rattle.syntax.specs.Tree.{Expression, Integer, Named, Parenthesized, Selection, Composite, Unary, Binary, Call, Receive, Make, MakeSized, Length, Capacity, TypeExpression, Expressions, expressions_in}
 use Rattle.syntax.specs.Measures.{expression_size}
 use Rattle.type_table.specs.Types.{ValueType, IntType, BoolType, StructType, ChannelType, is_int_type, is_channel_type, assignable}
 use Rattle.type_table.specs.Containment.{Selected, field_of}
-use Rattle.type_table.specs.Scopes.{Globals, Scope, Variable, is_truth, is_nil, variable_named}
+use Rattle.type_table.specs.Scopes.{Globals, Scope, Variable, Yield, NoResult, Yields, is_truth, is_nil, variable_named, type_in}
+use Rattle.typing_rules.specs.Calls.{Callee, NotDeclared, NoFunction, IsFunction, callee, result_of, yielded, result_type, made_of}
 use Rattle.typing_rules.specs.declared.flaw.Flaw.{Flaw}
 use Rattle.typing_rules.specs.declared.flaw.Flaw.TheVariants.{Broken, Exceeded}
 use Rattle.typing_rules.specs.declared.flaw.Misuse.{Misuse}
 use Rattle.typing_rules.specs.declared.flaw.Misuse.TheVariants as misuses
 use Rattle.typing_rules.specs.Flaws.{Nodes, IsBroken, IsExceeded, IsMisuse}
-use Rattle.typing_rules.specs.Worths.{Worth, Typed, Constant, Nil, kind_of, is_operand, is_int, literal, unary_worth, binary_worth, named_worth, selected_worth, type_of_field, literal_struct, worth}
-use Rattle.typing_rules.specs.Expressions.{nodes_of, FitHas, Fails, UnaryHas, BinaryHas, SelectionHas, LiteralHas, ExpressionHas}
+use Rattle.typing_rules.specs.Worths.{Worth, Typed, Constant, Nil, kind_of, is_operand, is_int, literal, unary_worth, binary_worth, named_worth, selected_worth, type_of_field, literal_struct, element_of, worth}
+use Rattle.typing_rules.specs.Expressions.{nodes_of, FitHas, Fails, UnaryHas, BinaryHas, SelectionHas, LiteralHas, TypeHas, MadeHas, CalleeHas, YieldHas, ResultHas, ChannelHas, ExpressionHas}
 use Rattle.typing_rules.proofs.ExpressionNodes.{expression_positive}
+use Rattle.std.proofs.lemmas.Option.{same_Some}
 
 -- nothing of this kind is wrong
 abbrev pub Free : (Flaw → Type 0) → Type 0
@@ -95,6 +97,28 @@ worth_named false true o known e = (Nil, refl)
 worth_named false false None known e = absurd cc
 worth_named false false (Some v) known e = let k = known v refl in (Typed k.0, ap (option_map Typed) k.1)
 
+abbrev worth_type : Option Worth → Option ValueType
+worth_type None = None
+worth_type (Some (Typed t)) = Some t
+worth_type (Some (Constant z)) = None
+worth_type (Some Nil) = None
+
+pub typed_same : (s t : ValueType) → Some (Typed s) ≡ Some (Typed t) → s ≡ t
+typed_same s t e = same_Some s t (ap worth_type e)
+
+-- a name with a type is a variable, unless it is a truth value
+pub typed_variable : (o : Option Variable) (k : ValueType) → option_map Typed (kind_of o) ≡ Some (Typed k) → (v : Variable) × (o ≡ Some v) × (v.kind ≡ Some k)
+typed_variable None k e = absurd cc
+typed_variable (Some v) k e = (v, refl, go v.kind e) where
+  go : (o : Option ValueType) → option_map Typed o ≡ Some (Typed k) → o ≡ Some k
+  go None e = absurd cc
+  go (Some t) e = ap worth_type e
+
+-- the types of a file's fields and results are known
+pub record TypesKnown (globals : Globals) : Type 0 where
+  pub fields : (kind : ValueType) (name : List ℕ) (at : Selected) → field_of globals.structs kind name ≡ Some at → (t : ValueType) × (at.kind ≡ Some t)
+  pub results : (n : ℕ) (kind : Option ValueType) → result_of globals n ≡ Yields kind → (t : ValueType) × (kind ≡ Some t)
+
 module _ (globals : Globals) (s : Scope) where
   -- ---- one level of each form
 
@@ -147,18 +171,52 @@ module _ (globals : Globals) (s : Scope) where
 
   -- ---- every expression has a worth
 
-  -- fields have types
-  abbrev pub FieldsKnown : Type 0
-  FieldsKnown = (kind : ValueType) (name : List ℕ) (at : Selected) → field_of globals.structs kind name ≡ Some at → (t : ValueType) × (at.kind ≡ Some t)
+  -- a call is of a function that is there
+  pub call_there : (first : ℕ) (function : List ℕ) (values : Expressions) (trailing : Bool) → Free (ExpressionHas globals s first (Call function values trailing)) → (n : ℕ) × (callee globals s function ≡ IsFunction n)
+  call_there first function values trailing free = go (callee globals s function) refl where
+    end : ℕ
+    end = first + expression_size (Call function values trailing)
 
-  pub worth_there : FieldsKnown → VariablesKnown s → (e : Expression) (first : ℕ) → Free (ExpressionHas globals s first e) → (w : Worth) × (worth globals s e ≡ Some w)
+    go : (c : Callee) → callee globals s function ≡ c → (n : ℕ) × (callee globals s function ≡ IsFunction n)
+    go NotDeclared is = let b = broken rules.Visible end (omega arith) in absurd (free b.0 (inl (inr (subst (λ c. CalleeHas globals s c first (expressions_in values) end b.0) (sym is) b.1))))
+    go NoFunction is = let b = broken rules.Called end (omega arith) in absurd (free b.0 (inl (inr (subst (λ c. CalleeHas globals s c first (expressions_in values) end b.0) (sym is) b.1))))
+    go (IsFunction n) is = (n, is)
+
+  -- and has a result
+  pub yield_there : (first : ℕ) (function : List ℕ) (values : Expressions) (trailing : Bool) (n : ℕ) → callee globals s function ≡ IsFunction n → Free (ExpressionHas globals s first (Call function values trailing)) → (kind : Option ValueType) × (result_of globals n ≡ Yields kind)
+  yield_there first function values trailing n is free = go (result_of globals n) refl where
+    end : ℕ
+    end = first + expression_size (Call function values trailing)
+
+    go : (y : Yield) → result_of globals n ≡ y → (kind : Option ValueType) × (result_of globals n ≡ Yields kind)
+    go NoResult yields =
+        let b = broken rules.Called end (omega arith) in
+        absurd (free b.0 (inr (subst (λ c. ResultHas globals c end b.0) (sym is) (subst (λ y. YieldHas y end b.0) (sym yields) b.1))))
+    go (Yields kind) yields = (kind, yields)
+
+  -- what is received from carries something
+  pub carried_there : (e : Expression) (first : ℕ) (w : Worth) → worth globals s e ≡ Some w → Free (ChannelHas (worth globals s e) (nodes_of first e)) → (t : ValueType) × (element_of (worth globals s e) ≡ Some t)
+  carried_there e first w is free = let x = is_there (element_of (Some w)) never in (x.0, ap element_of is ∙ x.1) where
+    never : element_of (Some w) ≡ None → ⊥
+    never none = let b = broken rules.Channel (nodes_of first e).end (nodes_end first e) in free b.0 (subst (λ o. ChannelHas o (nodes_of first e) b.0) (sym is) (none, b.1))
+
+  -- what is made is a channel
+  pub made_there : (kind : TypeExpression) (first end : ℕ) → 1 ≤ end → Free (TypeHas (type_in globals.types s kind) first) → Free (MadeHas (type_in globals.types s kind) end) → (t : ValueType) × (made_of (type_in globals.types s kind) ≡ Some t)
+  made_there kind first end le named free = go (type_in globals.types s kind) named free where
+    go : (o : Option ValueType) → Free (TypeHas o first) → Free (MadeHas o end) → (t : ValueType) × (made_of o ≡ Some t)
+    go None named free = let b = broken rules.Visible (first + 1) (omega arith) in absurd (named b.0 b.1)
+    go (Some t) named free =
+        let b = broken rules.Made end le in
+        let c = not_false (is_channel_type t) (λ e. free b.0 (e, b.1)) in (t, ap (λ b. if b then Some t else None) c)
+
+  pub worth_there : TypesKnown globals → VariablesKnown s → (e : Expression) (first : ℕ) → Free (ExpressionHas globals s first e) → (w : Worth) × (worth globals s e ≡ Some w)
   worth_there known variables (Integer v) first free = let z = integer_there first v free in (Constant z.0, ap (option_map Constant) z.1)
   worth_there known variables (Named name) first free = named_there variables first name free
   worth_there known variables (Parenthesized inner) first free = worth_there known variables inner first free
   worth_there known variables (Selection whole field) first free =
       let w = worth_there known variables whole first (λ flaw h. free flaw (inl h)) in
       let x = selects first whole field w.0 w.1 free in
-      let t = known x.kind field x.at x.found in
+      let t = known.fields x.kind field x.at x.found in
       (Typed t.0, ap (option_and_then (selected_worth globals field)) x.of ∙ ap (λ o. option_map Typed (type_of_field o)) x.found ∙ ap (option_map Typed) t.1)
   worth_there known variables (Composite name values trailing) first free =
       let n = literal_there first name values trailing free in (Typed (StructType n.0), ap (option_map (λ n. Typed (StructType n))) n.1)
@@ -174,3 +232,17 @@ module _ (globals : Globals) (s : Scope) where
         ap (option_and_then (λ x. option_and_then (λ y. result_ok (binary_worth operator x y)) (worth globals s r))) a.1
             ∙ ap (option_and_then (λ y. result_ok (binary_worth operator a.0 y))) b.1 ∙ ap result_ok w.1,
       )
+  worth_there known variables (Call function values trailing) first free =
+      let n = call_there first function values trailing free in
+      let y = yield_there first function values trailing n.0 n.1 free in
+      let t = known.results n.0 y.0 y.1 in
+      (Typed t.0, ap (λ c. option_map Typed (result_type globals c)) n.1 ∙ ap (λ y. option_map Typed (yielded y)) y.1 ∙ ap (option_map Typed) t.1)
+  worth_there known variables (Receive channel) first free =
+      let w = worth_there known variables channel first (λ flaw h. free flaw (inl h)) in
+      let t = carried_there channel first w.0 w.1 (λ flaw h. free flaw (inr (inl h))) in (Typed t.0, ap (option_map Typed) t.1)
+  worth_there known variables (Make kind) first free =
+      let t = made_there kind first (first + expression_size (Make kind)) (omega arith) (λ flaw h. free flaw (inl h)) (λ flaw h. free flaw (inr h)) in (Typed t.0, ap (option_map Typed) t.1)
+  worth_there known variables (MakeSized kind size) first free =
+      let t = made_there kind first (first + expression_size (MakeSized kind size)) (omega arith) (λ flaw h. free flaw (inl h)) (λ flaw h. free flaw (inr (inr (inr h)))) in (Typed t.0, ap (option_map Typed) t.1)
+  worth_there known variables (Length channel) first free = (Typed IntType, refl)
+  worth_there known variables (Capacity channel) first free = (Typed IntType, refl)

@@ -1,10 +1,11 @@
 -- The code of a file.
 use Rattle.std.specs.Str.{is_utf8}
 use Rattle.std.specs.Prelude.{ℕ, ◌+◌, List, [], ◌∷◌, ◌++◌, length, Option, Some, None, if◌then◌else◌}
-use Rattle.syntax.specs.Tree.{TypeExpression, Make, Right, RightOperation, Simple, Assign, Define, ForHead, ForClauses, Returned, ReturnedOperation, Statement, Alone, VarTyped, VarUntyped, Block, If, For, Select, Return, Statements, NoStatement, Then, Branch, Conditional, Otherwise, NoElse, ElseBlock, ElseIf, Clauses, NoClause, Clause, Declared, Function, Top, StructTop, FunctionTop, File}
+use Rattle.syntax.specs.Tree.{TypeExpression, Expression, Integer, Named, Parenthesized, Selection, Composite, Unary, Binary, Call, Receive, Make, MakeSized, Length, Capacity, Expressions, NoMore, Behind, expressions, Part, Value, Text, Simple, CallAlone, Close, Print, ReceiveAlone, Send, Increment, Decrement, Assign, Define, Update, ForHead, Forever, While, ForClauses, Range, Comm, Returned, NoValue, ReturnedValue, Go, Statement, Alone, VarTyped, VarUntyped, Block, If, For, Select, Return, Statements, NoStatement, Then, Branch, Conditional, Otherwise, NoElse, ElseBlock, ElseIf, Clauses, NoClause, Clause, Declared, Function, Top, StructTop, FunctionTop, File}
 use Rattle.bytecode.specs.Code.{Function as CodeFunction, PrintTable, SelectTable, Code}
 use Rattle.type_table.specs.Scopes.{Globals, Yield, nothing_declared, type_in}
 use Rattle.typing_rules.specs.Statements.{head_simple}
+use Rattle.typing_rules.specs.Simples.{comm_simple}
 use Rattle.typing_rules.specs.Kinds.{fields_declared, yield_of, globals_of}
 use Rattle.meaning.specs.Values.{known}
 use Rattle.codegen_base.specs.declared.element.Element.{Element}
@@ -23,40 +24,82 @@ module _ (types : List (List ℕ)) where
   noting_any None all = all
   noting_any (Some kind) all = noting kind all
 
-  abbrev pub noting_right : Right → List Element → List Element
-  noting_right (RightOperation (Make kind size)) all = noting kind all
-  noting_right right all = all
+  abbrev mutual
+    pub noting_expression : Expression → List Element → List Element
+    noting_expression (Integer value) all = all
+    noting_expression (Named name) all = all
+    noting_expression (Parenthesized inner) all = noting_expression inner all
+    noting_expression (Selection whole field) all = noting_expression whole all
+    noting_expression (Composite name values trailing) all = noting_expressions values all
+    noting_expression (Unary operator operand) all = noting_expression operand all
+    noting_expression (Binary operator left right) all = noting_expression right (noting_expression left all)
+    noting_expression (Call function values trailing) all = noting_expressions values all
+    noting_expression (Receive channel) all = noting_expression channel all
+    noting_expression (Make kind) all = noting kind all
+    noting_expression (MakeSized kind size) all = noting_expression size (noting kind all)
+    noting_expression (Length channel) all = noting_expression channel all
+    noting_expression (Capacity channel) all = noting_expression channel all
 
-  abbrev pub noting_given : Option Right → List Element → List Element
+    pub noting_expressions : Expressions → List Element → List Element
+    noting_expressions NoMore all = all
+    noting_expressions (Behind first rest) all = noting_expressions rest (noting_expression first all)
+
+  abbrev pub noting_values : List Expression → List Element → List Element
+  noting_values values all = noting_expressions (expressions values) all
+
+  abbrev pub noting_given : Option (List Expression) → List Element → List Element
   noting_given None all = all
-  noting_given (Some right) all = noting_right right all
+  noting_given (Some right) all = noting_values right all
+
+  abbrev pub noting_value : Option Expression → List Element → List Element
+  noting_value None all = all
+  noting_value (Some value) all = noting_expression value all
+
+  abbrev pub noting_parts : List Part → List Element → List Element
+  noting_parts [] all = all
+  noting_parts (Value value ∷ rest) all = noting_parts rest (noting_expression value all)
+  noting_parts (Text bytes ∷ rest) all = noting_parts rest all
 
   abbrev pub noting_simple : Simple → List Element → List Element
-  noting_simple (Assign places right) all = noting_right right all
-  noting_simple (Define names right) all = noting_right right all
-  noting_simple simple all = all
+  noting_simple (CallAlone function arguments) all = noting_values arguments.values all
+  noting_simple (Close channel) all = noting_expression channel all
+  noting_simple (Print line parts trailing) all = noting_parts parts all
+  noting_simple (ReceiveAlone channel) all = noting_expression channel all
+  noting_simple (Send channel value) all = noting_expression value (noting_expression channel all)
+  noting_simple (Increment place) all = all
+  noting_simple (Decrement place) all = all
+  noting_simple (Assign places right) all = noting_values right all
+  noting_simple (Define names right) all = noting_values right all
+  noting_simple (Update place operator value) all = noting_expression value all
 
   abbrev pub noting_first : Option Simple → List Element → List Element
   noting_first None all = all
   noting_first (Some simple) all = noting_simple simple all
 
   abbrev pub noting_head : ForHead → List Element → List Element
-  noting_head (ForClauses first condition post) all = noting_first post (noting_first first all)
-  noting_head head all = all
+  noting_head Forever all = all
+  noting_head (While condition) all = noting_expression condition all
+  noting_head (ForClauses first condition post) all = noting_first post (noting_value condition (noting_first first all))
+  noting_head (Range target channel) all = noting_expression channel all
+
+  abbrev pub noting_comm : Option Comm → List Element → List Element
+  noting_comm None all = all
+  noting_comm (Some comm) all = noting_simple (comm_simple comm) all
 
   abbrev pub noting_returned : Returned → List Element → List Element
-  noting_returned (ReturnedOperation operation) all = noting_right (RightOperation operation) all
-  noting_returned returned all = all
+  noting_returned NoValue all = all
+  noting_returned (ReturnedValue value) all = noting_expression value all
 
   abbrev mutual
     pub noting_statement : Statement → List Element → List Element
     noting_statement (Alone simple) all = noting_simple simple all
     noting_statement (VarTyped names kind right) all = noting_given right (noting kind all)
-    noting_statement (VarUntyped names right) all = noting_right right all
+    noting_statement (VarUntyped names right) all = noting_values right all
     noting_statement (Block body) all = noting_statements body all
     noting_statement (If branch) all = noting_branch branch all
     noting_statement (For head body) all = noting_statements body (noting_head head all)
     noting_statement (Select clauses) all = noting_clauses clauses all
+    noting_statement (Go function arguments) all = noting_values arguments.values all
     noting_statement (Return returned) all = noting_returned returned all
     noting_statement statement all = all
 
@@ -66,7 +109,7 @@ module _ (types : List (List ℕ)) where
 
     pub noting_branch : Branch → List Element → List Element
     noting_branch (Conditional head condition body otherwise) all =
-        noting_otherwise otherwise (noting_statements body (noting_first (head_simple head) all))
+        noting_otherwise otherwise (noting_statements body (noting_expression condition (noting_first (head_simple head) all)))
 
     pub noting_otherwise : Otherwise → List Element → List Element
     noting_otherwise NoElse all = all
@@ -75,7 +118,7 @@ module _ (types : List (List ℕ)) where
 
     pub noting_clauses : Clauses → List Element → List Element
     noting_clauses NoClause all = all
-    noting_clauses (Clause comm body rest) all = noting_clauses rest (noting_statements body all)
+    noting_clauses (Clause comm body rest) all = noting_clauses rest (noting_statements body (noting_comm comm all))
 
   abbrev pub noting_declared : List Declared → List Element → List Element
   noting_declared [] all = all

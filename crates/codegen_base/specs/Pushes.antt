@@ -1,11 +1,11 @@
 -- The instructions that push the values of expressions.
 use Rattle.std.specs.Int.{w64, int_wrap}
-use Rattle.std.specs.Prelude.{ℕ, zero, suc, ℤ, pos, true, false, List, [], ◌∷◌, length, Option, Some, None, Ok, Err, if◌then◌else◌, bytes_eq, codes}
+use Rattle.std.specs.Prelude.{ℕ, zero, suc, ℤ, pos, true, false, List, [], ◌∷◌, map, length, Option, Some, None, Ok, Err, if◌then◌else◌, bytes_eq, codes}
 use Rattle.syntax.specs.declared.node.UnaryOperator.{UnaryOperator}
 use Rattle.syntax.specs.declared.node.UnaryOperator.TheVariants as signs
 use Rattle.syntax.specs.declared.node.BinaryOperator.{BinaryOperator}
 use Rattle.syntax.specs.declared.node.BinaryOperator.TheVariants as symbols
-use Rattle.syntax.specs.Tree.{Expression, Integer, Named, Parenthesized, Selection, Composite, Unary, Binary, Expressions, NoMore, Behind}
+use Rattle.syntax.specs.Tree.{TypeExpression, Expression, Integer, Named, Parenthesized, Selection, Composite, Unary, Binary, Call, Receive, Make, MakeSized, Length, Capacity, Expressions, NoMore, Behind, expressions}
 use Rattle.word.specs.declared.apply.Op.{Op}
 use Rattle.word.specs.declared.apply.Op.TheVariants as ops
 use Rattle.word.specs.declared.value.Word.{Word}
@@ -15,15 +15,16 @@ use Rattle.bytecode.specs.declared.instr.Instr.{Instr}
 use Rattle.bytecode.specs.declared.instr.Instr.TheVariants as instrs
 use Rattle.bytecode.specs.declared.instr.WordKind.{WordKind}
 use Rattle.bytecode.specs.declared.instr.WordKind.TheVariants as kinds
-use Rattle.type_table.specs.Types.{ValueType, BoolType, StructType, ChannelType, element_type}
+use Rattle.type_table.specs.Types.{ValueType, IntType, BoolType, StructType, ChannelType, element_type}
 use Rattle.type_table.specs.Containment.{Field, fields_of}
-use Rattle.type_table.specs.Scopes.{Scope, Globals, Variable, is_truth, variable_named}
+use Rattle.type_table.specs.Scopes.{Scope, Globals, Variable, is_truth, variable_named, type_in}
+use Rattle.typing_rules.specs.Calls.{parameters_of}
 use Rattle.typing_rules.specs.Worths.{Worth, Typed, Constant, Nil, worth}
 use Rattle.meaning.specs.Values.{known, whole, field_slot}
-use Rattle.meaning.specs.Expressions.{operator_at}
+use Rattle.meaning.specs.Expressions.{operator_at, number_of}
 use Rattle.codegen_base.specs.declared.element.Element.{Element}
 use Rattle.codegen_base.specs.Elements.{shape_of, kinds_of}
-use Rattle.codegen_base.specs.Layouts.{type_of}
+use Rattle.codegen_base.specs.Layouts.{type_of, carried}
 use Rattle.plan.specs.Plan.{Plan, Skip, Do, Seq, IfElse}
 
 -- ---- operators
@@ -129,6 +130,15 @@ module _ (globals : Globals) (elements : List Element) (scope : Scope) where
   literal_types (StructType number) = kinds_in (fields_of globals.structs number)
   literal_types kind = []
 
+  abbrev pub argument_types : ℕ → List ValueType
+  argument_types function = map known (parameters_of globals function)
+
+  abbrev pub receives : Expression → Plan → Plan
+  receives channel rest = Do (instrs.Receive (shape_of elements (carried globals elements scope channel))) rest
+
+  abbrev pub makes : TypeExpression → Plan → Plan
+  makes kind rest = Do (instrs.Make (elements_shape elements (known (type_in globals.types scope kind)))) rest
+
   abbrev mutual
     -- what is neither a constant nor `nil` is pushed
     pub emits : Expression → Plan → Plan
@@ -138,17 +148,25 @@ module _ (globals : Globals) (elements : List Element) (scope : Scope) where
     emits (Selection of field) rest = emits of (selects (type_of globals elements scope of) field rest)
     emits (Composite name values trailing) rest =
         let kind = type_of globals elements scope (Composite name values trailing) in
-        literal_plan values (pushes_zeros (kinds_of globals.structs elements kind) rest) (emits_fields (literal_types kind) values rest)
+        literal_plan values (pushes_zeros (kinds_of globals.structs elements kind) rest) (emits_all (literal_types kind) values rest)
     emits (Unary operator operand) rest = emits operand (signed operator rest)
     emits (Binary operator left right) rest =
         operates elements operator (worth globals scope left) (worth globals scope right) (type_of globals elements scope left) (type_of globals elements scope right) (emits left) (emits right) rest
+    emits (Call function values trailing) rest =
+        let number = number_of globals function in emits_all (argument_types number) values (Do (instrs.Call number) rest)
+    -- whether an item was sent is dropped
+    emits (Receive channel) rest = emits channel (receives channel (Do (instrs.Discard 1) rest))
+    emits (Make kind) rest = Do (instrs.Int (pos 0)) (makes kind rest)
+    emits (MakeSized kind size) rest = settled elements (worth globals scope size) IntType (emits size (makes kind rest)) (makes kind rest)
+    emits (Length channel) rest = emits channel (Do instrs.Len rest)
+    emits (Capacity channel) rest = emits channel (Do instrs.Cap rest)
 
-    -- the fields of a literal, in order
-    pub emits_fields : List ValueType → Expressions → Plan → Plan
-    emits_fields types NoMore rest = rest
-    emits_fields [] (Behind first others) rest = rest
-    emits_fields (kind ∷ types) (Behind first others) rest =
-        let behind = emits_fields types others rest in settled elements (worth globals scope first) kind (emits first behind) behind
+    -- one value behind the other, each as one of its type: arguments, and the fields of a literal
+    pub emits_all : List ValueType → Expressions → Plan → Plan
+    emits_all types NoMore rest = rest
+    emits_all [] (Behind first others) rest = rest
+    emits_all (kind ∷ types) (Behind first others) rest =
+        let behind = emits_all types others rest in settled elements (worth globals scope first) kind (emits first behind) behind
 
   -- a value is pushed as one of a type
   abbrev pub pushes : ValueType → Expression → Plan → Plan
@@ -159,6 +177,4 @@ module _ (globals : Globals) (elements : List Element) (scope : Scope) where
   pushes_own expression rest = pushes (type_of globals elements scope expression) expression rest
 
   abbrev pub pushes_all : List ValueType → List Expression → Plan → Plan
-  pushes_all types [] rest = rest
-  pushes_all [] (first ∷ others) rest = rest
-  pushes_all (kind ∷ types) (first ∷ others) rest = pushes kind first (pushes_all types others rest)
+  pushes_all types all rest = emits_all types (expressions all) rest

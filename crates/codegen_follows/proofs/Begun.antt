@@ -1,22 +1,18 @@
 -- The statements of a block sit where their code stands.
 use Rattle.std.proofs.Common.{◌≡◌, ℕ, zero, suc, ◌+◌, ◌≤◌, Bool, true, false, List, [], ◌∷◌, ◌++◌, length, take, Option, Some, None, IfSome, refl, sym, ap, ◌∙◌, subst, arith, length-append, slice_get, inl, inr}
 use Rattle.std.specs.Prelude.{if◌then◌else◌}
-use Rattle.syntax.specs.Tree.{Statement, Statements, NoStatement, Then, File}
+use Rattle.syntax.specs.Tree.{Statement, Statements, NoStatement, Then}
 use Rattle.syntax.specs.Measures.{statement_size}
-use Rattle.bytecode.specs.Code.{PrintTable, Function as CodeFunction, Code}
-use Rattle.word.specs.declared.value.Word.{Word}
-use Rattle.type_table.specs.Scopes.{Variable, Yield}
+use Rattle.bytecode.specs.Code.{PrintTable, Code}
+use Rattle.type_table.specs.Scopes.{Variable, Globals}
 use Rattle.typing_rules.specs.Statements.{StatementHas}
 use Rattle.meaning.specs.Variables.{entered}
-use Rattle.meaning.specs.Tasks.{Task, Do, EndBlock, Decide, Head, Again, Turn, EndSelect, Ask, Await, Store, GiveBack, all_of}
-use Rattle.meaning.specs.Source.{globals}
-use Rattle.codegen_base.specs.declared.element.Element.{Element}
+use Rattle.meaning.specs.Tasks.{Task, Do, EndBlock, Decide, Head, Again, Turn, EndSelect, all_of}
 use Rattle.codegen_base.specs.Generated.{Made, followed, past, made_all}
 use Rattle.plan.specs.Plan.{Plan, reaches_end}
 use Rattle.plan.proofs.Words.{Words}
 use Rattle.plan.proofs.Places.{at_once}
 use Rattle.codegen_base.proofs.Alike.{drop_all, alike_entered}
-use Rattle.codegen_base.proofs.Fields.{AllWide}
 use Rattle.codegen_base.proofs.Seen.{seen, seen_block}
 use Rattle.codegen_base.proofs.Static.{innermost_begins, Nested}
 use Rattle.codegen_base.proofs.Typing.{Free}
@@ -24,6 +20,7 @@ use Rattle.codegen_follows.proofs.Stands.{Around, View, scope_of, variables, Tog
 use Rattle.codegen_follows.proofs.Grown.{grown, grown_statements}
 use Rattle.codegen_follows.proofs.Narrowed.{unreached}
 use Rattle.codegen_follows.proofs.Unwound.{together_refl, together_on}
+use Rattle.codegen_base.proofs.Running.{Compiled, Coded}
 
 pub take_front : (n : ℕ) (vs more : List Variable) → n ≤ length vs → take n (vs ++ more) ≡ take n vs
 take_front zero vs more le = refl
@@ -59,51 +56,50 @@ prints_front code first xs ys h n x e = h n x (front_there xs ys n x e)
 pub prints_back : (code : Code) (first : ℕ) (xs ys : List PrintTable) → Prints code first (xs ++ ys) → Prints code (first + length xs) ys
 prints_back code first xs ys h n x e = let z : first + length xs + n ≡ first + (length xs + n) = omega arith in subst (λ k. slice_get code.prints k ≡ Some x) (sym z) (h (length xs + n) x (back_there xs ys n x e))
 
-module _ (file : File) (elements : List Element) (all : AllWide (globals file).structs) (code : Code) (result : Yield) (f : CodeFunction) where
-  abbrev On' : Around → Plan → ℕ → Option ℕ → Type 0
-  On' l plan place out = IsOn file elements all code result f l plan place out
+module _ {globals : Globals} {program : Compiled globals} (coded : Coded program) where
+  open program use {elements, code}
+  open coded use {function as f, result}
 
-  abbrev S : View → Around → Option ℕ → List Word → List Task → Type 0
-  S view l place stack tasks = Sits file elements all code result f view l place stack tasks
+  abbrev On' : Around → Plan → ℕ → Option ℕ → Type 0
+  On' l plan place out = IsOn coded l plan place out
+
+  abbrev S : View → Around → Option ℕ → List Task → Type 0
+  S view l place tasks = Sits coded view l place tasks
 
   abbrev LeadsOn' : Option ℕ → Option ℕ → Type 0
-  LeadsOn' mid to = LeadsOn file elements all code result f mid to
+  LeadsOn' mid to = LeadsOn coded mid to
 
   abbrev L : View → Around → Statements → ℕ → Option ℕ → Type 0
-  L view l body place out = Live file elements all code result f view l body place out
+  L view l body place out = Live coded view l body place out
 
   abbrev past_one : View → Statement → View
-  past_one view s = behind file elements all code result f view s
+  past_one view s = behind coded view s
 
   abbrev one : View → Statement → Made
-  one view s = made_here file elements all code result f view s
+  one view s = made_here coded view s
 
   -- ---- what is never reached
 
-  pub dead : (tasks : List Task) (view : View) (l : Around) (place : Option ℕ) (stack other : List Word) → S view l place stack tasks → S view l None other tasks
-  dead [] view l place stack other sits = (sits.0, tt)
-  dead (EndBlock ∷ rest) view l place stack other sits = (sits.0, sits.1, None, tt, dead rest sits.0 l sits.2 [] [] sits.4)
-  dead (EndSelect ∷ rest) view l place stack other (outer, inner, around, again, to, lead, here, sits) = (outer, inner, around, again, to, lead, tt, sits)
-  dead (Again loop ∷ rest) view l place stack other (outer, inner, around, next, beside, same, head, out, leave, turns, here, to, lead, sits) = (outer, inner, around, next, beside, same, head, out, leave, turns, tt, to, lead, sits)
-  dead (Do s ∷ rest) view l place stack other sits = (sits.0, sits.1, None, tt, None, tt, dead rest sits.0 l sits.4 [] [] sits.6)
-  dead (Decide c b o ∷ rest) view l place stack other sits = (sits.0, sits.1, None, tt, None, tt, dead rest sits.0 l sits.4 [] [] sits.6)
-  dead (Head x ∷ rest) view l place stack other sits = (sits.0, sits.1, None, tt, None, tt, dead rest sits.0 l sits.4 [] [] sits.6)
-  dead (Turn x ∷ rest) view l place stack other sits = (sits.0, sits.1, None, tt, None, tt, dead rest sits.0 l sits.4 [] [] sits.6)
-  dead (Ask q z p ∷ rest) view l place stack other sits = (sits.0, sits.1, None, tt, None, tt, dead rest sits.0 l sits.4 [] [] sits.6)
-  dead (Await z p ∷ rest) view l place stack other sits = (sits.0, sits.1, None, tt, None, tt, dead rest sits.0 l sits.4 [] [] sits.6)
-  dead (Store d v ∷ rest) view l place stack other sits = (sits.0, sits.1, None, tt, None, tt, dead rest sits.0 l sits.4 [] [] sits.6)
-  dead (GiveBack v ∷ rest) view l place stack other sits = (sits.0, sits.1, None, tt, None, tt, dead rest sits.0 l sits.4 [] [] sits.6)
+  pub dead : (tasks : List Task) (view : View) (l : Around) (place : Option ℕ) → S view l place tasks → S view l None tasks
+  dead [] view l place sits = (sits.0, tt)
+  dead (EndBlock ∷ rest) view l place sits = (sits.0, sits.1, None, tt, dead rest sits.0 l sits.2 sits.4)
+  dead (EndSelect ∷ rest) view l place (outer, inner, around, again, to, lead, here, sits) = (outer, inner, around, again, to, lead, tt, sits)
+  dead (Again loop ∷ rest) view l place (outer, inner, around, next, beside, same, head, out, leave, turns, here, to, lead, sits) = (outer, inner, around, next, beside, same, head, out, leave, turns, tt, to, lead, sits)
+  dead (Do s ∷ rest) view l place sits = (sits.0, sits.1, None, tt, None, tt, dead rest sits.0 l sits.4 sits.6)
+  dead (Decide c b o ∷ rest) view l place sits = (sits.0, sits.1, None, tt, None, tt, dead rest sits.0 l sits.4 sits.6)
+  dead (Head x ∷ rest) view l place sits = (sits.0, sits.1, None, tt, None, tt, dead rest sits.0 l sits.4 sits.6)
+  dead (Turn x ∷ rest) view l place sits = (sits.0, sits.1, None, tt, None, tt, dead rest sits.0 l sits.4 sits.6)
 
   -- ---- behind a statement
 
   pub together_behind : (view : View) (s : Statement) → Nested view.begins (length (variables view)) → Together view (past_one view s)
   together_behind view s nested =
-      let g = grown (globals file) elements result view.site s in
+      let g = grown globals elements result view.site s in
       (refl, ap (take (innermost_begins view.begins)) g.variables ∙ take_front (innermost_begins view.begins) (variables view) g.more (nested_least view.begins (length (variables view)) nested))
 
   nested_behind : (view : View) (s : Statement) → Nested view.begins (length (variables view)) → Nested view.begins (length (variables (past_one view s)))
   nested_behind view s nested =
-      let g = grown (globals file) elements result view.site s in
+      let g = grown globals elements result view.site s in
       nested_up view.begins (length (variables view)) (length (variables (past_one view s))) (let e = ap length g.variables in let h = length-append (variables view) g.more in omega (arith, e, h)) nested
 
   -- ---- the statements of a block
@@ -112,10 +108,10 @@ module _ (file : File) (elements : List Element) (all : AllWide (globals file).s
   pub record Parts (l : Around) (first : ℕ) (a b : Made) (place : ℕ) (out : Option ℕ) : Type 0 where
     pub mid : Option ℕ
     pub on : On' l a.plan place mid
-    pub fits : Fits file elements all code result f first a
-    pub others : IfSome mid (λ m. On' l b.plan m out × Fits file elements all code result f (first + length a.prints) b)
+    pub fits : Fits coded first a
+    pub others : IfSome mid (λ m. On' l b.plan m out × Fits coded (first + length a.prints) b)
 
-  pub parts : (l : Around) (first : ℕ) (a b : Made) (place : ℕ) (out : Option ℕ) (t : Bool) → reaches_end a.plan ≡ t → a.layout.scope.words ≤ b.layout.scope.words → On' l (if t then followed a b else a).plan place out → Fits file elements all code result f first (if t then followed a b else a) → Parts l first a b place out
+  pub parts : (l : Around) (first : ℕ) (a b : Made) (place : ℕ) (out : Option ℕ) (t : Bool) → reaches_end a.plan ≡ t → a.layout.scope.words ≤ b.layout.scope.words → On' l (if t then followed a b else a).plan place out → Fits coded first (if t then followed a b else a) → Parts l first a b place out
   parts l first a b place out true is le on h =
       let r = h.room in
       record {
@@ -124,28 +120,28 @@ module _ (file : File) (elements : List Element) (all : AllWide (globals file).s
         fits = record { tables = prints_front code first a.prints b.prints h.tables; room = omega (arith, le, r) };
         others = go on.0 on.2;
       } where
-        go : (mid : Option ℕ) → IfSome mid (λ m. On' l b.plan m out) → IfSome mid (λ m. On' l b.plan m out × Fits file elements all code result f (first + length a.prints) b)
+        go : (mid : Option ℕ) → IfSome mid (λ m. On' l b.plan m out) → IfSome mid (λ m. On' l b.plan m out × Fits coded (first + length a.prints) b)
         go None on = tt
         go (Some m) on = (on, record { tables = prints_back code first a.prints b.prints h.tables; room = h.room })
   parts l first a b place out false is le on h = record { mid = None; on = unreached code.selects f.instrs a.plan place l.leave l.again out is on; fits = h; others = tt }
 
   -- behind a statement in which nothing is wrong the layout has the variables that the typing rules see
   abbrev pub FineBehind : Type 0
-  FineBehind = (view : View) (s : Statement) (first : ℕ) (breaks continues : Bool) → Fine file elements all code result f view → Free (StatementHas (within file elements all code result f breaks continues) view.checked first s) → Makes file elements all code result f s → Fine file elements all code result f (past_one view s)
+  FineBehind = (view : View) (s : Statement) (first : ℕ) (breaks continues : Bool) → Fine coded view → Free (StatementHas (within coded breaks continues) view.checked first s) → Makes globals elements s → Fine coded (past_one view s)
 
   module _ (fine_behind : FineBehind) where
     -- the first statement's code, and the others' where they are reached
     live_parts : (view : View) (l : Around) (s : Statement) (rest : Statements) (place : ℕ) (out : Option ℕ) → L view l (Then s rest) place out
-        → (mid : Option ℕ) × Doing file elements all code result f l view s place mid × IfSome mid (λ m. L (past_one view s) l rest m out)
+        → (mid : Option ℕ) × Doing coded l view s place mid × IfSome mid (λ m. L (past_one view s) l rest m out)
     live_parts view l s rest place out h =
         let a = one view s in
-        let b = made_all (globals file) elements result (past view.site a) rest in
-        let p = parts l view.site.prints a b place out (reaches_end a.plan) refl ((grown_statements (globals file) elements result (past view.site a) rest).words) h.on h.fits in (
+        let b = made_all globals elements result (past view.site a) rest in
+        let p = parts l view.site.prints a b place out (reaches_end a.plan) refl ((grown_statements globals elements result (past view.site a) rest).words) h.on h.fits in (
           p.mid,
           record { first = h.first; breaks = h.breaks; continues = h.continues; fine = h.fine; good = λ flaw x. h.good flaw (inl x); makes = h.makes.0; on = p.on; fits = p.fits },
           go p.mid p.others,
         ) where
-          go : (mid : Option ℕ) → IfSome mid (λ m. On' l (made_all (globals file) elements result (past view.site (one view s)) rest).plan m out × Fits file elements all code result f (view.site.prints + length (one view s).prints) (made_all (globals file) elements result (past view.site (one view s)) rest))
+          go : (mid : Option ℕ) → IfSome mid (λ m. On' l (made_all globals elements result (past view.site (one view s)) rest).plan m out × Fits coded (view.site.prints + length (one view s).prints) (made_all globals elements result (past view.site (one view s)) rest))
               → IfSome mid (λ m. L (past_one view s) l rest m out)
           go None x = tt
           go (Some m) x = record {
@@ -161,11 +157,11 @@ module _ (file : File) (elements : List Element) (all : AllWide (globals file).s
 
     -- what sits behind jumps alone
     abbrev pub SitsSoon : View → Around → Option ℕ → List Task → Type 0
-    SitsSoon view l place tasks = (to : Option ℕ) × LeadsOn' place to × S view l to [] tasks
+    SitsSoon view l place tasks = (to : Option ℕ) × LeadsOn' place to × S view l to tasks
 
     pub sits_all : (body : Statements) (view : View) (l : Around) (place out : Option ℕ) (k : List Task) → IfSome place (λ p. L view l body p out) → Nested view.begins (length (variables view))
-        → ((last : View) → Together view last → S last l out [] k) → SitsSoon view l place (all_of body ++ k)
-    sits_all NoStatement view l None out k live nested sits = (None, tt, dead k view l out [] [] (sits view (together_refl view)))
+        → ((last : View) → Together view last → S last l out k) → SitsSoon view l place (all_of body ++ k)
+    sits_all NoStatement view l None out k live nested sits = (None, tt, dead k view l out (sits view (together_refl view)))
     sits_all NoStatement view l (Some p) out k live nested sits = (out, live.on, sits view (together_refl view))
     sits_all (Then s rest) view l None out k live nested sits =
         let next = past_one view s in
@@ -177,11 +173,11 @@ module _ (file : File) (elements : List Element) (all : AllWide (globals file).s
         let t = together_behind view s nested in
         let h = live_parts view l s rest p out live in
         let r = sits_all rest next l h.0 out k h.2 (nested_behind view s nested) (λ last u. sits last (together_on view next last t u)) in
-        (Some p, at_once, (next, t, h.0, (refl, h.1, refl), r.0, r.1, r.2))
+        (Some p, at_once, (next, t, h.0, (h.1, refl), r.0, r.1, r.2))
 
   -- ---- a block begins
 
-  pub fine_opened : (view : View) → Fine file elements all code result f view → Fine file elements all code result f (opened view)
+  pub fine_opened : (view : View) → Fine coded view → Fine coded (opened view)
   fine_opened view fine =
       let p = fine.placed in
       record {
@@ -193,7 +189,7 @@ module _ (file : File) (elements : List Element) (all : AllWide (globals file).s
   pub inner_opened : (view last : View) → Together (opened view) last → Inner view last
   inner_opened view last t = record { begin = length (variables view); begins = t.0; within = t.1 ∙ take_whole (variables view) }
 
-  pub seen_opened : (ls : Words) (view : View) → seen (globals file).structs ls (variables (opened view)) (opened view).begins ≡ entered (seen (globals file).structs ls (variables view) view.begins)
+  pub seen_opened : (ls : Words) (view : View) → seen globals.structs ls (variables (opened view)) (opened view).begins ≡ entered (seen globals.structs ls (variables view) view.begins)
   seen_opened ls view =
-      ap (λ (l : List Variable). seen_block (globals file).structs ls l ∷ seen (globals file).structs ls (take (length (variables view)) (variables view)) view.begins) (drop_all (variables view))
-      ∙ ap (λ (l : List Variable). [] ∷ seen (globals file).structs ls l view.begins) (take_whole (variables view))
+      ap (λ (l : List Variable). seen_block globals.structs ls l ∷ seen globals.structs ls (take (length (variables view)) (variables view)) view.begins) (drop_all (variables view))
+      ∙ ap (λ (l : List Variable). [] ∷ seen globals.structs ls l view.begins) (take_whole (variables view))

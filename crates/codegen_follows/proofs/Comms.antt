@@ -3,24 +3,21 @@ use Rattle.std.proofs.Common.{◌≡◌, ℕ, suc, ◌+◌, ◌≤◌, Bool, tru
 use Rattle.std.specs.Prelude.{if◌then◌else◌, ◌||◌}
 use Rattle.std.specs.Option.{is_some}
 use Rattle.std.specs.List.{list_any}
-use Rattle.syntax.specs.Tree.{Expression, Place, Receive, RightOperation, Alone, Define, Comm, CommSend, CommReceive, CommDefine, CommAssign, File}
-use Rattle.syntax.specs.Measures.{operation_size}
+use Rattle.syntax.specs.Tree.{Expression, Place, Receive, Alone, Define, Comm, CommSend, CommReceive, CommDefine, CommAssign}
 use Rattle.bytecode.specs.declared.instr.Instr.TheVariants as instrs
 use Rattle.bytecode.specs.declared.instr.WordKind.{WordKind}
-use Rattle.bytecode.specs.Code.{Function as CodeFunction, Code}
 use Rattle.type_table.specs.Types.{ValueType, BoolType}
-use Rattle.type_table.specs.Scopes.{Scope, Yield, is_blank, own_variable, entered, last_named}
+use Rattle.type_table.specs.Scopes.{Scope, is_blank, own_variable, entered, last_named, Globals}
 use Rattle.typing_rules.specs.Worths.{Typed, worth}
-use Rattle.typing_rules.specs.Expressions.{element_of}
-use Rattle.typing_rules.specs.Operations.{Given, given, given_by, and_also, PlacesFail, PlacesHave}
+use Rattle.typing_rules.specs.Expressions.{element_of, nodes_of}
+use Rattle.typing_rules.specs.Operations.{Given, given, and_also, PlacesFail, PlacesHave}
 use Rattle.typing_rules.specs.Simples.{has_twice, NamesFail, SimpleHas, comm_simple}
 use Rattle.typing_rules.specs.Statements.{after_any}
 use Rattle.meaning.specs.Values.{known, whole, slot_along}
 use Rattle.meaning.specs.Variables.{Blocks, Destination, Nowhere, Into, kind_of}
-use Rattle.meaning.specs.Tasks.{Task, Frames}
-use Rattle.meaning.specs.Source.{globals, comm_destinations}
-use Rattle.meaning.specs.Destinations.{new, all_new, all_defined, element_kind, placed}
-use Rattle.codegen_base.specs.declared.element.Element.{Element}
+use Rattle.meaning.specs.Tasks.{Task}
+use Rattle.meaning.specs.Source.{comm_destinations}
+use Rattle.meaning.specs.Destinations.{new, all_new, all_defined, placed}
 use Rattle.codegen_base.specs.Layouts.{carried, declaring_all, given_types}
 use Rattle.codegen_base.specs.Pushes.{drops}
 use Rattle.codegen_base.specs.Statements.{assigns, name_spots, place_spots, width}
@@ -29,20 +26,23 @@ use Rattle.plan.specs.Plan.{Plan, Skip, Do}
 use Rattle.plan.proofs.Words.{Words}
 use Rattle.codegen_base.proofs.Alike.{drop_all}
 use Rattle.codegen_base.proofs.Assigned.{behind_all}
-use Rattle.codegen_base.proofs.Fields.{AllWide}
 use Rattle.codegen_base.proofs.Likeness.{kinds_long}
 use Rattle.codegen_base.proofs.Seen.{seen, seen_lookup, rising_up}
-use Rattle.codegen_base.proofs.Typing.{Free, FieldsKnown}
+use Rattle.codegen_base.proofs.Typing.{Free, nodes_end}
 use Rattle.codegen_follows.proofs.Outers.{worth_same}
-use Rattle.codegen_follows.proofs.Paths.{AllKnown}
-use Rattle.codegen_follows.proofs.Channels.{Grounds, IsChannel}
 use Rattle.codegen_follows.proofs.Places.{places_are, places_stay}
 use Rattle.codegen_follows.proofs.Sets.{AreTyped, typed_default, typed_suit as places_suit}
 use Rattle.codegen_follows.proofs.Names.{AreNew, new_names, names_are}
 use Rattle.codegen_follows.proofs.Defined.{once, typed_suit as names_suit}
-use Rattle.codegen_follows.proofs.Stands.{Around, View, scope_of, variables, Together, Makes, Fine, IsOn, Assigning, Taking, all_wide, purpose_of, opened, behind}
-use Rattle.codegen_follows.proofs.Begun.{FineBehind, fine_opened, take_front}
+use Rattle.codegen_follows.proofs.Stands.{Around, View, scope_of, variables, Together, Fine, IsOn, Assigning, Taking, all_wide, opened, behind, SimpleMakes}
+use Rattle.codegen_follows.proofs.Begun.{fine_opened, take_front}
 use Rattle.codegen_follows.proofs.Grown.{grown_comm}
+use Rattle.codegen_base.proofs.Running.{Compiled, Coded}
+use Rattle.codegen_follows.proofs.Simulated.{Simulated, at, Point, here_blocks}
+use Rattle.bytecode.specs.Machine.{Frames as CodeFrames}
+use Rattle.type_table.specs.Containment.{Structs}
+use Rattle.codegen_follows.proofs.Channels.{IsChannel}
+use Rattle.meaning.specs.Expressions.{element_kind}
 
 -- where a clause of a select stands: how many words of the frame are taken, and the numbers of the tables
 pub record Beside : Type 0 where
@@ -78,200 +78,203 @@ comm_channel (CommReceive from) = from
 comm_channel (CommDefine item ok from) = from
 comm_channel (CommAssign item ok from) = from
 
-module _ (file : File) (elements : List Element) (all : AllWide (globals file).structs) (known_fields : (s : Scope) → FieldsKnown (globals file) s) (code : Code) (result : Yield) (f : CodeFunction) where
-  -- what is known of a view rests on its variables
-  fine_in : (one other : Site) (begins : List ℕ) (checked : Scope) → one.layout.scope ≡ other.layout.scope → Fine file elements all code result f (record { site = one; begins = begins; checked = checked }) → Fine file elements all code result f (record { site = other; begins = begins; checked = checked })
-  fine_in one other begins checked same h = go other.layout.scope same where
-    go : (s : Scope) → one.layout.scope ≡ s → Fine file elements all code result f (record { site = record { layout = record { scope = s; locals = other.layout.locals }; prints = other.prints; selects = other.selects }; begins = begins; checked = checked })
-    go s e = subst (λ x. Fine file elements all code result f (record { site = record { layout = record { scope = x; locals = other.layout.locals }; prints = other.prints; selects = other.selects }; begins = begins; checked = checked })) e (record { placed = h.placed; alike = h.alike; noted = h.noted })
+module _ {globals : Globals} {program : Compiled globals} (coded : Coded program) where
+  open program use {elements, wide as all}
 
-  pub fine_beside : (view : View) (b : Beside) → (scope_of view).words ≤ b.words → Fine file elements all code result f view → Fine file elements all code result f (beside view b)
+  -- what is known of a view rests on its variables
+  fine_in : (one other : Site) (begins : List ℕ) (checked : Scope) → one.layout.scope ≡ other.layout.scope → Fine coded (record { site = one; begins = begins; checked = checked }) → Fine coded (record { site = other; begins = begins; checked = checked })
+  fine_in one other begins checked same h = go other.layout.scope same where
+    go : (s : Scope) → one.layout.scope ≡ s → Fine coded (record { site = record { layout = record { scope = s; locals = other.layout.locals }; prints = other.prints; selects = other.selects }; begins = begins; checked = checked })
+    go s e = subst (λ x. Fine coded (record { site = record { layout = record { scope = x; locals = other.layout.locals }; prints = other.prints; selects = other.selects }; begins = begins; checked = checked })) e (record { placed = h.placed; alike = h.alike; noted = h.noted })
+
+  pub fine_beside : (view : View) (b : Beside) → (scope_of view).words ≤ b.words → Fine coded view → Fine coded (beside view b)
   fine_beside view b le h =
       let p = h.placed in
       let a = h.alike in
       record {
-        placed = record { rising = rising_up (globals file).structs 0 (variables view) (scope_of view).words b.words le p.rising; known = p.known; outer = p.outer; nested = p.nested };
+        placed = record { rising = rising_up globals.structs 0 (variables view) (scope_of view).words b.words le p.rising; known = p.known; outer = p.outer; nested = p.nested };
         alike = record { named = a.named; own = a.own; fits = a.fits; fit = a.fit };
         noted = h.noted;
       }
 
-  module _ (fine_behind : FineBehind file elements all code result f) (grounds : Grounds file elements code) (fields_known : AllKnown (globals file).structs) (ls : Words) (view : View) (fine : Fine file elements all code result f view) (k : List Task) (cs : Frames) (b : Beside) (wider : (scope_of view).words ≤ b.words) where
-    abbrev here : Blocks
-    here = seen (globals file).structs ls (variables view) view.begins
+module _ {globals : Globals} {program : Compiled globals} {coded : Coded program} {simulated : Simulated coded} (point : Point simulated) (k : List Task) (b : Beside) (wider : (scope_of (point.view)).words ≤ b.words) where
+  open program use {elements, code, wide as all}
+  open coded use {function as f, number as g, there, result}
+  open simulated use {running, running.{context, context.{callers as ds}}}
+  open point use {locals as ls, around as l, view, fine, room, held as h}
 
-    -- the block of a clause
-    abbrev pub clause_view : View
-    clause_view = opened (beside view b)
+  abbrev structs : Structs
+  structs = globals.structs
 
-    abbrev inner : Blocks
-    inner = seen (globals file).structs ls (variables clause_view) clause_view.begins
+  abbrev place_at : ℕ → Words → Words → CodeFrames
+  place_at place ls stack = at simulated place ls stack
 
-    abbrev site : Site
-    site = clause_view.site
+  abbrev blocks : Blocks
+  blocks = here_blocks point
 
-    abbrev scope : Scope
-    scope = scope_of clause_view
+  -- the block of a clause
+  abbrev pub clause_view : View
+  clause_view = opened (beside view b)
 
-    -- behind what it waits for
-    abbrev pub comm_view : Comm → View
-    comm_view comm = record { site = past clause_view.site (made_comm (globals file) elements result clause_view.site comm); begins = clause_view.begins; checked = after_any (globals file) clause_view.checked (Some (comm_simple comm)) }
+  abbrev inner : Blocks
+  inner = seen globals.structs ls (variables clause_view) clause_view.begins
 
-    abbrev Channel' : Comm → Type 0
-    Channel' comm = IsChannel file elements code grounds ls view (comm_channel comm)
+  abbrev site : Site
+  site = clause_view.site
 
-    abbrev Good : Comm → ℕ → Type 0
-    Good comm first = Free (SimpleHas (globals file) clause_view.checked first (comm_simple comm))
+  abbrev scope : Scope
+  scope = scope_of clause_view
 
-    pub fine_clause : Fine file elements all code result f clause_view
-    fine_clause = fine_opened file elements all code result f (beside view b) (fine_beside view b wider fine)
+  -- behind what it waits for
+  abbrev pub comm_view : Comm → View
+  comm_view comm = record { site = past clause_view.site (made_comm globals elements result clause_view.site comm); begins = clause_view.begins; checked = after_any globals clause_view.checked (Some (comm_simple comm)) }
 
-    pub comm_together : (comm : Comm) → Together clause_view (comm_view comm)
-    comm_together comm =
-        let g = grown_comm (globals file) elements result comm site.layout in
-        let vs = variables view in
-        (refl, ap (take (length vs)) g.variables ∙ take_front (length vs) vs g.more (omega arith))
+  abbrev Channel' : Comm → Type 0
+  Channel' comm = IsChannel point (comm_channel comm)
 
-    -- what the channel carries, in the clause's block
-    abbrev pub item_type : Expression → ValueType
-    item_type e = carried (globals file) elements (scope_of clause_view) e
+  abbrev Good : Comm → ℕ → Type 0
+  Good comm first = Free (SimpleHas globals clause_view.checked first (comm_simple comm))
 
-    pub carries_item : (e : Expression) → item_type e ≡ carried (globals file) elements (scope_of view) e
-    carries_item e = ap (λ o. known (element_of o)) (worth_same (globals file) (variables view) (length (variables view)) (scope_of view).outer b.words (scope_of view).words e)
+  pub fine_clause : Fine coded clause_view
+  fine_clause = fine_opened coded (beside view b) (fine_beside coded view b wider fine)
 
-    pub kind_item : (e : Expression) → IsChannel file elements code grounds ls view e → element_kind (globals file) here e ≡ item_type e
-    kind_item e c = c.runs ∙ sym c.carries ∙ sym (carries_item e)
+  pub comm_together : (comm : Comm) → Together clause_view (comm_view comm)
+  comm_together comm =
+      let g = grown_comm globals elements result comm site.layout in
+      let vs = variables view in
+      (refl, ap (take (length vs)) g.variables ∙ take_front (length vs) vs g.more (omega arith))
 
-    checked_item : (e : Expression) → IsChannel file elements code grounds ls view e → element_of (worth (globals file) clause_view.checked e) ≡ Some (item_type e)
-    checked_item e c =
-        ap element_of (worth_same (globals file) view.checked.variables (length view.checked.variables) view.checked.outer b.checked view.checked.words e ∙ c.is)
-        ∙ ap Some (sym c.carries ∙ sym (carries_item e))
+  -- what the channel carries, in the clause's block
+  abbrev pub item_type : Expression → ValueType
+  item_type e = carried globals elements (scope_of clause_view) e
 
-    -- ---- the variables behind it
+  pub carries_item : (e : Expression) → item_type e ≡ carried globals elements (scope_of view) e
+  carries_item e = ap (λ o. known (element_of o)) (worth_same globals (variables view) (length (variables view)) (scope_of view).outer b.words (scope_of view).words e)
 
-    received_layout : (item : List ℕ) (ok : Option (List ℕ)) (e : Expression)
-        → (declaring_all (globals file) elements (and_also item ok) (given_types (globals file) elements (given (globals file) scope (length (and_also item ok)) 0 (RightOperation (Receive e)))) site.layout).scope ≡ (behind_comm (globals file) elements result (CommDefine item ok e) site.layout).scope
-    received_layout item None e = ap (λ kind. (declaring_all (globals file) elements (item ∷ []) (kind ∷ []) site.layout).scope) (typed_default (element_of (worth (globals file) scope e)))
-    received_layout item (Some other) e = ap (λ kind. (declaring_all (globals file) elements (item ∷ other ∷ []) (kind ∷ BoolType ∷ []) site.layout).scope) (typed_default (element_of (worth (globals file) scope e)))
+  pub kind_item : (e : Expression) → IsChannel point e → element_kind globals blocks e ≡ item_type e
+  kind_item e c = c.runs ∙ sym c.carries ∙ sym (carries_item e)
 
-    -- it makes no channel
-    comm_makes : (comm : Comm) → Makes file elements all code result f (Alone (comm_simple comm))
-    comm_makes (CommSend to item) = tt
-    comm_makes (CommReceive e) = tt
-    comm_makes (CommDefine item ok e) = tt
-    comm_makes (CommAssign item ok e) = tt
+  checked_item : (e : Expression) → IsChannel point e → element_of (worth globals clause_view.checked e) ≡ Some (item_type e)
+  checked_item e c =
+      ap element_of (worth_same globals view.checked.variables (length view.checked.variables) view.checked.outer b.checked view.checked.words e ∙ c.is)
+      ∙ ap Some (sym c.carries ∙ sym (carries_item e))
 
-    pub comm_fine : (comm : Comm) (first : ℕ) → Good comm first → Fine file elements all code result f (comm_view comm)
-    comm_fine comm first good = go comm (fine_behind clause_view (Alone (comm_simple comm)) first true true fine_clause good (comm_makes comm)) where
-      go : (comm : Comm) → Fine file elements all code result f (behind file elements all code result f clause_view (Alone (comm_simple comm))) → Fine file elements all code result f (comm_view comm)
-      go (CommSend to item) h = record { placed = h.placed; alike = h.alike; noted = h.noted }
-      go (CommReceive e) h = record { placed = h.placed; alike = h.alike; noted = h.noted }
-      go (CommAssign item ok e) h = record { placed = h.placed; alike = h.alike; noted = h.noted }
-      go (CommDefine item ok e) h = fine_in (behind file elements all code result f clause_view (Alone (Define (and_also item ok) (RightOperation (Receive e))))).site (comm_view (CommDefine item ok e)).site clause_view.begins (comm_view (CommDefine item ok e)).checked (received_layout item ok e) h
+  -- ---- the variables behind it
 
-    -- ---- where it goes
+  received_layout : (item : List ℕ) (ok : Option (List ℕ)) (e : Expression)
+      → (declaring_all globals elements (and_also item ok) (given_types globals elements (given globals scope (length (and_also item ok)) 0 (Receive e ∷ []))) site.layout).scope ≡ (behind_comm globals elements result (CommDefine item ok e) site.layout).scope
+  received_layout item None e = ap (λ kind. (declaring_all globals elements (item ∷ []) (kind ∷ []) site.layout).scope) (typed_default (element_of (worth globals scope e)))
+  received_layout item (Some other) e = ap (λ kind. (declaring_all globals elements (item ∷ other ∷ []) (kind ∷ BoolType ∷ []) site.layout).scope) (typed_default (element_of (worth globals scope e)))
 
-    abbrev On' : Around → Plan → ℕ → Option ℕ → Type 0
-    On' l plan place mid = IsOn file elements all code result f l plan place mid
+  pub comm_fine : (comm : Comm) (first : ℕ) → Good comm first → SimpleMakes globals elements (comm_simple comm) → Fine coded (comm_view comm)
+  comm_fine comm first good makes = go comm (simulated.fine_behind clause_view (Alone (comm_simple comm)) first true true fine_clause good makes) where
+    go : (comm : Comm) → Fine coded (behind coded clause_view (Alone (comm_simple comm))) → Fine coded (comm_view comm)
+    go (CommSend to item) h = record { placed = h.placed; alike = h.alike; noted = h.noted }
+    go (CommReceive e) h = record { placed = h.placed; alike = h.alike; noted = h.noted }
+    go (CommAssign item ok e) h = record { placed = h.placed; alike = h.alike; noted = h.noted }
+    go (CommDefine item ok e) h = fine_in coded (behind coded clause_view (Alone (Define (and_also item ok) (Receive e ∷ [])))).site (comm_view (CommDefine item ok e)).site clause_view.begins (comm_view (CommDefine item ok e)).checked (received_layout item ok e) h
 
-    abbrev Assigning' : Around → List ValueType → List ValueType → List Destination → Comm → ℕ → Option ℕ → Type 0
-    Assigning' l others kept to comm place mid = Assigning file elements all code result f l clause_view (all_wide file elements all code result f others) kept to (comm_view comm) place mid
+  -- ---- where it goes
 
-    -- the item that is received, and whether it was sent
-    abbrev received_given : Expression → ℕ → Bool → List Given
-    received_given e first two = given_by first (Receive e) (element_of (worth (globals file) clause_view.checked e)) ∷ (if two then given_by first (Receive e) (Some BoolType) ∷ [] else [])
+  abbrev OnAt : Around → Plan → ℕ → Option ℕ → Type 0
+  OnAt l plan place mid = IsOn coded l plan place mid
 
-    received_typed : (e : Expression) (c : IsChannel file elements code grounds ls view e) (first : ℕ) (two : Bool) → AreTyped (received_given e first two) (item_type e ∷ (if two then BoolType ∷ [] else []))
-    received_typed e c first two = (ap (option_map Typed) (checked_item e c), positive, more two) where
-      positive : 1 ≤ first + operation_size (Receive e)
-      positive = omega arith
+  abbrev Assigning' : Around → List ValueType → List ValueType → List Destination → Comm → ℕ → Option ℕ → Type 0
+  Assigning' l others kept to comm place mid = Assigning coded l clause_view (all_wide coded others) kept to (comm_view comm) place mid
 
-      more : (two : Bool) → AreTyped (if two then given_by first (Receive e) (Some BoolType) ∷ [] else []) (if two then BoolType ∷ [] else [])
-      more true = (refl, positive, tt)
-      more false = tt
+  -- the item that is received, and whether it was sent
+  abbrev received_given : Expression → ℕ → Bool → List Given
+  received_given e first two = record { worth = worth globals clause_view.checked (Receive e); nodes = nodes_of first (Receive e) } ∷ (if two then record { worth = Some (Typed BoolType); nodes = nodes_of first (Receive e) } ∷ [] else [])
 
-    named : (l : Around) (names : List (List ℕ)) (kept others : List ValueType) (vs : List Given) (comm : Comm) (place : ℕ) (mid : Option ℕ) → has_twice names ≡ false → AreTyped vs kept → length vs ≡ length names → Free (NamesFail clause_view.checked names vs)
-        → scope_of (comm_view comm) ≡ (declaring_all (globals file) elements names kept site.layout).scope → (scope_of (comm_view comm)).words ≤ length f.locals
-        → On' l (drops (all_wide file elements all code result f others) (assigns (name_spots (globals file) elements site.layout names kept) Skip)) place mid → Assigning' l others kept (all_new (globals file) inner names kept) comm place mid
-    named l names kept others vs comm place mid single typed many goes behind most on =
-        let structs = (globals file).structs in
-        let suit = names_suit file elements all known_fields code result f ls clause_view fine_clause names vs kept typed many goes in
-        let are = names_are file elements all code result f ls clause_view fine_clause names kept kept single suit in
-        let same = new_names file elements all code result f ls clause_view fine_clause names kept (fresh (beside view b).checked names) in
-        let behind-is : scope_of (comm_view comm) ≡ behind_all structs all (all_defined (globals file) inner names kept) scope = behind ∙ sym are.1 in
-        subst (λ (to : List Destination). Assigning' l others kept to comm place mid) (sym same) (record {
-          spots = name_spots (globals file) elements site.layout names kept;
-          fine = fine_clause;
-          spots_are = are.0;
-          room = subst (λ (s : Scope). s.words ≤ length f.locals) behind-is most;
-          on = on;
-          variables_are = ap (λ (s : Scope). s.variables) behind-is;
-        })
+  received_typed : (e : Expression) (c : IsChannel point e) (first : ℕ) (two : Bool) → AreTyped (received_given e first two) (item_type e ∷ (if two then BoolType ∷ [] else []))
+  received_typed e c first two = (ap (option_map Typed) (checked_item e c), nodes_end first (Receive e), more two) where
+    more : (two : Bool) → AreTyped (if two then record { worth = Some (Typed BoolType); nodes = nodes_of first (Receive e) } ∷ [] else []) (if two then BoolType ∷ [] else [])
+    more true = (refl, nodes_end first (Receive e), tt)
+    more false = tt
 
-    define_taking : (l : Around) (item : List ℕ) (ok : Option (List ℕ)) (e : Expression) (first place : ℕ) (mid : Option ℕ) → IsChannel file elements code grounds ls view e → Good (CommDefine item ok e) first → (scope_of (comm_view (CommDefine item ok e))).words ≤ length f.locals
-        → On' l (comm_plan (globals file) elements result site.layout (CommDefine item ok e)) place mid
-        → Taking file elements all code result f l clause_view (item_type e ∷ BoolType ∷ []) (purpose_of (comm_destinations file here k cs (CommDefine item ok e))) (comm_view (CommDefine item ok e)) place mid
-    define_taking l item None e first place mid c good most on =
-        let names = item ∷ [] in
-        let K = item_type e in
-        let a = named l names (K ∷ []) (BoolType ∷ []) (received_given e first false) (CommDefine item None e) place mid (once clause_view.checked names _ (omega arith) (λ flaw x. good flaw (inr (inr (inl x))))) (received_typed e c first false) refl (λ flaw x. good flaw (inr (inr (inr x)))) refl most on in
-        (K ∷ [], BoolType ∷ [], refl, subst (λ kind. Assigning' l (BoolType ∷ []) (K ∷ []) (new (globals file) here item kind ∷ []) (CommDefine item None e) place mid) (sym (kind_item e c)) a)
-    define_taking l item (Some other) e first place mid c good most on =
-        let names = item ∷ other ∷ [] in
-        let K = item_type e in
-        let a = named l names (K ∷ BoolType ∷ []) [] (received_given e first true) (CommDefine item (Some other) e) place mid (once clause_view.checked names _ (omega arith) (λ flaw x. good flaw (inr (inr (inl x))))) (received_typed e c first true) refl (λ flaw x. good flaw (inr (inr (inr x)))) refl most on in
-        (K ∷ BoolType ∷ [], [], refl, subst (λ kind. Assigning' l [] (K ∷ BoolType ∷ []) (new (globals file) here item kind ∷ new (globals file) here other BoolType ∷ []) (CommDefine item (Some other) e) place mid) (sym (kind_item e c)) a)
+  named : (l : Around) (names : List (List ℕ)) (kept others : List ValueType) (vs : List Given) (comm : Comm) (place : ℕ) (mid : Option ℕ) → has_twice names ≡ false → AreTyped vs kept → length vs ≡ length names → Free (NamesFail clause_view.checked names vs)
+      → scope_of (comm_view comm) ≡ (declaring_all globals elements names kept site.layout).scope → (scope_of (comm_view comm)).words ≤ length f.locals
+      → OnAt l (drops (all_wide coded others) (assigns (name_spots globals elements site.layout names kept) Skip)) place mid → Assigning' l others kept (all_new globals inner names kept) comm place mid
+  named l names kept others vs comm place mid single typed many goes behind most on =
+      let structs = globals.structs in
+      let suit = names_suit coded ls clause_view fine_clause names vs kept typed many goes in
+      let are = names_are coded ls clause_view fine_clause names kept kept single suit in
+      let same = new_names coded ls clause_view fine_clause names kept (fresh (beside view b).checked names) in
+      let behind-is : scope_of (comm_view comm) ≡ behind_all structs all (all_defined globals inner names kept) scope = behind ∙ sym are.1 in
+      subst (λ (to : List Destination). Assigning' l others kept to comm place mid) (sym same) (record {
+        spots = name_spots globals elements site.layout names kept;
+        fine = fine_clause;
+        spots_are = are.0;
+        room = subst (λ (s : Scope). s.words ≤ length f.locals) behind-is most;
+        on = on;
+        variables_are = ap (λ (s : Scope). s.variables) behind-is;
+      })
 
-    -- a place is the same in the clause's block
-    place_same : (place : Place) → placed (globals file) inner place ≡ placed (globals file) here place
-    place_same place =
-        ap (λ o. if is_blank place.name then Nowhere else Into place.name (slot_along (globals file).structs (whole (kind_of o)) place.fields))
-        (seen_lookup (globals file).structs ls (variables clause_view) clause_view.begins place.name ∙ sym (seen_lookup (globals file).structs ls (variables view) view.begins place.name))
+  define_taking : (l : Around) (item : List ℕ) (ok : Option (List ℕ)) (e : Expression) (first place : ℕ) (mid : Option ℕ) → IsChannel point e → Good (CommDefine item ok e) first → (scope_of (comm_view (CommDefine item ok e))).words ≤ length f.locals
+      → OnAt l (comm_plan globals elements result site.layout (CommDefine item ok e)) place mid
+      → Taking coded l clause_view (item_type e ∷ BoolType ∷ []) (comm_destinations globals blocks k (CommDefine item ok e)) (comm_view (CommDefine item ok e)) place mid
+  define_taking l item None e first place mid c good most on =
+      let names = item ∷ [] in
+      let K = item_type e in
+      let a = named l names (K ∷ []) (BoolType ∷ []) (received_given e first false) (CommDefine item None e) place mid (once clause_view.checked names _ (omega arith) (λ flaw x. good flaw (inr (inr (inl x))))) (received_typed e c first false) refl (λ flaw x. good flaw (inr (inr (inr x)))) refl most on in
+      (K ∷ [], BoolType ∷ [], refl, subst (λ kind. Assigning' l (BoolType ∷ []) (K ∷ []) (new globals blocks item kind ∷ []) (CommDefine item None e) place mid) (sym (kind_item e c)) a)
+  define_taking l item (Some other) e first place mid c good most on =
+      let names = item ∷ other ∷ [] in
+      let K = item_type e in
+      let a = named l names (K ∷ BoolType ∷ []) [] (received_given e first true) (CommDefine item (Some other) e) place mid (once clause_view.checked names _ (omega arith) (λ flaw x. good flaw (inr (inr (inl x))))) (received_typed e c first true) refl (λ flaw x. good flaw (inr (inr (inr x)))) refl most on in
+      (K ∷ BoolType ∷ [], [], refl, subst (λ kind. Assigning' l [] (K ∷ BoolType ∷ []) (new globals blocks item kind ∷ new globals blocks other BoolType ∷ []) (CommDefine item (Some other) e) place mid) (sym (kind_item e c)) a)
 
-    places_same : (places : List Place) → map (placed (globals file) inner) places ≡ map (placed (globals file) here) places
-    places_same [] = refl
-    places_same (place ∷ places) = ap (λ (d : Destination). d ∷ map (placed (globals file) inner) places) (place_same place) ∙ ap (λ (l : List Destination). placed (globals file) here place ∷ l) (places_same places)
+  -- a place is the same in the clause's block
+  place_same : (place : Place) → placed globals inner place ≡ placed globals blocks place
+  place_same place =
+      ap (λ o. if is_blank place.name then Nowhere else Into place.name (slot_along globals.structs (whole (kind_of o)) place.fields))
+      (seen_lookup globals.structs ls (variables clause_view) clause_view.begins place.name ∙ sym (seen_lookup globals.structs ls (variables view) view.begins place.name))
 
-    set : (l : Around) (places : List Place) (kept others : List ValueType) (vs : List Given) (comm : Comm) (first place : ℕ) (mid : Option ℕ) → AreTyped vs kept → length vs ≡ length places → Free (PlacesHave (globals file) clause_view.checked first places) → Free (PlacesFail (globals file) clause_view.checked places vs)
-        → scope_of (comm_view comm) ≡ scope → scope.words ≤ length f.locals → On' l (drops (all_wide file elements all code result f others) (assigns (place_spots (globals file) elements scope places kept) Skip)) place mid
-        → Assigning' l others kept (map (placed (globals file) here) places) comm place mid
-    set l places kept others vs comm first place mid typed many good goes behind most on =
-        let structs = (globals file).structs in
-        let suit = places_suit file elements all known_fields fields_known code result f ls clause_view fine_clause places vs kept first typed many good goes in
-        let stay = places_stay file elements all fields_known code result f ls clause_view fine_clause places in
-        subst (λ (to : List Destination). Assigning' l others kept to comm place mid) (places_same places) (record {
-          spots = place_spots (globals file) elements scope places kept;
-          fine = fine_clause;
-          spots_are = places_are file elements all fields_known code result f ls clause_view fine_clause places first kept kept good suit;
-          room = subst (λ (s : Scope). s.words ≤ length f.locals) (sym stay) most;
-          on = on;
-          variables_are = ap (λ (s : Scope). s.variables) (behind ∙ sym stay);
-        })
+  places_same : (places : List Place) → map (placed globals inner) places ≡ map (placed globals blocks) places
+  places_same [] = refl
+  places_same (place ∷ places) = ap (λ (d : Destination). d ∷ map (placed globals inner) places) (place_same place) ∙ ap (λ (l : List Destination). placed globals blocks place ∷ l) (places_same places)
 
-    assign_taking : (l : Around) (item : Place) (ok : Option Place) (e : Expression) (first place : ℕ) (mid : Option ℕ) → IsChannel file elements code grounds ls view e → Good (CommAssign item ok e) first → scope.words ≤ length f.locals
-        → On' l (comm_plan (globals file) elements result site.layout (CommAssign item ok e)) place mid
-        → Taking file elements all code result f l clause_view (item_type e ∷ BoolType ∷ []) (purpose_of (comm_destinations file here k cs (CommAssign item ok e))) (comm_view (CommAssign item ok e)) place mid
-    assign_taking l item None e first place mid c good most on =
-        let K = item_type e in
-        (K ∷ [], BoolType ∷ [], refl, set l (item ∷ []) (K ∷ []) (BoolType ∷ []) (received_given e (first + 1) false) (CommAssign item None e) first place mid (received_typed e c (first + 1) false) refl (λ flaw x. good flaw (inl x)) (λ flaw x. good flaw (inr (inr (inr x)))) refl most on)
-    assign_taking l item (Some other) e first place mid c good most on =
-        let K = item_type e in
-        (K ∷ BoolType ∷ [], [], refl, set l (item ∷ other ∷ []) (K ∷ BoolType ∷ []) [] (received_given e (first + 2) true) (CommAssign item (Some other) e) first place mid (received_typed e c (first + 2) true) refl (λ flaw x. good flaw (inl x)) (λ flaw x. good flaw (inr (inr (inr x)))) refl most on)
+  set : (l : Around) (places : List Place) (kept others : List ValueType) (vs : List Given) (comm : Comm) (first place : ℕ) (mid : Option ℕ) → AreTyped vs kept → length vs ≡ length places → Free (PlacesHave globals clause_view.checked first places) → Free (PlacesFail globals clause_view.checked places vs)
+      → scope_of (comm_view comm) ≡ scope → scope.words ≤ length f.locals → OnAt l (drops (all_wide coded others) (assigns (place_spots globals elements scope places kept) Skip)) place mid
+      → Assigning' l others kept (map (placed globals blocks) places) comm place mid
+  set l places kept others vs comm first place mid typed many good goes behind most on =
+      let structs = globals.structs in
+      let suit = places_suit coded ls clause_view fine_clause places vs kept first typed many good goes in
+      let stay = places_stay coded ls clause_view fine_clause places in
+      subst (λ (to : List Destination). Assigning' l others kept to comm place mid) (places_same places) (record {
+        spots = place_spots globals elements scope places kept;
+        fine = fine_clause;
+        spots_are = places_are coded ls clause_view fine_clause places first kept kept good suit;
+        room = subst (λ (s : Scope). s.words ≤ length f.locals) (sym stay) most;
+        on = on;
+        variables_are = ap (λ (s : Scope). s.variables) (behind ∙ sym stay);
+      })
 
-    -- values of these types are received
-    abbrev pub received_types : Comm → List ValueType
-    received_types (CommSend to item) = []
-    received_types (CommReceive e) = item_type e ∷ BoolType ∷ []
-    received_types (CommDefine item ok e) = item_type e ∷ BoolType ∷ []
-    received_types (CommAssign item ok e) = item_type e ∷ BoolType ∷ []
+  assign_taking : (l : Around) (item : Place) (ok : Option Place) (e : Expression) (first place : ℕ) (mid : Option ℕ) → IsChannel point e → Good (CommAssign item ok e) first → scope.words ≤ length f.locals
+      → OnAt l (comm_plan globals elements result site.layout (CommAssign item ok e)) place mid
+      → Taking coded l clause_view (item_type e ∷ BoolType ∷ []) (comm_destinations globals blocks k (CommAssign item ok e)) (comm_view (CommAssign item ok e)) place mid
+  assign_taking l item None e first place mid c good most on =
+      let K = item_type e in
+      (K ∷ [], BoolType ∷ [], refl, set l (item ∷ []) (K ∷ []) (BoolType ∷ []) (received_given e (first + 1) false) (CommAssign item None e) first place mid (received_typed e c (first + 1) false) refl (λ flaw x. good flaw (inl x)) (λ flaw x. good flaw (inr (inr (inr x)))) refl most on)
+  assign_taking l item (Some other) e first place mid c good most on =
+      let K = item_type e in
+      (K ∷ BoolType ∷ [], [], refl, set l (item ∷ other ∷ []) (K ∷ BoolType ∷ []) [] (received_given e (first + 2) true) (CommAssign item (Some other) e) first place mid (received_typed e c (first + 2) true) refl (λ flaw x. good flaw (inl x)) (λ flaw x. good flaw (inr (inr (inr x)))) refl most on)
 
-    pub comm_taking : (l : Around) (comm : Comm) (first place : ℕ) (mid : Option ℕ) → Channel' comm → Good comm first → (scope_of (comm_view comm)).words ≤ length f.locals → On' l (comm_plan (globals file) elements result site.layout comm) place mid
-        → Taking file elements all code result f l clause_view (received_types comm) (purpose_of (comm_destinations file here k cs comm)) (comm_view comm) place mid
-    comm_taking l (CommSend to item) first place mid c good most on = (on, refl)
-    comm_taking l (CommReceive e) first place mid c good most on =
-        let kind = item_type e in
-        let n = width (globals file) elements scope kind in
-        let one : n + 1 ≡ suc n = omega arith in
-        let many : suc n ≡ all_wide file elements all code result f (kind ∷ BoolType ∷ []) = omega (arith, kinds_long (globals file).structs elements kind) in
-        (subst (λ m. On' l (drops m Skip) place mid) many (subst (λ m. On' l (Do (instrs.Discard m) Skip) place mid) one on), refl)
-    comm_taking l (CommDefine item ok e) first place mid c good most on = define_taking l item ok e first place mid c good most on
-    comm_taking l (CommAssign item ok e) first place mid c good most on = assign_taking l item ok e first place mid c good most on
+  -- values of these types are received
+  abbrev pub received_types : Comm → List ValueType
+  received_types (CommSend to item) = []
+  received_types (CommReceive e) = item_type e ∷ BoolType ∷ []
+  received_types (CommDefine item ok e) = item_type e ∷ BoolType ∷ []
+  received_types (CommAssign item ok e) = item_type e ∷ BoolType ∷ []
+
+  pub comm_taking : (l : Around) (comm : Comm) (first place : ℕ) (mid : Option ℕ) → Channel' comm → Good comm first → (scope_of (comm_view comm)).words ≤ length f.locals → OnAt l (comm_plan globals elements result site.layout comm) place mid
+      → Taking coded l clause_view (received_types comm) (comm_destinations globals blocks k comm) (comm_view comm) place mid
+  comm_taking l (CommSend to item) first place mid c good most on = (on, refl)
+  comm_taking l (CommReceive e) first place mid c good most on =
+      let kind = item_type e in
+      let n = width globals elements scope kind in
+      let one : n + 1 ≡ suc n = omega arith in
+      let many : suc n ≡ all_wide coded (kind ∷ BoolType ∷ []) = omega (arith, kinds_long globals.structs elements kind) in
+      (subst (λ m. OnAt l (drops m Skip) place mid) many (subst (λ m. OnAt l (Do (instrs.Discard m) Skip) place mid) one on), refl)
+  comm_taking l (CommDefine item ok e) first place mid c good most on = define_taking l item ok e first place mid c good most on
+  comm_taking l (CommAssign item ok e) first place mid c good most on = assign_taking l item ok e first place mid c good most on

@@ -1,19 +1,15 @@
 -- A variable that is declared with a type.
 use Rattle.std.proofs.Common.{◌≡◌, Bool, true, false, List, ℕ, Option, Some, None, refl, sym, ap, ◌∙◌, subst, bytes_eq}
 use Rattle.std.specs.Prelude.{if◌then◌else◌}
-use Rattle.syntax.specs.Tree.{File}
-use Rattle.bytecode.specs.Code.{Function as CodeFunction, Code}
 use Rattle.type_table.specs.Types.{ValueType}
-use Rattle.type_table.specs.Scopes.{Variable, Yield, declared, is_blank, later, last_named}
-use Rattle.meaning.specs.Source.{globals}
-use Rattle.codegen_base.specs.declared.element.Element.{Element}
+use Rattle.type_table.specs.Scopes.{Variable, declared, is_blank, later, last_named, Globals}
 use Rattle.codegen_base.specs.Layouts.{declaring}
 use Rattle.codegen_base.specs.Generated.{at}
 use Rattle.codegen_base.proofs.Alike.{alike_declared, last_append}
 use Rattle.codegen_base.proofs.Assigned.{placed_new}
-use Rattle.codegen_base.proofs.Fields.{AllWide}
 use Rattle.codegen_base.proofs.Noted.{Noted}
 use Rattle.codegen_follows.proofs.Stands.{View, scope_of, variables, Fine}
+use Rattle.codegen_base.proofs.Running.{Compiled, Coded}
 
 same_some : {A : Type 0} (a b : A) → Some a ≡ Some b → a ≡ b
 same_some a b e = ap (from a) e where
@@ -21,18 +17,20 @@ same_some a b e = ap (from a) e where
   from a None = a
   from a (Some b) = b
 
-module _ (file : File) (elements : List Element) (all : AllWide (globals file).structs) (code : Code) (result : Yield) (f : CodeFunction) (view : View) (name : List ℕ) (kind : ValueType) where
+module _ {globals : Globals} {program : Compiled globals} (coded : Coded program) (view : View) (name : List ℕ) (kind : ValueType) where
+  open program use {elements, wide as all}
+
   -- behind the declaration
   abbrev pub declared_view : View
-  declared_view = record { site = at (declaring (globals file) elements kind name view.site.layout) view.site; begins = view.begins; checked = declared (globals file).structs view.checked (Some kind) name }
+  declared_view = record { site = at (declaring globals elements kind name view.site.layout) view.site; begins = view.begins; checked = declared globals.structs view.checked (Some kind) name }
 
   abbrev new_one : Variable
   new_one = record { name = name; kind = Some kind; place = (scope_of view).words }
 
-  pub fine_declared : Fine file elements all code result f view → Noted elements kind → Fine file elements all code result f declared_view
+  pub fine_declared : Fine coded view → Noted elements kind → Fine coded declared_view
   fine_declared fine noted = record {
-    placed = placed_new (globals file).structs all (scope_of view) view.begins name kind fine.placed;
-    alike = alike_declared (globals file).structs (globals file).structs view.checked (scope_of view) (Some kind) name fine.alike;
+    placed = placed_new globals.structs all (scope_of view) view.begins name kind fine.placed;
+    alike = alike_declared globals.structs globals.structs view.checked (scope_of view) (Some kind) name fine.alike;
     noted = λ n v t found is. unless_blank n (is_blank n) refl v t found is;
   } where
     found_there : (n : List ℕ) (b : Bool) (o : Option Variable) → last_named (variables view) n ≡ o → is_blank n ≡ false → (v : Variable) (t : ValueType) → later o (if b then Some new_one else None) ≡ Some v → v.kind ≡ Some t → Noted elements t

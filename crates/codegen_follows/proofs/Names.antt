@@ -3,29 +3,25 @@ use Rattle.std.proofs.Common.{◌≡◌, ℕ, ◌+◌, ◌≤◌, Bool, true, fa
 use Rattle.std.specs.Prelude.{if◌then◌else◌, not, ◌&&◌, ◌||◌}
 use Rattle.std.specs.Option.{is_some, is_none}
 use Rattle.std.specs.List.{list_any}
-use Rattle.syntax.specs.Tree.{File}
-use Rattle.bytecode.specs.Code.{Function as CodeFunction, Code}
 use Rattle.type_table.specs.Types.{ValueType}
 use Rattle.type_table.specs.Containment.{Structs}
-use Rattle.type_table.specs.Scopes.{Variable, Scope, Yield, is_blank, own_variable, later, if_named, last_named, declared}
+use Rattle.type_table.specs.Scopes.{Variable, Scope, is_blank, own_variable, later, if_named, last_named, declared, Globals}
 use Rattle.type_table.specs.Zeros.{zero_words}
 use Rattle.typing_rules.specs.Simples.{has_name, has_twice}
 use Rattle.meaning.specs.Values.{known, words_in, whole}
 use Rattle.meaning.specs.Variables.{Binding, Blocks, in_block, innermost, kind_of, Destination, Nowhere, New, Into}
 use Rattle.meaning.specs.Destinations.{new, defined, all_new, all_defined}
-use Rattle.meaning.specs.Source.{globals}
-use Rattle.codegen_base.specs.declared.element.Element.{Element}
 use Rattle.codegen_base.specs.Layouts.{Layout, declaring, declaring_new, declaring_all}
 use Rattle.codegen_base.specs.Statements.{Dropped, Local, width, own_spot, name_spot, name_spots}
 use Rattle.plan.proofs.Words.{Words}
 use Rattle.codegen_base.proofs.Alike.{last_append, drop_append, there_alike, own_alike}
-use Rattle.codegen_base.proofs.Fields.{AllWide}
 use Rattle.codegen_base.proofs.Likeness.{kinds_long}
-use Rattle.codegen_base.proofs.Seen.{seen_one, seen, last_split}
+use Rattle.codegen_base.proofs.Seen.{seen_one, seen, last_split, seen_found}
 use Rattle.codegen_base.proofs.Assigned.{IsSpot, behind_destination, behind_all, AreSpots}
 use Rattle.codegen_follows.proofs.Paths.{held_whole}
-use Rattle.codegen_follows.proofs.Ranged.{own_block}
 use Rattle.codegen_follows.proofs.Stands.{View, scope_of, variables, Fine}
+use Rattle.codegen_base.proofs.Running.{Compiled, Coded}
+use Rattle.codegen_base.proofs.Static.{innermost_begins}
 
 pub neither : (a b : Bool) → (a || b) ≡ false → (a ≡ false) × (b ≡ false)
 neither true b e = absurd cc
@@ -55,22 +51,29 @@ own_blank s name blank = ap (λ b. if b then None else last_named (drop s.outer 
 abbrev pub AreNew : Scope → List (List ℕ) → Type 0
 AreNew s names = list_any (λ name. is_some (own_variable s name)) names ≡ false
 
-module _ (file : File) (elements : List Element) (all : AllWide (globals file).structs) (code : Code) (result : Yield) (f : CodeFunction) (ls : Words) (view : View) (fine : Fine file elements all code result f view) where
+-- the variables of the innermost block
+pub own_block : (structs : Structs) (ls : Words) (vs : List Variable) (ns : List ℕ) (name : List ℕ) → in_block (innermost (seen structs ls vs ns)) name ≡ option_map (seen_one structs ls) (last_named (drop (innermost_begins ns) vs) name)
+own_block structs ls vs [] name = seen_found structs ls vs name
+own_block structs ls vs (n ∷ ns) name = seen_found structs ls (drop n vs) name
+
+module _ {globals : Globals} {program : Compiled globals} (coded : Coded program) (ls : Words) (view : View) (fine : Fine coded view) where
+  open program use {elements, wide as all}
+
   abbrev structs : Structs
-  structs = (globals file).structs
+  structs = globals.structs
 
   abbrev blocks : Blocks
-  blocks = seen (globals file).structs ls (variables view) view.begins
+  blocks = seen globals.structs ls (variables view) view.begins
 
   -- what a name takes: a new one its value's type, one that is there the words of its own
   abbrev pub NameSuits : Option Variable → ValueType → ValueType → Type 0
   NameSuits None given taken = taken ≡ given
-  NameSuits (Some v) given taken = zero_words (globals file).structs taken ≡ zero_words (globals file).structs (known v.kind)
+  NameSuits (Some v) given taken = zero_words globals.structs taken ≡ zero_words globals.structs (known v.kind)
 
   -- where a name's value goes, and which variables are there behind it
   name_is : (layout : Layout) (name : List ℕ) (given taken : ValueType) → own_variable layout.scope name ≡ own_variable (scope_of view) name → NameSuits (own_variable (scope_of view) name) given taken
-      → IsSpot structs layout.scope (defined (globals file) blocks name given) taken (name_spot (globals file) elements layout name given)
-      × (behind_destination structs (defined (globals file) blocks name given) layout.scope ≡ (declaring_new (globals file) elements given name layout).scope)
+      → IsSpot structs layout.scope (defined globals blocks name given) taken (name_spot globals elements layout name given)
+      × (behind_destination structs (defined globals blocks name given) layout.scope ≡ (declaring_new globals elements given name layout).scope)
   name_is layout name given taken same suits =
       go (is_blank name) (own_variable s name) (in_block (innermost blocks) name)
       (λ blank. own_blank s name blank)
@@ -84,10 +87,10 @@ module _ (file : File) (elements : List Element) (all : AllWide (globals file).s
 
         Goal : Bool → Option Variable → Option Binding → Type 0
         Goal b o there =
-            IsSpot structs s (if b then Nowhere else (if is_some there then Into name (whole (kind_of there)) else New name given)) taken (if not b && is_none o then Local s.words (width (globals file) elements s given) else own_spot (globals file) elements s given o)
-            × (behind_destination structs (if b then Nowhere else (if is_some there then Into name (whole (kind_of there)) else New name given)) s ≡ (if not b && is_none o then declaring (globals file) elements given name layout else layout).scope)
+            IsSpot structs s (if b then Nowhere else (if is_some there then Into name (whole (kind_of there)) else New name given)) taken (if not b && is_none o then Local s.words (width globals elements s given) else own_spot globals elements s given o)
+            × (behind_destination structs (if b then Nowhere else (if is_some there then Into name (whole (kind_of there)) else New name given)) s ≡ (if not b && is_none o then declaring globals elements given name layout else layout).scope)
 
-        dropped : taken ≡ given → Dropped (width (globals file) elements s given) ≡ Dropped (words_in structs taken)
+        dropped : taken ≡ given → Dropped (width globals elements s given) ≡ Dropped (words_in structs taken)
         dropped e = ap Dropped (kinds_long structs elements given ∙ ap (words_in structs) (sym e))
 
         go : (b : Bool) (o : Option Variable) (there : Option Binding) → (b ≡ true → o ≡ None) → (b ≡ false → there ≡ option_map (seen_one structs ls) o) → ((v : Variable) → b ≡ false → o ≡ Some v → last_named s.variables name ≡ Some v) → NameSuits o given taken → Goal b o there
@@ -104,7 +107,7 @@ module _ (file : File) (elements : List Element) (all : AllWide (globals file).s
             let kind = known v.kind in
             let place : v.place ≡ v.place + 0 = omega arith in
             subst (λ t. Goal false (Some v) t) (sym (is refl))
-            ((v, found v refl refl, held_whole structs kind, sym suits, ap (λ n. Local n (width (globals file) elements s kind)) place ∙ ap (Local (v.place + 0)) (kinds_long structs elements kind)), refl)
+            ((v, found v refl refl, held_whole structs kind, sym suits, ap (λ n. Local n (width globals elements s kind)) place ∙ ap (Local (v.place + 0)) (kinds_long structs elements kind)), refl)
 
   -- the variables of these names are as they were
   abbrev AllSame : Scope → List (List ℕ) → Type 0
@@ -123,10 +126,10 @@ module _ (file : File) (elements : List Element) (all : AllWide (globals file).s
 
   -- behind a name the others are as they were
   same_next : (layout : Layout) (name : List ℕ) (names : List (List ℕ)) (given : ValueType) → layout.scope.outer ≤ length layout.scope.variables → (not (is_blank name) && has_name names name) ≡ false → AllSame layout.scope names
-      → ((declaring_new (globals file) elements given name layout).scope.outer ≤ length (declaring_new (globals file) elements given name layout).scope.variables) × AllSame (declaring_new (globals file) elements given name layout).scope names
+      → ((declaring_new globals elements given name layout).scope.outer ≤ length (declaring_new globals elements given name layout).scope.variables) × AllSame (declaring_new globals elements given name layout).scope names
   same_next layout name names given fits once same = go (is_blank name) (is_none (own_variable layout.scope name)) once where
     go : (b o : Bool) → (not b && has_name names name) ≡ false
-        → ((if not b && o then declaring (globals file) elements given name layout else layout).scope.outer ≤ length (if not b && o then declaring (globals file) elements given name layout else layout).scope.variables) × AllSame (if not b && o then declaring (globals file) elements given name layout else layout).scope names
+        → ((if not b && o then declaring globals elements given name layout else layout).scope.outer ≤ length (if not b && o then declaring globals elements given name layout else layout).scope.variables) × AllSame (if not b && o then declaring globals elements given name layout else layout).scope names
     go true o once = (fits, same)
     go false false once = (fits, same)
     go false true once = (fits_declared structs layout.scope given name fits, same_declared names layout.scope given name fits once same)
@@ -137,8 +140,8 @@ module _ (file : File) (elements : List Element) (all : AllWide (globals file).s
   AllNamesSuit names types others = ⊥
 
   names_from : (names : List (List ℕ)) (layout : Layout) (types others : List ValueType) → layout.scope.outer ≤ length layout.scope.variables → AllSame layout.scope names → has_twice names ≡ false → AllNamesSuit names types others
-      → AreSpots structs all layout.scope (all_defined (globals file) blocks names types) others (name_spots (globals file) elements layout names types)
-      × (behind_all structs all (all_defined (globals file) blocks names types) layout.scope ≡ (declaring_all (globals file) elements names types layout).scope)
+      → AreSpots structs all layout.scope (all_defined globals blocks names types) others (name_spots globals elements layout names types)
+      × (behind_all structs all (all_defined globals blocks names types) layout.scope ≡ (declaring_all globals elements names types layout).scope)
   names_from [] layout [] [] fits same once suit = (tt, refl)
   names_from [] layout [] (o ∷ others) fits same once suit = absurd suit
   names_from [] layout (x ∷ types) others fits same once suit = absurd suit
@@ -147,35 +150,35 @@ module _ (file : File) (elements : List Element) (all : AllWide (globals file).s
   names_from (name ∷ names) layout (given ∷ types) (taken ∷ others) fits same once suit =
       let one = name_is layout name given taken same.0 suit.0 in
       let n = neither (not (is_blank name) && has_name names name) (has_twice names) once in
-      let next = declaring_new (globals file) elements given name layout in
+      let next = declaring_new globals elements given name layout in
       let s = same_next layout name names given fits n.0 same.1 in
       let more = names_from names next types others s.0 s.1 n.1 suit.1 in (
-        (one.0, subst (λ x. AreSpots structs all x (all_defined (globals file) blocks names types) others (name_spots (globals file) elements next names types)) (sym one.1) more.0),
-        ap (behind_all structs all (all_defined (globals file) blocks names types)) one.1 ∙ more.1,
+        (one.0, subst (λ x. AreSpots structs all x (all_defined globals blocks names types) others (name_spots globals elements next names types)) (sym one.1) more.0),
+        ap (behind_all structs all (all_defined globals blocks names types)) one.1 ∙ more.1,
       )
 
   pub names_are : (names : List (List ℕ)) (types others : List ValueType) → has_twice names ≡ false → AllNamesSuit names types others
-      → AreSpots structs all (scope_of view) (all_defined (globals file) blocks names types) others (name_spots (globals file) elements view.site.layout names types)
-      × (behind_all structs all (all_defined (globals file) blocks names types) (scope_of view) ≡ (declaring_all (globals file) elements names types view.site.layout).scope)
+      → AreSpots structs all (scope_of view) (all_defined globals blocks names types) others (name_spots globals elements view.site.layout names types)
+      × (behind_all structs all (all_defined globals blocks names types) (scope_of view) ≡ (declaring_all globals elements names types view.site.layout).scope)
   names_are names types others once suit = names_from names view.site.layout types others fine.alike.fit (same_here names) once suit
 
   -- ---- names that are new
 
-  new_name : (name : List ℕ) (kind : ValueType) → is_some (own_variable view.checked name) ≡ false → new (globals file) blocks name kind ≡ defined (globals file) blocks name kind
+  new_name : (name : List ℕ) (kind : ValueType) → is_some (own_variable view.checked name) ≡ false → new globals blocks name kind ≡ defined globals blocks name kind
   new_name name kind none =
       go (is_blank name) (own_variable (scope_of view) name) (in_block (innermost blocks) name) (sym (there_alike (own_variable view.checked name) (own_variable (scope_of view) name) (own_alike view.checked (scope_of view) fine.alike name)) ∙ none)
-      (λ no-blank. own_block (globals file).structs ls (variables view) view.begins name
-      ∙ ap (λ n. option_map (seen_one (globals file).structs ls) (last_named (drop n (variables view)) name)) (sym fine.placed.outer)
-      ∙ ap (option_map (seen_one (globals file).structs ls)) (sym (ap (λ b. if b then None else last_named (drop (scope_of view).outer (variables view)) name) no-blank))) where
-        go : (b : Bool) (o : Option Variable) (there : Option Binding) → is_some o ≡ false → (b ≡ false → there ≡ option_map (seen_one (globals file).structs ls) o)
+      (λ no-blank. own_block globals.structs ls (variables view) view.begins name
+      ∙ ap (λ n. option_map (seen_one globals.structs ls) (last_named (drop n (variables view)) name)) (sym fine.placed.outer)
+      ∙ ap (option_map (seen_one globals.structs ls)) (sym (ap (λ b. if b then None else last_named (drop (scope_of view).outer (variables view)) name) no-blank))) where
+        go : (b : Bool) (o : Option Variable) (there : Option Binding) → is_some o ≡ false → (b ≡ false → there ≡ option_map (seen_one globals.structs ls) o)
             → (if b then Nowhere else New name kind) ≡ (if b then Nowhere else (if is_some there then Into name (whole (kind_of there)) else New name kind))
         go true o there none is = refl
         go false None there none is = subst (λ (t : Option Binding). New name kind ≡ (if is_some t then Into name (whole (kind_of t)) else New name kind)) (sym (is refl)) refl
         go false (Some v) there none is = absurd cc
 
-  pub new_names : (names : List (List ℕ)) (kinds : List ValueType) → AreNew view.checked names → all_new (globals file) blocks names kinds ≡ all_defined (globals file) blocks names kinds
+  pub new_names : (names : List (List ℕ)) (kinds : List ValueType) → AreNew view.checked names → all_new globals blocks names kinds ≡ all_defined globals blocks names kinds
   new_names [] kinds none = refl
   new_names (name ∷ names) [] none = refl
   new_names (name ∷ names) (kind ∷ kinds) none =
       let n = neither (is_some (own_variable view.checked name)) (list_any (λ name. is_some (own_variable view.checked name)) names) none in
-      ap (λ (d : Destination). d ∷ all_new (globals file) blocks names kinds) (new_name name kind n.0) ∙ ap (λ (l : List Destination). defined (globals file) blocks name kind ∷ l) (new_names names kinds n.1)
+      ap (λ (d : Destination). d ∷ all_new globals blocks names kinds) (new_name name kind n.0) ∙ ap (λ (l : List Destination). defined globals blocks name kind ∷ l) (new_names names kinds n.1)

@@ -1,14 +1,15 @@
 -- Where the innermost block begins matters to nothing but declarations: what is wrong with an expression is so in any block.
-use Rattle.std.proofs.Common.{◌≡◌, ℕ, ◌+◌, List, [], ◌∷◌, Option, Some, None, refl, ap, ◌∙◌, subst, inl, inr}
+use Rattle.std.proofs.Common.{◌≡◌, ℕ, ◌+◌, List, [], ◌∷◌, Option, Some, None, refl, ap, ◌∙◌, subst, inl, inr, option_map}
 use Rattle.std.specs.Prelude.{option_and_then}
 use Rattle.std.specs.Result.{result_ok}
-use Rattle.syntax.specs.Tree.{Expression, Integer, Named, Parenthesized, Selection, Composite, Unary, Binary, Expressions, NoMore, Behind, expressions_in}
-use Rattle.syntax.specs.Measures.{expression_size}
+use Rattle.syntax.specs.Tree.{Expression, Integer, Named, Parenthesized, Selection, Composite, Unary, Binary, Call, Receive, Make, MakeSized, Length, Capacity, TypeExpression, NamedType, ParenthesizedType, Channel, Expressions, NoMore, Behind, expressions_in}
+use Rattle.syntax.specs.Measures.{expression_size, type_size}
 use Rattle.typing_rules.specs.declared.flaw.Flaw.{Flaw}
-use Rattle.type_table.specs.Types.{ValueType}
-use Rattle.type_table.specs.Scopes.{Variable, Scope, Globals}
-use Rattle.typing_rules.specs.Worths.{selected_worth, unary_worth, binary_worth, literal_struct, worth}
-use Rattle.typing_rules.specs.Expressions.{nodes_of, ValueHas, UnaryHas, BinaryHas, SelectionHas, ValuesFail, FieldsHave, LiteralHas, ConditionHas, ExpressionHas, ExpressionsHave, TestHas}
+use Rattle.type_table.specs.Types.{ValueType, ChannelType}
+use Rattle.type_table.specs.Scopes.{Variable, Scope, Globals, type_in}
+use Rattle.typing_rules.specs.Worths.{selected_worth, unary_worth, binary_worth, literal_struct, worth, Typed, element_of}
+use Rattle.typing_rules.specs.Expressions.{nodes_of, ValueHas, UnaryHas, BinaryHas, SelectionHas, ValuesFail, FieldsHave, LiteralHas, ConditionHas, ExpressionHas, ExpressionsHave, TestHas, CalleeHas, ChannelHas, ReceivedHas, TypeHas, MadeHas, SizeHas}
+use Rattle.typing_rules.specs.Calls.{Callee, NotDeclared, NoFunction, IsFunction, callee, made_of}
 
 module _ (globals : Globals) (variables : List Variable) (a b n m : ℕ) where
   abbrev pub one : Scope
@@ -16,6 +17,11 @@ module _ (globals : Globals) (variables : List Variable) (a b n m : ℕ) where
 
   abbrev pub other : Scope
   other = record { variables = variables; outer = b; words = m }
+
+  pub type_same : (types : List (List ℕ)) (kind : TypeExpression) → type_in types one kind ≡ type_in types other kind
+  type_same types (NamedType name) = refl
+  type_same types (ParenthesizedType inner) = type_same types inner
+  type_same types (Channel direction element) = ap (option_map (ChannelType direction)) (type_same types element)
 
   pub worth_same : (e : Expression) → worth globals one e ≡ worth globals other e
   worth_same (Integer value) = refl
@@ -27,6 +33,12 @@ module _ (globals : Globals) (variables : List Variable) (a b n m : ℕ) where
   worth_same (Binary operator l r) =
       ap (option_and_then (λ x. option_and_then (λ y. result_ok (binary_worth operator x y)) (worth globals one r))) (worth_same l)
       ∙ ap (λ o. option_and_then (λ x. option_and_then (λ y. result_ok (binary_worth operator x y)) o) (worth globals other l)) (worth_same r)
+  worth_same (Call function values trailing) = refl
+  worth_same (Receive channel) = ap (λ o. option_map Typed (element_of o)) (worth_same channel)
+  worth_same (Make kind) = ap (λ o. option_map Typed (made_of o)) (type_same globals.types kind)
+  worth_same (MakeSized kind size) = ap (λ o. option_map Typed (made_of o)) (type_same globals.types kind)
+  worth_same (Length channel) = refl
+  worth_same (Capacity channel) = refl
 
   pub fail_same : (es : List Expression) (kinds : List (Option ValueType)) (first : ℕ) (flaw : Flaw) → ValuesFail globals one first es kinds flaw → ValuesFail globals other first es kinds flaw
   fail_same [] kinds first flaw h = h
@@ -42,6 +54,12 @@ module _ (globals : Globals) (variables : List Variable) (a b n m : ℕ) where
   literal_same : (o : Option ℕ) (es : List Expression) (first end : ℕ) (flaw : Flaw) → LiteralHas globals one o first es end flaw → LiteralHas globals other o first es end flaw
   literal_same None es first end flaw h = h
   literal_same (Some number) es first end flaw h = fields_same es _ first end flaw h
+
+  pub callee_same : (c : Callee) (first : ℕ) (es : List Expression) (end : ℕ) (flaw : Flaw) → CalleeHas globals one c first es end flaw → CalleeHas globals other c first es end flaw
+  callee_same NotDeclared first es end flaw h = h
+  callee_same NoFunction first es end flaw h = h
+  callee_same (IsFunction number) first es end flaw (inl h) = inl h
+  callee_same (IsFunction number) first es end flaw (inr h) = inr (fail_same es _ first flaw h)
 
   mutual
     pub has_same : (e : Expression) (first : ℕ) (flaw : Flaw) → ExpressionHas globals one first e flaw → ExpressionHas globals other first e flaw
@@ -59,6 +77,22 @@ module _ (globals : Globals) (variables : List Variable) (a b n m : ℕ) where
     has_same (Binary operator l r) first flaw (inr (inr h)) =
         inr (inr (subst (λ o. BinaryHas operator o (worth globals other r) (nodes_of first l) (nodes_of (first + expression_size l) r) (first + expression_size (Binary operator l r)) flaw) (worth_same l)
         (subst (λ o. BinaryHas operator (worth globals one l) o (nodes_of first l) (nodes_of (first + expression_size l) r) (first + expression_size (Binary operator l r)) flaw) (worth_same r) h)))
+    has_same (Call function values trailing) first flaw (inl (inl h)) = inl (inl (have_same values first flaw h))
+    has_same (Call function values trailing) first flaw (inl (inr h)) = inl (inr (callee_same (callee globals one function) (first) (expressions_in values) (first + expression_size (Call function values trailing)) flaw h))
+    has_same (Call function values trailing) first flaw (inr h) = inr h
+    has_same (Receive channel) first flaw (inl h) = inl (has_same channel first flaw h)
+    has_same (Receive channel) first flaw (inr (inl h)) = inr (inl (subst (λ o. ChannelHas o (nodes_of first channel) flaw) (worth_same channel) h))
+    has_same (Receive channel) first flaw (inr (inr h)) = inr (inr (subst (λ o. ReceivedHas o (first + expression_size channel + 1) flaw) (worth_same channel) h))
+    has_same (Make kind) first flaw (inl h) = inl (subst (λ o. TypeHas o first flaw) (type_same globals.types kind) h)
+    has_same (Make kind) first flaw (inr h) = inr (subst (λ o. MadeHas o (first + expression_size (Make kind)) flaw) (type_same globals.types kind) h)
+    has_same (MakeSized kind size) first flaw (inl h) = inl (subst (λ o. TypeHas o first flaw) (type_same globals.types kind) h)
+    has_same (MakeSized kind size) first flaw (inr (inl h)) = inr (inl (has_same size (first + type_size kind) flaw h))
+    has_same (MakeSized kind size) first flaw (inr (inr (inl h))) = inr (inr (inl (subst (λ o. SizeHas o (nodes_of (first + type_size kind) size) flaw) (worth_same size) h)))
+    has_same (MakeSized kind size) first flaw (inr (inr (inr h))) = inr (inr (inr (subst (λ o. MadeHas o (first + expression_size (MakeSized kind size)) flaw) (type_same globals.types kind) h)))
+    has_same (Length channel) first flaw (inl h) = inl (has_same channel first flaw h)
+    has_same (Length channel) first flaw (inr h) = inr (subst (λ o. ChannelHas o (nodes_of first channel) flaw) (worth_same channel) h)
+    has_same (Capacity channel) first flaw (inl h) = inl (has_same channel first flaw h)
+    has_same (Capacity channel) first flaw (inr h) = inr (subst (λ o. ChannelHas o (nodes_of first channel) flaw) (worth_same channel) h)
 
     pub have_same : (es : Expressions) (first : ℕ) (flaw : Flaw) → ExpressionsHave globals one first es flaw → ExpressionsHave globals other first es flaw
     have_same NoMore first flaw h = h

@@ -4,30 +4,28 @@ use Rattle.std.specs.Prelude.{if◌then◌else◌, not, ◌&&◌}
 use Rattle.std.specs.Option.{is_none}
 use Rattle.std.proofs.lemmas.Option.{same_Some}
 use Rattle.go_text.specs.declared.rule.Rule.TheVariants as rules
-use Rattle.syntax.specs.Tree.{Place, File}
-use Rattle.bytecode.specs.Code.{Function as CodeFunction, Code}
+use Rattle.syntax.specs.Tree.{Place}
 use Rattle.type_table.specs.Types.{ValueType}
 use Rattle.type_table.specs.Containment.{Structs}
-use Rattle.type_table.specs.Scopes.{Variable, Scope, Yield, is_blank, variable_named, later, last_named}
+use Rattle.type_table.specs.Scopes.{Variable, Scope, is_blank, variable_named, later, last_named, Globals}
 use Rattle.type_table.specs.Zeros.{zero_words}
 use Rattle.typing_rules.specs.Worths.{kind_of as kind_found, type_of_field}
 use Rattle.typing_rules.specs.Operations.{variable_at, followed, selected, place_type, PlaceHas, PathHas, PlacesHave}
 use Rattle.meaning.specs.Values.{known, Slot, slot, slot_along, whole}
 use Rattle.meaning.specs.Variables.{Blocks, kind_of, Nowhere, Into}
 use Rattle.meaning.specs.Destinations.{place_slot, placed}
-use Rattle.meaning.specs.Source.{globals}
-use Rattle.codegen_base.specs.declared.element.Element.{Element}
 use Rattle.codegen_base.specs.Statements.{Dropped, Local, width, spot_of, place_spot, place_spots}
 use Rattle.plan.proofs.Words.{Words}
 use Rattle.codegen_base.proofs.Alike.{kind_if, kind_alike, variable_alike}
-use Rattle.codegen_base.proofs.Fields.{AllWide, Holds}
+use Rattle.codegen_base.proofs.Fields.{Holds}
 use Rattle.codegen_base.proofs.Likeness.{kinds_long}
 use Rattle.codegen_base.proofs.Seen.{seen_one, seen, seen_lookup}
 use Rattle.codegen_base.proofs.Static.{AllKnown}
 use Rattle.codegen_base.proofs.Assigned.{IsSpot, behind_destination, behind_all, AreSpots}
 use Rattle.codegen_base.proofs.Typing.{Free, broken}
-use Rattle.codegen_follows.proofs.Paths.{AllKnown as FieldsKnown, leads}
+use Rattle.codegen_follows.proofs.Paths.{leads}
 use Rattle.codegen_follows.proofs.Stands.{View, scope_of, variables, Fine}
+use Rattle.codegen_base.proofs.Running.{Compiled, Coded}
 
 pub known_named : (vs : List Variable) (name : List ℕ) (v : Variable) → AllKnown vs → last_named vs name ≡ Some v → v.kind ≡ Some (known v.kind)
 known_named [] name v k e = absurd cc
@@ -50,12 +48,14 @@ both None b e never = absurd (never refl)
 both (Some v) None e never = absurd cc
 both (Some v) (Some w) e never = record { one = v; other = w; one_is = refl; other_is = refl; kind_is = kind_alike (Some v) (Some w) e }
 
-module _ (file : File) (elements : List Element) (all : AllWide (globals file).structs) (fields_known : FieldsKnown (globals file).structs) (code : Code) (result : Yield) (f : CodeFunction) (ls : Words) (view : View) (fine : Fine file elements all code result f view) where
+module _ {globals : Globals} {program : Compiled globals} (coded : Coded program) (ls : Words) (view : View) (fine : Fine coded view) where
+  open program use {elements, wide as all}
+
   abbrev structs : Structs
-  structs = (globals file).structs
+  structs = globals.structs
 
   abbrev blocks : Blocks
-  blocks = seen (globals file).structs ls (variables view) view.begins
+  blocks = seen globals.structs ls (variables view) view.begins
 
   abbrev scope : Scope
   scope = scope_of view
@@ -66,15 +66,15 @@ module _ (file : File) (elements : List Element) (all : AllWide (globals file).s
     pub from : ℕ
     pub kind : ValueType
     pub found : last_named (variables view) place.name ≡ Some variable
-    pub held : Holds (globals file).structs (known variable.kind) from kind
-    pub selected_is : selected (globals file) (scope_of view) place ≡ Some (record { place = variable.place + from; kind = Some kind })
-    pub slot_is : place_slot (globals file) (seen (globals file).structs ls (variables view) view.begins) place ≡ slot from kind
-    pub checked_is : place_type (globals file) view.checked place ≡ Some kind
+    pub held : Holds globals.structs (known variable.kind) from kind
+    pub selected_is : selected globals (scope_of view) place ≡ Some (record { place = variable.place + from; kind = Some kind })
+    pub slot_is : place_slot globals (seen globals.structs ls (variables view) view.begins) place ≡ slot from kind
+    pub checked_is : place_type globals view.checked place ≡ Some kind
 
   unblanked : (s : Scope) (name : List ℕ) → is_blank name ≡ false → variable_named s name ≡ last_named s.variables name
   unblanked s name no-blank = ap (λ b. if b then None else last_named s.variables name) no-blank
 
-  pub reaches : (place : Place) (first : ℕ) → is_blank place.name ≡ false → Free (PlaceHas (globals file) view.checked first place) → Reaches place
+  pub reaches : (place : Place) (first : ℕ) → is_blank place.name ≡ false → Free (PlaceHas globals view.checked first place) → Reaches place
   reaches place first no-blank free =
       let name = place.name in
       let b = both (variable_named view.checked name) (variable_named scope name) (variable_alike view.checked scope fine.alike name)
@@ -83,8 +83,8 @@ module _ (file : File) (elements : List Element) (all : AllWide (globals file).s
       let found = sym (unblanked scope name no-blank) ∙ b.other_is in
       let has-kind : v.kind ≡ Some (known v.kind) = known_named (variables view) name v fine.placed.known found in
       let path : Free (λ flaw. PathHas structs (Some (known v.kind)) place.fields (first + 1) flaw) = λ flaw x. free flaw (inr (inr (subst (λ o. PathHas structs o place.fields (first + 1) flaw) (sym (ap kind_found b.one_is ∙ b.kind_is ∙ has-kind)) x))) in
-      let lead = leads structs all fields_known place.fields (known v.kind) v.place (first + 1) (omega arith) path in
-      let checked = leads structs all fields_known place.fields (known v.kind) b.one.place (first + 1) (omega arith) path in
+      let lead = leads structs all program.types_known.fields place.fields (known v.kind) v.place (first + 1) (omega arith) path in
+      let checked = leads structs all program.types_known.fields place.fields (known v.kind) b.one.place (first + 1) (omega arith) path in
       let zero : 0 + lead.from ≡ lead.from = omega arith in
       let same-kind : checked.at ≡ lead.at = ap (λ (s : Slot). s.kind) (sym (checked.slot_is 0) ∙ lead.slot_is 0) in
       record {
@@ -105,40 +105,40 @@ module _ (file : File) (elements : List Element) (all : AllWide (globals file).s
 
   -- a value has the words that its place takes; `_` takes any
   abbrev pub Suits : Place → ValueType → ValueType → Type 0
-  Suits place given taken = zero_words (globals file).structs taken ≡ zero_words (globals file).structs (if is_blank place.name then given else known (place_type (globals file) view.checked place))
+  Suits place given taken = zero_words globals.structs taken ≡ zero_words globals.structs (if is_blank place.name then given else known (place_type globals view.checked place))
 
-  place_is : (place : Place) (first : ℕ) (given taken : ValueType) → Free (PlaceHas (globals file) view.checked first place) → Suits place given taken → IsSpot structs scope (placed (globals file) blocks place) taken (place_spot (globals file) elements scope place given)
+  place_is : (place : Place) (first : ℕ) (given taken : ValueType) → Free (PlaceHas globals view.checked first place) → Suits place given taken → IsSpot structs scope (placed globals blocks place) taken (place_spot globals elements scope place given)
   place_is place first given taken free suits = go (is_blank place.name) refl suits where
-    go : (b : Bool) → is_blank place.name ≡ b → zero_words structs taken ≡ zero_words structs (if b then given else known (place_type (globals file) view.checked place))
-        → IsSpot structs scope (if b then Nowhere else Into place.name (place_slot (globals file) blocks place)) taken (if b then Dropped (width (globals file) elements scope given) else spot_of (globals file) elements scope (selected (globals file) scope place))
+    go : (b : Bool) → is_blank place.name ≡ b → zero_words structs taken ≡ zero_words structs (if b then given else known (place_type globals view.checked place))
+        → IsSpot structs scope (if b then Nowhere else Into place.name (place_slot globals blocks place)) taken (if b then Dropped (width globals elements scope given) else spot_of globals elements scope (selected globals scope place))
     go true is suits = ap Dropped (kinds_long structs elements given ∙ ap length (sym suits))
     go false is suits =
         let r = reaches place first is free in
-        subst (λ (s : Slot). IsSpot structs scope (Into place.name s) taken (spot_of (globals file) elements scope (selected (globals file) scope place))) (sym r.slot_is) (
+        subst (λ (s : Slot). IsSpot structs scope (Into place.name s) taken (spot_of globals elements scope (selected globals scope place))) (sym r.slot_is) (
           r.variable,
           r.found,
           r.held,
           sym (suits ∙ ap (λ o. zero_words structs (known o)) r.checked_is),
-          ap (spot_of (globals file) elements scope) r.selected_is ∙ ap (Local (r.variable.place + r.from)) (kinds_long structs elements r.kind),
+          ap (spot_of globals elements scope) r.selected_is ∙ ap (Local (r.variable.place + r.from)) (kinds_long structs elements r.kind),
         )
 
   -- a place declares nothing
-  place_stays : (place : Place) → behind_destination structs (placed (globals file) blocks place) scope ≡ scope
+  place_stays : (place : Place) → behind_destination structs (placed globals blocks place) scope ≡ scope
   place_stays place = go (is_blank place.name) where
-    go : (b : Bool) → behind_destination structs (if b then Nowhere else Into place.name (place_slot (globals file) blocks place)) scope ≡ scope
+    go : (b : Bool) → behind_destination structs (if b then Nowhere else Into place.name (place_slot globals blocks place)) scope ≡ scope
     go true = refl
     go false = refl
 
-  pub places_stay : (places : List Place) → behind_all structs all (map (placed (globals file) blocks) places) scope ≡ scope
+  pub places_stay : (places : List Place) → behind_all structs all (map (placed globals blocks) places) scope ≡ scope
   places_stay [] = refl
-  places_stay (place ∷ places) = ap (behind_all structs all (map (placed (globals file) blocks) places)) (place_stays place) ∙ places_stay places
+  places_stay (place ∷ places) = ap (behind_all structs all (map (placed globals blocks) places)) (place_stays place) ∙ places_stay places
 
   abbrev pub AllSuit : List Place → List ValueType → List ValueType → Type 0
   AllSuit [] [] [] = Unit {0}
   AllSuit (place ∷ places) (given ∷ types) (taken ∷ others) = Suits place given taken × AllSuit places types others
   AllSuit places types others = ⊥
 
-  pub places_are : (places : List Place) (first : ℕ) (types others : List ValueType) → Free (PlacesHave (globals file) view.checked first places) → AllSuit places types others → AreSpots structs all scope (map (placed (globals file) blocks) places) others (place_spots (globals file) elements scope places types)
+  pub places_are : (places : List Place) (first : ℕ) (types others : List ValueType) → Free (PlacesHave globals view.checked first places) → AllSuit places types others → AreSpots structs all scope (map (placed globals blocks) places) others (place_spots globals elements scope places types)
   places_are [] first [] [] free suit = tt
   places_are [] first [] (o ∷ others) free suit = absurd suit
   places_are [] first (x ∷ types) others free suit = absurd suit
@@ -146,5 +146,5 @@ module _ (file : File) (elements : List Element) (all : AllWide (globals file).s
   places_are (place ∷ places) first (given ∷ types) [] free suit = absurd suit
   places_are (place ∷ places) first (given ∷ types) (taken ∷ others) free suit = (
     place_is place first given taken (λ flaw x. free flaw (inl x)) suit.0,
-    subst (λ s. AreSpots structs all s (map (placed (globals file) blocks) places) others (place_spots (globals file) elements scope places types)) (sym (place_stays place)) (places_are places (first + 1) types others (λ flaw x. free flaw (inr x)) suit.1),
+    subst (λ s. AreSpots structs all s (map (placed globals blocks) places) others (place_spots globals elements scope places types)) (sym (place_stays place)) (places_are places (first + 1) types others (λ flaw x. free flaw (inr x)) suit.1),
   )

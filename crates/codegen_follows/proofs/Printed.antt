@@ -1,50 +1,48 @@
 -- What is printed.
-use Rattle.std.proofs.Common.{◌≡◌, ℕ, suc, ◌+◌, ◌≤◌, Bool, cond, List, [], ◌∷◌, ◌++◌, length, map, Option, Some, None, Ok, refl, sym, ap, ◌∙◌, subst, arith, append_assoc, slice_get, inl, inr}
+use Rattle.std.proofs.Common.{◌≡◌, ℕ, suc, ◌+◌, ◌≤◌, Bool, cond, List, [], ◌∷◌, ◌++◌, length, map, Option, Some, None, refl, sym, ap, ◌∙◌, subst, arith, append_assoc, slice_get, inl, inr}
 use Rattle.std.proofs.lemmas.List.{append-nil}
 use Rattle.go_text.specs.declared.rule.Rule.TheVariants as rules
-use Rattle.syntax.specs.Tree.{Part, Value as ValuePart, Text, Print, File}
+use Rattle.syntax.specs.Tree.{Part, Value as ValuePart, Text, Print}
 use Rattle.syntax.specs.Measures.{part_size}
 use Rattle.bytecode.specs.declared.instr.Instr.TheVariants as instrs
 use Rattle.bytecode.specs.declared.table.Part.{Part as TablePart}
 use Rattle.bytecode.specs.declared.table.Part.TheVariants as table_parts
-use Rattle.bytecode.specs.Code.{Function as CodeFunction, Code}
 use Rattle.bytecode.specs.Effects.{part_kinds, print_kinds}
-use Rattle.bytecode.specs.Machine.{Frames as CodeFrames, if_there, printed_by, printed_rest, part_text as machine_text, part_rest, printed as machine_printed}
-use Rattle.word.specs.declared.panic.Panic.{Panic as Cause}
+use Rattle.bytecode.specs.Machine.{Frames as CodeFrames, printed_by, printed_rest, part_text as machine_text, part_rest}
 use Rattle.word.specs.declared.value.Word.{Word}
 use Rattle.word.specs.Text.{text_of}
 use Rattle.word.specs.Values.{Request, Panic}
 use Rattle.word.specs.Values as requests
-use Rattle.word.specs.Kinds.{Next, Asks}
 use Rattle.type_table.specs.Types.{IntType, BoolType, StructType, ChannelType}
-use Rattle.type_table.specs.Containment.{Structs, fields_of}
-use Rattle.type_table.specs.Scopes.{Scope, Yield}
+use Rattle.type_table.specs.Containment.{Structs}
+use Rattle.type_table.specs.Scopes.{Scope, Globals}
 use Rattle.typing_rules.specs.Flaws.{Nodes}
 use Rattle.typing_rules.specs.Worths.{Worth, Typed, Constant, Nil, is_int, worth}
 use Rattle.typing_rules.specs.Expressions.{nodes_of, PrintedHas, default_type}
 use Rattle.typing_rules.specs.Simples.{PartsHave}
 use Rattle.meaning.specs.Values.{Value, known}
 use Rattle.meaning.specs.Variables.{Blocks}
-use Rattle.meaning.specs.Expressions.{and_then, word_in}
-use Rattle.meaning.specs.Tasks.{Task, Unused, Frames}
-use Rattle.meaning.specs.Source.{globals, valued, one, texts, spaced, printed, simple_next}
-use Rattle.codegen_base.specs.declared.element.Element.{Element}
+use Rattle.meaning.specs.Expressions.{word_in}
+use Rattle.meaning.specs.Tasks.{Course}
+use Rattle.meaning.specs.Source.{one, texts, spaced, printed, part_text, asks, simple_work}
 use Rattle.codegen_base.specs.Pushes.{pushes}
 use Rattle.codegen_base.specs.Statements.{printed_as, printed_part, pushes_parts, simple_plan}
-use Rattle.plan.specs.Plan.{Plan}
+use Rattle.plan.specs.Plan.{Plan, Do, Skip}
 use Rattle.plan.proofs.Words.{Words}
-use Rattle.plan.proofs.Steps.{spots as code_spots}
+use Rattle.plan.proofs.Steps.{prints}
 use Rattle.codegen_base.proofs.Alike.{worth_alike}
-use Rattle.codegen_base.proofs.Fields.{AllWide, AllTyped}
 use Rattle.codegen_base.proofs.Likeness.{is_int as is_int_word, is_bool}
-use Rattle.codegen_base.proofs.Seen.{Like, seen}
-use Rattle.codegen_base.proofs.Typing.{Free, FieldsKnown, Fits, broken, nodes_end, worth_there, not_false}
+use Rattle.codegen_base.proofs.Seen.{Like}
+use Rattle.codegen_base.proofs.Typing.{Free, Fits, broken, nodes_end, worth_there, not_false}
 use Rattle.codegen_base.proofs.Static.{variables_known}
-use Rattle.codegen_follows.proofs.Stands.{Around, View, scope_of, variables, Together, IsOn, Fine}
-use Rattle.codegen_follows.proofs.Valued.{Goes, value_here, valued_then, value_goes}
-use Rattle.codegen_follows.proofs.Follows.{Held, Sitting, Rest}
-use Rattle.codegen_follows.proofs.Channels.{Grounds}
-use Rattle.codegen_follows.proofs.Requests.{asked}
+use Rattle.codegen_follows.proofs.Stands.{scope_of, variables, PartsMake}
+use Rattle.codegen_follows.proofs.Valued.{value_goes}
+use Rattle.codegen_follows.proofs.Requests.{asks_alone}
+use Rattle.codegen_base.proofs.Running.{Compiled, Coded}
+use Rattle.codegen_follows.proofs.Simulated.{Simulated, at, Comes, Works, Position, here_blocks, On'}
+use Rattle.meaning.specs.Worked.{Worked, ready, and_then}
+use Rattle.codegen_base.proofs.Gave.{Follows, stays, bind as follows_then}
+use Rattle.word.specs.Kinds.{Asks}
 
 -- a value that is printed is one word
 record IsPrinted (structs : Structs) (w : Worth) : Type 0 where
@@ -105,69 +103,75 @@ says_value o ps texts w ws s =
 says_text : (bytes : List ℕ) (ps : List TablePart) (texts : List (List ℕ)) (ws : Words) → Says ps texts ws → Says (table_parts.Text bytes ∷ ps) (bytes ∷ texts) ws
 says_text bytes ps texts ws s = record { many = s.many; first = λ line. ap (λ (l : List ℕ). bytes ++ l) (s.rest line); rest = λ line. ap (λ (l : List ℕ). cond line (32 ∷ []) [] ++ (bytes ++ l)) (s.rest line) }
 
-abbrev print_asked : List ℕ → Next CodeFrames
-print_asked bytes = Asks (requests.Print bytes)
+module _ {globals : Globals} {program : Compiled globals} {coded : Coded program} {simulated : Simulated coded} (position : Position simulated) where
+  open program use {elements, code, wide as all}
+  open coded use {function as f, number as g, there, result}
+  open simulated use {running, running.{context, context.{callers as ds}}}
+  open position use {point, next, mid, tasks as k, together as t, rest as r, point.{locals as ls, around as l, view, fine, room, held as h}}
 
-module _ (file : File) (elements : List Element) (all : AllWide (globals file).structs) (typed : (n : ℕ) → AllTyped (globals file).structs (fields_of (globals file).structs n)) (known_fields : (s : Scope) → FieldsKnown (globals file) s) (code : Code)
-    (result : Yield) (g : ℕ) (f : CodeFunction) (there : slice_get code.functions g ≡ Some f) (cs : Frames) (ds : CodeFrames) (R : Frames → CodeFrames → Type 0) (Asked : Request → CodeFrames → Type 0) (panics : (cause : Cause) (d : CodeFrames) → Asked (Panic cause) d) where
-  abbrev at : ℕ → Words → Words → CodeFrames
-  at place ls stack = code_spots code g f there ds place ls stack
+  abbrev structs : Structs
+  structs = globals.structs
 
-  abbrev G : Next Frames → CodeFrames → Type 0
-  G x c = Goes file elements all typed known_fields code result g f there ds R Asked panics x c
+  abbrev Works' : Worked Course → CodeFrames → Type 0
+  Works' work c = Works simulated work c
 
-  module _ (sitting : Sitting file elements all typed known_fields code result g f there cs ds R Asked panics) (grounds : Grounds file elements code)
-      (ls : Words) (l : Around) (view next : View) (mid : Option ℕ) (k : List Task) (fine : Fine file elements all code result f view) (room : (scope_of view).words ≤ length ls) (h : Held file elements all typed known_fields code result g f there cs ds R Asked panics ls view)
-      (t : Together view next) (r : Rest file elements all typed known_fields code result g f there cs ds R Asked panics next l mid k) where
-    abbrev blocks : Blocks
-    blocks = seen (globals file).structs ls (variables view) view.begins
+  abbrev place_at : ℕ → Words → Words → CodeFrames
+  place_at place ls stack = at simulated place ls stack
 
-    abbrev On' : Plan → ℕ → Type 0
-    On' plan place = IsOn file elements all code result f l plan place mid
+  abbrev blocks : Blocks
+  blocks = here_blocks point
 
-    abbrev table : List Part → List TablePart
-    table parts = map (printed_part (globals file) elements (scope_of view)) parts
+  abbrev scope : Scope
+  scope = scope_of view
 
-    texts_go : (parts : List Part) (first : ℕ) (go : List (List ℕ) → Next Frames) (rest : Plan) (place : ℕ) (stack : Words) → Free (PartsHave (globals file) view.checked first parts) → On' (pushes_parts (globals file) elements (scope_of view) parts rest) place
-        → ((said : List (List ℕ)) (ws : Words) (to : ℕ) → Says (table parts) said ws → On' rest to → G (go said) (at to ls (stack ++ ws))) → G (valued (texts file blocks k cs parts) go) (at place ls stack)
-    texts_go [] first go rest place stack free on then' = subst (λ (s : Words). G (go []) (at place ls s)) (append-nil stack) (then' [] [] place (record { many = refl; first = λ line. refl; rest = λ line. refl }) on)
-    texts_go (Text bytes ∷ parts) first go rest place stack free on then' =
-        let V = λ (A B : Type 0). valued_then file elements all typed known_fields code result g f there ds R Asked panics {A = A} {B = B} in
-        subst (λ x. G x (at place ls stack)) (sym (V (List (List ℕ)) (List (List ℕ)) (texts file blocks k cs parts) (λ more. Ok (bytes ∷ more)) go))
-        (texts_go parts (first + part_size (Text bytes)) (λ more. go (bytes ∷ more)) rest place stack (λ flaw x. free flaw (inr x)) on (λ said ws to says on1. then' (bytes ∷ said) ws to (says_text bytes (table parts) said ws says) on1))
-    texts_go (ValuePart e ∷ parts) first go rest place stack free on then' =
-        let V = λ (A B : Type 0). valued_then file elements all typed known_fields code result g f there ds R Asked panics {A = A} {B = B} in
-        let o = value_here file elements all typed known_fields code result g f there ds R Asked panics ls l view fine room h.holding e in
-        let w = worth_there (globals file) view.checked (known_fields view.checked) (variables_known view.checked (scope_of view) fine.alike fine.placed.known) e first (λ flaw x. free flaw (inl (inl x))) in
-        let p = printable (globals file).structs w.0 (nodes_of first e) (nodes_end first e) (λ flaw x. free flaw (inl (inr (subst (λ o. PrintedHas o (nodes_of first e) flaw) (sym w.1) x)))) in
-        let here-is : worth (globals file) (scope_of view) e ≡ Some w.0 = sym (worth_alike view.checked (scope_of view) fine.alike (globals file) e) ∙ w.1 in
-        let others = pushes_parts (globals file) elements (scope_of view) parts rest in
-        let behind : List ℕ → Next Frames = λ text. valued (and_then (texts file blocks k cs parts) (λ more. Ok (text ∷ more))) go in
-        subst (λ x. G x (at place ls stack)) (sym (V (List ℕ) (List (List ℕ)) (and_then (one file blocks k cs e) (λ word. Ok (text_of word))) (λ text. and_then (texts file blocks k cs parts) (λ more. Ok (text ∷ more))) go
-        ∙ V Word (List ℕ) (one file blocks k cs e) (λ word. Ok (text_of word)) behind ∙ V Value Word o (λ words. Ok (word_in words)) (λ word. behind (text_of word))))
-        (value_goes file elements all typed known_fields code result g f there ds R Asked panics ls l view fine room h.holding e first w.0 (known (default_type (Some w.0))) (λ words. behind (text_of (word_in words))) others mid place stack (λ flaw x. free flaw (inl (inl x))) w.1 p.fit
-        (subst (λ o. On' (pushes (globals file) elements (scope_of view) (known (default_type o)) e others) place) here-is on)
-        (λ v like to on1.
-        let x = p.one v like in
-        subst (λ (y : Value). G (behind (text_of (word_in y))) (at to ls (stack ++ y))) (sym x.1)
-        (subst (λ z. G z (at to ls (stack ++ x.0 ∷ []))) (sym (V (List (List ℕ)) (List (List ℕ)) (texts file blocks k cs parts) (λ more. Ok (text_of x.0 ∷ more)) go))
-        (texts_go parts (first + part_size (ValuePart e)) (λ more. go (text_of x.0 ∷ more)) rest to (stack ++ x.0 ∷ []) (λ flaw y. free flaw (inr y)) on1
-        (λ said ws to2 says on2. subst (λ (s : Words). G (go (text_of x.0 ∷ said)) (at to2 ls s)) (sym (append_assoc stack (x.0 ∷ []) ws))
-        (then' (text_of x.0 ∷ said) (x.0 ∷ ws) to2 (says_value (worth (globals file) (scope_of view) e) (table parts) said x.0 ws says) on2))))))
+  abbrev On : Plan → ℕ → Type 0
+  On plan place = On' point plan place mid
 
-    pub print_goes : (line trailing : Bool) (parts : List Part) (first place : ℕ) → Free (PartsHave (globals file) view.checked first parts) → slice_get code.prints view.site.prints ≡ Some (record { parts = table parts; line = line })
-        → On' (simple_plan (globals file) elements view.site.layout view.site.prints (Print line parts trailing)) place → variables next ≡ variables view → G (simple_next file blocks k cs (Print line parts trailing)) (at place ls [])
-    print_goes line trailing parts first place free is on same =
-        texts_go parts first _ _ place [] free on (λ said ws to says on1.
-        asked file elements all typed known_fields code result g f there cs ds R Asked panics sitting grounds ls l view next mid k fine room h t r (requests.Print (printed line said)) [] Unused to ws (record {
-          instr = instrs.Print view.site.prints;
-          there = on1.0;
-          pops_are = ap (λ o. length (print_kinds o)) is ∙ says.many;
-          told = refl;
-          asks = λ d callers. ap (λ o. if_there o (λ x. Asks (requests.Print (machine_printed x ws)))) is ∙ ap print_asked (says.first line);
-          starts = tt;
-          types = [];
-          zeros_are = refl;
-          gives_are = refl;
-          taking = (on1.1, same);
-        }))
+  abbrev table : List Part → List TablePart
+  table parts = map (printed_part globals elements scope) parts
+
+  -- what is said, in words that lie on the stack
+  abbrev Said : List Part → Plan → Words → List (List ℕ) → CodeFrames → Type 0
+  Said parts rest stack said d = (ws : Words) × (to : ℕ) × Says (table parts) said ws × (d ≡ place_at to ls (stack ++ ws)) × On rest to
+
+  texts_there : (parts : List Part) (first : ℕ) (rest : Plan) (place : ℕ) (stack : Words) → Free (PartsHave globals view.checked first parts) → PartsMake globals elements parts → On (pushes_parts globals elements scope parts rest) place
+      → Follows context (texts globals blocks k parts) (Said parts rest stack) (place_at place ls stack)
+  texts_there [] first rest place stack free makes on =
+      stays context [] (Said [] rest stack) (place_at place ls stack) ([], place, record { many = refl; first = λ line. refl; rest = λ line. refl }, ap (λ (s : Words). place_at place ls s) (sym (append-nil stack)), on)
+  texts_there (Text bytes ∷ parts) first rest place stack free makes on =
+      follows_then context (texts globals blocks k parts) (λ more. ready (bytes ∷ more)) (Said parts rest stack) (Said (Text bytes ∷ parts) rest stack) (place_at place ls stack)
+      (texts_there parts (first + part_size (Text bytes)) rest place stack (λ flaw x. free flaw (inr x)) makes on)
+      (λ said d n. stays context (bytes ∷ said) (Said (Text bytes ∷ parts) rest stack) d (n.0, n.1, says_text bytes (table parts) said n.0 n.2, n.3, n.4))
+  texts_there (ValuePart e ∷ parts) first rest place stack free makes on =
+      let w = worth_there globals view.checked program.types_known (variables_known view.checked scope fine.alike fine.placed.known) e first (λ flaw x. free flaw (inl (inl x))) in
+      let p = printable structs w.0 (nodes_of first e) (nodes_end first e) (λ flaw x. free flaw (inl (inr (subst (λ o. PrintedHas o (nodes_of first e) flaw) (sym w.1) x)))) in
+      let here-is : worth globals scope e ≡ Some w.0 = sym (worth_alike view.checked scope fine.alike globals e) ∙ w.1 in
+      let others = pushes_parts globals elements scope parts rest in
+      let Goal = Said (ValuePart e ∷ parts) rest stack in
+      let behind : List ℕ → Worked (List (List ℕ)) = λ text. and_then (texts globals blocks k parts) (λ more. ready (text ∷ more)) in
+      let T : List ℕ → CodeFrames → Type 0 = λ text d. (x : Word) × (to : ℕ) × (text ≡ text_of x) × (d ≡ place_at to ls (stack ++ x ∷ [])) × On others to in
+      let O : Word → CodeFrames → Type 0 = λ word d. (to : ℕ) × (d ≡ place_at to ls (stack ++ word ∷ [])) × On others to in
+      follows_then context (part_text globals blocks k (ValuePart e)) behind T Goal (place_at place ls stack)
+      (follows_then context (one globals blocks k e) (λ word. ready (text_of word)) O T (place_at place ls stack)
+      (value_goes point e first w.0 (known (default_type (Some w.0))) (λ words. ready (word_in words)) O others mid place stack (λ flaw x. free flaw (inl (inl x))) makes.0 w.1 p.fit
+      (subst (λ o. On (pushes globals elements scope (known (default_type o)) e others) place) here-is on)
+      (λ v like to on1. let x = p.one v like in
+      subst (λ (y : Value). Follows context (ready (word_in y)) O (place_at to ls (stack ++ y))) (sym x.1) (stays context x.0 O (place_at to ls (stack ++ x.0 ∷ [])) (to, refl, on1))))
+      (λ word d m. stays context (text_of word) T d (word, m.0, refl, m.1, m.2)))
+      (λ text d m. subst (λ (y : List ℕ). Follows context (behind y) Goal d) (sym m.2) (subst (λ y. Follows context (behind (text_of m.0)) Goal y) (sym m.3)
+      (follows_then context (texts globals blocks k parts) (λ more. ready (text_of m.0 ∷ more)) (Said parts rest (stack ++ m.0 ∷ [])) Goal (place_at m.1 ls (stack ++ m.0 ∷ []))
+      (texts_there parts (first + part_size (ValuePart e)) rest m.1 (stack ++ m.0 ∷ []) (λ flaw y. free flaw (inr y)) makes.1 m.4)
+      (λ said e' n. stays context (text_of m.0 ∷ said) Goal e' (m.0 ∷ n.0, n.1, says_value (worth globals scope e) (table parts) said m.0 n.0 n.2, n.3 ∙ ap (λ (s : Words). place_at n.1 ls s) (append_assoc stack (m.0 ∷ []) n.0), n.4)))))
+
+  pub print_goes : (line trailing : Bool) (parts : List Part) (first place : ℕ) → Free (PartsHave globals view.checked first parts) → PartsMake globals elements parts → slice_get code.prints view.site.prints ≡ Some (record { parts = table parts; line = line })
+      → On (simple_plan globals elements view.site.layout view.site.prints (Print line parts trailing)) place → variables next ≡ variables view → Works' (simple_work globals blocks k (Print line parts trailing)) (place_at place ls [])
+  print_goes line trailing parts first place free makes is on same =
+      let i = instrs.Print view.site.prints in
+      follows_then context (texts globals blocks k parts) (λ all. asks globals blocks k (requests.Print (printed line all))) (Said parts (Do i Skip) []) (Comes simulated) (place_at place ls [])
+      (texts_there parts first (Do i Skip) place [] free makes on)
+      (λ said d n. subst (λ x. Works' (asks globals blocks k (requests.Print (printed line said))) x) (sym n.3)
+      (let ws = n.0 in
+      let s = n.2 in
+      let many = ap (λ o. length (print_kinds o)) is ∙ s.many in
+      asks_alone position (requests.Print (printed line said)) i ws n.1 n.4 many refl (prints code g f there ds n.1 ls [] ws view.site.prints (record { parts = table parts; line = line }) n.4.0 many is ∙ ap (λ (x : List ℕ). Asks (requests.Print x)) (s.first line)) refl
+      (running.calm (requests.Print (printed line said)) (place_at n.1 ls ws) tt) same))

@@ -1,17 +1,16 @@
 -- What is wrong with a simple statement that declares nothing is so in any block.
-use Rattle.std.proofs.Common.{◌≡◌, ℕ, ◌+◌, ◌==◌, ◌&&◌, List, [], ◌∷◌, length, Option, Some, None, option_map, refl, ap, ◌∙◌, subst, inl, inr}
-use Rattle.std.specs.Prelude.{if◌then◌else◌}
-use Rattle.syntax.specs.Tree.{TypeExpression, NamedType, ParenthesizedType, Channel, Expression, expressions, Arguments, Operation, Call, Receive, Make, Length, Capacity, Right, RightOperation, Values, Place, Part, Value, Text, Simple, CallAlone, Close, Print, ReceiveAlone, Send, Increment, Decrement, Assign, Define, Update}
-use Rattle.syntax.specs.Measures.{type_size, expression_size, arguments_size, operation_size, part_size, simple_size}
+use Rattle.std.proofs.Common.{◌≡◌, ℕ, ◌+◌, List, [], ◌∷◌, length, refl, ap, ◌∙◌, subst, inl, inr, ◌++◌}
+use Rattle.syntax.specs.Tree.{Expression, expressions, Arguments, Place, Part, Value, Text, Simple, CallAlone, Close, Print, ReceiveAlone, Send, Increment, Decrement, Assign, Define, Update}
+use Rattle.syntax.specs.Measures.{expression_size, arguments_size, part_size, simple_size}
 use Rattle.typing_rules.specs.declared.flaw.Flaw.{Flaw}
-use Rattle.type_table.specs.Types.{BoolType, ChannelType}
-use Rattle.type_table.specs.Scopes.{Variable, Scope, Globals, type_in}
-use Rattle.typing_rules.specs.Worths.{worth}
-use Rattle.typing_rules.specs.Expressions.{nodes_of, ValueHas, ChannelHas, ReceivedHas, SentHas, PrintedHas, element_of}
-use Rattle.typing_rules.specs.Operations.{Callee, NotDeclared, NoFunction, IsFunction, callee, CalleeHas, CallHas, TypeHas, MadeHas, SizeHas, IfSizeHas, ReceiveHas, MeasuredHas, OperationHas, made_of, operation_type, is_receive, Given, given_values, given_by, given, RightHas, place_type, PlacesFail, PlacesHave}
+use Rattle.type_table.specs.Scopes.{Variable, Scope, Globals}
+use Rattle.typing_rules.specs.Worths.{worth, element_of}
+use Rattle.typing_rules.specs.Expressions.{nodes_of, ValueHas, ChannelHas, ReceivedHas, SentHas, PrintedHas}
+use Rattle.typing_rules.specs.Operations.{CallHas, ReceiveHas, MeasuredHas, Given, given_values, given, RightHas, place_type, PlacesFail, PlacesHave, also_given}
 use Rattle.typing_rules.specs.Simples.{PartsHave, UpdatedHas, AssignedHave, SimpleHas}
 use Rattle.codegen_follows.proofs.Stands.{DeclaresNone}
-use Rattle.codegen_follows.proofs.Outers.{one, other, worth_same, fail_same, has_same, have_same}
+use Rattle.codegen_follows.proofs.Outers.{one, other, worth_same, has_same, have_same, callee_same}
+use Rattle.typing_rules.specs.Calls.{callee}
 
 module _ (globals : Globals) (variables : List Variable) (a b n m : ℕ) where
   abbrev s : Scope
@@ -23,22 +22,11 @@ module _ (globals : Globals) (variables : List Variable) (a b n m : ℕ) where
   worths : (e : Expression) → worth globals s e ≡ worth globals t e
   worths = worth_same globals variables a b n m
 
-  type_same : (types : List (List ℕ)) (kind : TypeExpression) → type_in types s kind ≡ type_in types t kind
-  type_same types (NamedType name) = refl
-  type_same types (ParenthesizedType inner) = type_same types inner
-  type_same types (Channel direction element) = ap (option_map (ChannelType direction)) (type_same types element)
-
-  -- ---- operations
-
-  callee_same : (c : Callee) (first : ℕ) (es : List Expression) (end : ℕ) (flaw : Flaw) → CalleeHas globals s c first es end flaw → CalleeHas globals t c first es end flaw
-  callee_same NotDeclared first es end flaw h = h
-  callee_same NoFunction first es end flaw h = h
-  callee_same (IsFunction number) first es end flaw (inl h) = inl h
-  callee_same (IsFunction number) first es end flaw (inr h) = inr (fail_same globals variables a b n m es _ first flaw h)
+  -- ---- calls
 
   call_same : (first : ℕ) (function : List ℕ) (arguments : Arguments) (flaw : Flaw) → CallHas globals s first function arguments flaw → CallHas globals t first function arguments flaw
   call_same first function arguments flaw (inl h) = inl (have_same globals variables a b n m (expressions arguments.values) first flaw h)
-  call_same first function arguments flaw (inr h) = inr (callee_same (callee globals s function) first arguments.values (first + arguments_size arguments + 1) flaw h)
+  call_same first function arguments flaw (inr h) = inr (callee_same globals variables a b n m (callee globals s function) first arguments.values (first + arguments_size arguments + 1) flaw h)
 
   measured_same : (first : ℕ) (e : Expression) (flaw : Flaw) → MeasuredHas globals s first e flaw → MeasuredHas globals t first e flaw
   measured_same first e flaw (inl h) = inl (has_same globals variables a b n m e first flaw h)
@@ -49,33 +37,10 @@ module _ (globals : Globals) (variables : List Variable) (a b n m : ℕ) where
   receive_same first e flaw (inr (inl h)) = inr (inl (subst (λ o. ChannelHas o (nodes_of first e) flaw) (worths e) h))
   receive_same first e flaw (inr (inr h)) = inr (inr (subst (λ o. ReceivedHas o (first + expression_size e + 1) flaw) (worths e) h))
 
-  size_same : (first : ℕ) (size : Option Expression) (flaw : Flaw) → IfSizeHas globals s first size flaw → IfSizeHas globals t first size flaw
-  size_same first None flaw h = h
-  size_same first (Some e) flaw (inl h) = inl (has_same globals variables a b n m e first flaw h)
-  size_same first (Some e) flaw (inr h) = inr (subst (λ o. SizeHas o (nodes_of first e) flaw) (worths e) h)
-
-  operation_same : (operation : Operation) (first : ℕ) (flaw : Flaw) → OperationHas globals s first operation flaw → OperationHas globals t first operation flaw
-  operation_same (Call function arguments) first flaw (inl h) = inl (call_same first function arguments flaw h)
-  operation_same (Call function arguments) first flaw (inr h) = inr h
-  operation_same (Receive e) first flaw h = receive_same first e flaw h
-  operation_same (Make kind size) first flaw (inl h) = inl (subst (λ o. TypeHas o first flaw) (type_same globals.types kind) h)
-  operation_same (Make kind size) first flaw (inr (inl h)) = inr (inl (size_same (first + type_size kind) size flaw h))
-  operation_same (Make kind size) first flaw (inr (inr h)) = inr (inr (subst (λ o. MadeHas o (first + operation_size (Make kind size)) flaw) (type_same globals.types kind) h))
-  operation_same (Length e) first flaw h = measured_same first e flaw h
-  operation_same (Capacity e) first flaw h = measured_same first e flaw h
-
-  types_same : (operation : Operation) → operation_type globals s operation ≡ operation_type globals t operation
-  types_same (Call function arguments) = refl
-  types_same (Receive e) = ap element_of (worths e)
-  types_same (Make kind size) = ap made_of (type_same globals.types kind)
-  types_same (Length e) = refl
-  types_same (Capacity e) = refl
-
   -- ---- right sides
 
-  right_same : (right : Right) (first : ℕ) (flaw : Flaw) → RightHas globals s first right flaw → RightHas globals t first right flaw
-  right_same (RightOperation operation) first flaw h = operation_same operation first flaw h
-  right_same (Values values) first flaw h = have_same globals variables a b n m (expressions values) first flaw h
+  right_same : (right : List Expression) (first : ℕ) (flaw : Flaw) → RightHas globals s first right flaw → RightHas globals t first right flaw
+  right_same values first flaw h = have_same globals variables a b n m (expressions values) first flaw h
 
   values_same : (values : List Expression) (first : ℕ) → given_values globals s first values ≡ given_values globals t first values
   values_same [] first = refl
@@ -83,9 +48,8 @@ module _ (globals : Globals) (variables : List Variable) (a b n m : ℕ) where
       ap (λ (l : List Given). record { worth = worth globals s e; nodes = nodes_of first e } ∷ l) (values_same es (first + expression_size e))
       ∙ ap (λ w. record { worth = w; nodes = nodes_of first e } ∷ given_values globals t (first + expression_size e) es) (worths e)
 
-  given_same : (right : Right) (places first : ℕ) → given globals s places first right ≡ given globals t places first right
-  given_same (Values values) places first = values_same values first
-  given_same (RightOperation operation) places first = ap (λ k. given_by first operation k ∷ (if (places == 2) && is_receive operation then given_by first operation (Some BoolType) ∷ [] else [])) (types_same operation)
+  given_same : (right : List Expression) (places first : ℕ) → given globals s places first right ≡ given globals t places first right
+  given_same right places first = ap (λ (l : List Given). l ++ also_given places first right) (values_same right first)
 
   -- ---- places
 

@@ -1,14 +1,13 @@
 -- The code of assignments puts values where they go, and comes to the tick.
-use Rattle.std.proofs.Common.{◌≡◌, ℕ, zero, suc, ◌+◌, ◌≤◌, Bool, true, false, List, [], ◌∷◌, ◌++◌, length, Option, Some, refl, sym, ap, ◌∙◌, subst, arith, length-append, slice_get}
+use Rattle.std.proofs.Common.{◌≡◌, ℕ, zero, suc, ◌+◌, ◌≤◌, Bool, true, false, List, [], ◌∷◌, ◌++◌, length, Option, refl, sym, ap, ◌∙◌, subst, arith, length-append}
 use Rattle.std.specs.Prelude.{if◌then◌else◌}
 use Rattle.std.proofs.lemmas.List.{take_all}
 use Rattle.bytecode.specs.declared.instr.Instr.TheVariants as instrs
-use Rattle.bytecode.specs.Code.{Function as CodeFunction, Code}
 use Rattle.bytecode.specs.Machine.{Frames as CodeFrames, code_next}
 use Rattle.word.specs.Related.{Slips, here}
 use Rattle.type_table.specs.Types.{ValueType}
 use Rattle.type_table.specs.Containment.{Structs}
-use Rattle.type_table.specs.Scopes.{Scope}
+use Rattle.type_table.specs.Scopes.{Scope, Globals}
 use Rattle.meaning.specs.Values.{Value, known}
 use Rattle.meaning.specs.Variables.{Blocks, Destination, Nowhere, New, Into, stored, all_stored}
 use Rattle.codegen_base.specs.Statements.{Spot, Dropped, Local, single_spots, singles, has_place, last_counts, assigns}
@@ -18,11 +17,12 @@ use Rattle.plan.proofs.Places.{At, On, Leads}
 use Rattle.plan.proofs.Steps.{spots as frames}
 use Rattle.codegen_base.proofs.Seen.{found_below}
 use Rattle.codegen_base.proofs.Static.{IsPlaced}
-use Rattle.codegen_base.proofs.Likeness.{like_long}
+use Rattle.codegen_base.proofs.Likeness.{like_long, AreLike, all_words_of}
 use Rattle.codegen_base.proofs.Fields.{AllWide, held_within}
 use Rattle.codegen_base.proofs.Stores.{spot_words, put_spot, put_forward, all_words, AreThere, singles_words, stored_forward}
 use Rattle.codegen_base.proofs.Storing.{stores_goes, all_goes}
-use Rattle.codegen_base.proofs.Assigned.{behind_destination, counted_words, placed_new, AreLike, all_words_of, AreSpots, behind_all, spot_long, more_words}
+use Rattle.codegen_base.proofs.Assigned.{behind_destination, counted_words, placed_new, AreSpots, behind_all, spot_long, more_words}
+use Rattle.codegen_base.proofs.Running.{Compiled, Coded, Running}
 
 -- ---- the words of spots, and their locals
 
@@ -55,7 +55,7 @@ singles_there many (Local place words ∷ spots) at = single_there many words pl
 
 module _ (structs : Structs) (all : AllWide structs) where
   -- values of the types take as many words as the spots
-  pub spots_words : (ds : List Destination) (types : List ValueType) (spots : List Spot) (vs : List Value) (scope : Scope) → AreSpots structs all scope ds types spots → AreLike structs all types vs → all_words spots ≡ length (all_words_of structs all vs)
+  pub spots_words : (ds : List Destination) (types : List ValueType) (spots : List Spot) (vs : List Value) (scope : Scope) → AreSpots structs all scope ds types spots → AreLike structs types vs → all_words spots ≡ length (all_words_of vs)
   spots_words [] [] [] [] scope are like = refl
   spots_words [] [] [] (v ∷ vs) scope are like = absurd like
   spots_words [] [] (spot ∷ spots) vs scope are like = absurd are
@@ -67,7 +67,7 @@ module _ (structs : Structs) (all : AllWide structs) where
       let one = spot_long structs all scope d kind spot are.0 in
       let long = like_long structs kind v like.0 in
       let more = spots_words ds types spots vs (behind_destination structs d scope) are.1 like.1 in
-      omega (arith, one, long, more, length-append v (all_words_of structs all vs))
+      omega (arith, one, long, more, length-append v (all_words_of vs))
 
   -- the locals of the spots are there
   pub spots_there : (ds : List Destination) (types : List ValueType) (spots : List Spot) (scope : Scope) (ns : List ℕ) (many : ℕ) → IsPlaced structs scope ns → AreSpots structs all scope ds types spots → (behind_all structs all ds scope).words ≤ many → AreThere many spots
@@ -88,7 +88,7 @@ module _ (structs : Structs) (all : AllWide structs) where
       subst (λ s. AreThere many (s ∷ spots)) (sym is) (omega (arith, m, room, inside, below.1), spots_there ds types spots scope ns many p are room)
 
   -- values that nothing takes are left
-  pub stored_kept : (ds : List Destination) (types : List ValueType) (spots : List Spot) (vs others : List Value) (scope : Scope) (blocks : Blocks) → AreSpots structs all scope ds types spots → AreLike structs all types vs → all_stored structs ds (vs ++ others) blocks ≡ all_stored structs ds vs blocks
+  pub stored_kept : (ds : List Destination) (types : List ValueType) (spots : List Spot) (vs others : List Value) (scope : Scope) (blocks : Blocks) → AreSpots structs all scope ds types spots → AreLike structs types vs → all_stored structs ds (vs ++ others) blocks ≡ all_stored structs ds vs blocks
   stored_kept [] types spots vs others scope blocks are like = refl
   stored_kept (d ∷ ds) [] spots vs others scope blocks are like = absurd are
   stored_kept (d ∷ ds) (kind ∷ types) [] vs others scope blocks are like = absurd are
@@ -97,7 +97,11 @@ module _ (structs : Structs) (all : AllWide structs) where
 
 -- ---- the code
 
-module _ (code : Code) (g : ℕ) (f : CodeFunction) (there : slice_get code.functions g ≡ Some f) (callers : CodeFrames) (leave again : Option ℕ) where
+module _ {globals : Globals} {program : Compiled globals} {coded : Coded program} (running : Running coded) (leave again : Option ℕ) where
+  open program use {code}
+  open coded use {number as g, function as f, there}
+  open running use {context.{callers}}
+
   abbrev Place : ℕ → Words → Words → CodeFrames
   Place place ls stack = frames code g f there callers place ls stack
 
@@ -113,11 +117,11 @@ module _ (code : Code) (g : ℕ) (f : CodeFunction) (there : slice_get code.func
   assigned_goes [] (w ∷ ws) ls place mid e at full on = absurd cc
   assigned_goes (spot ∷ []) ws ls place mid e at full on =
       let e' : spot_words spot ≡ length ws = omega (arith, e) in
-      let m = stores_goes code g f there callers leave again spot ws [] ls (Do instrs.Tick Skip) mid place e' at full on in
+      let m = stores_goes running leave again spot ws [] ls (Do instrs.Tick Skip) mid place e' at full on in
       (m.0, subst (λ (x : Words). Slips (code_next code) (Place place ls ws) (Place m.0 (put_spot spot x ls) [])) (sym (take_all (spot_words spot) ws (omega (arith, e')))) m.1, m.2.0, m.2.1)
   assigned_goes (spot ∷ (other ∷ others)) ws ls place mid e at full on =
       let spots : List Spot = spot ∷ (other ∷ others) in
       let e' : all_words (last_counts (singles spots)) ≡ length ws = last_words (singles spots) ∙ singles_words spots ∙ e in
-      let m = (all_goes code g f there callers leave again (last_counts (singles spots)) ws [] ls (Do instrs.Tick Skip) mid place e' (last_there (length f.locals) (singles spots) (singles_there (length f.locals) spots at)) full on).0 in
+      let m = (all_goes running leave again (last_counts (singles spots)) ws [] ls (Do instrs.Tick Skip) mid place e' (last_there (length f.locals) (singles spots) (singles_there (length f.locals) spots at)) full on).0 in
       let same = stored_forward spots ws ls (subst (λ n. AreThere n spots) (sym full) at) (omega (arith, e)) in
       (m.0, subst (λ (x : Words). Slips (code_next code) (Place place ls ws) (Place m.0 x [])) same m.1, m.2.0, m.2.1)

@@ -1,45 +1,33 @@
 -- Where the code stands of what is still to be done.
 use Rattle.std.proofs.Common.{◌≡◌, ℕ, ◌+◌, ◌≤◌, Bool, true, List, [], ◌∷◌, ◌++◌, length, map, take, drop, Option, Some, None, IfSome, slice_get}
-use Rattle.std.specs.Option.{is_some}
 use Rattle.syntax.specs.declared.node.Direction.{Direction}
-use Rattle.syntax.specs.Tree.{Expression, Simple, Statement, Block, Statements, Otherwise, File}
+use Rattle.syntax.specs.Tree.{Expression, Simple, Statement, Block, Statements, Otherwise}
 use Rattle.bytecode.specs.declared.instr.Instr.TheVariants as instrs
-use Rattle.bytecode.specs.declared.instr.Instr.{Instr}
-use Rattle.bytecode.specs.declared.table.Clause.{Clause as TableClause}
-use Rattle.bytecode.specs.Code.{PrintTable, SelectTable, Function as CodeFunction, Code}
-use Rattle.bytecode.specs.Effects.{gives, shape_kinds, clause_gives, clause_target}
-use Rattle.bytecode.specs.Machine.{Frame as CodeFrame, Frames as CodeFrames, zero_of, is_told, instr_next, pops, cases_of}
-use Rattle.word.specs.declared.request.Case.{Case}
-use Rattle.word.specs.Values.{Request}
-use Rattle.word.specs.Values as requests
-use Rattle.word.specs.Kinds.{Asks}
-use Rattle.word.specs.declared.value.Word.{Word}
-use Rattle.type_table.specs.Types.{ValueType, BoolType, ChannelType}
-use Rattle.type_table.specs.Scopes.{Variable, Scope, Yield, entered, left, last_named}
+use Rattle.bytecode.specs.Code.{PrintTable, Code}
+use Rattle.bytecode.specs.Effects.{shape_kinds}
+use Rattle.type_table.specs.Types.{ValueType, ChannelType}
+use Rattle.type_table.specs.Scopes.{Variable, Globals, Scope, entered, left, last_named}
 use Rattle.typing_rules.specs.Expressions.{TestHas}
 use Rattle.typing_rules.specs.Simples.{SimpleHas}
 use Rattle.typing_rules.specs.Statements.{Setting, after, after_all, StatementHas, StatementsHave, OtherwiseHas}
-use Rattle.typing_rules.specs.Operations.{parameters_of}
 use Rattle.type_table.specs.Zeros.{zero_words}
 use Rattle.meaning.specs.Values.{Value, known, words_in, words_like}
-use Rattle.meaning.specs.Destinations.{zero_result}
+use Rattle.meaning.specs.Expressions.{zero_result}
 use Rattle.meaning.specs.Variables.{Destination, blank}
-use Rattle.meaning.specs.Tasks.{Loop, Repeating, Ranging, Way, Task, Do, EndBlock, Decide, Head, Again, Turn, EndSelect, Ask, Store, GiveBack, Purpose, Unused, Assigned, GivenBack, NextItem, Chosen}
-use Rattle.meaning.specs.Source.{globals}
-use Rattle.codegen_base.specs.declared.element.Element.{Element}
+use Rattle.meaning.specs.Tasks.{Loop, Repeating, Ranging, Task, Do, EndBlock, Decide, Head, Again, Turn, EndSelect}
 use Rattle.codegen_base.specs.Pushes.{pushes_zeros, drops}
 use Rattle.codegen_base.specs.Statements.{Spot, assigns}
 use Rattle.codegen_base.specs.Elements.{kinds_of}
 use Rattle.codegen_base.specs.Generated.{Site, Made, past, ended, inside, loop, test_plan, made_post, made, made_all, made_otherwise, result_kinds}
-pub use Rattle.codegen_follows.proofs.Makes.{DeclaresNone, OperationMakes, RightMakes, SimpleMakes, ReturnedMakes, IfHeadMakes, ForHeadMakes, Makes, AllMake, BranchMakes, OtherwiseMakes, ClausesMake}
+pub use Rattle.codegen_follows.proofs.Makes.{DeclaresNone, OneMakes, ValuesMake, PartsMake, SimpleMakes, ReturnedMakes, IfHeadMakes, ForHeadMakes, CommMakes, Makes, AllMake, BranchMakes, OtherwiseMakes, ClausesMake}
 use Rattle.plan.specs.Plan.{Plan, Skip, Stop}
 use Rattle.plan.proofs.Places.{At, On, Leads}
 use Rattle.codegen_base.proofs.Alike.{Alike}
 use Rattle.codegen_base.proofs.Known.{VariablesNoted}
 use Rattle.codegen_base.proofs.Static.{innermost_begins, IsPlaced}
 use Rattle.codegen_base.proofs.Typing.{Free}
-use Rattle.codegen_base.proofs.Fields.{AllWide}
-use Rattle.codegen_base.proofs.Assigned.{AreLike, AreSpots, all_words_of, behind_all}
+use Rattle.codegen_base.proofs.Assigned.{AreSpots, behind_all}
+use Rattle.codegen_base.proofs.Running.{Compiled, Coded}
 
 -- where a break and a continue lead
 pub record Around : Type 0 where
@@ -53,11 +41,6 @@ nowhere = record { leave = None; again = None }
 -- in a way of a select a break leads behind the select
 abbrev pub in_way : Around → Option ℕ → Around
 in_way l out = record { leave = out; again = l.again }
-
--- values are assigned where there are destinations
-abbrev pub purpose_of : List Destination → Purpose
-purpose_of [] = Unused
-purpose_of (first ∷ more) = Assigned (first ∷ more)
 
 -- what is known of the variables at a place: where the layout has them, where each block begins, and what the typing rules see
 pub record View : Type 0 where
@@ -89,7 +72,10 @@ opened view = record { site = inside view.site; begins = length (variables view)
 abbrev pub Prints : Code → ℕ → List PrintTable → Type 0
 Prints code first tables = (n : ℕ) (table : PrintTable) → slice_get tables n ≡ Some table → slice_get code.prints (first + n) ≡ Some table
 
-module _ (file : File) (elements : List Element) (all : AllWide (globals file).structs) (code : Code) (result : Yield) (f : CodeFunction) where
+module _ {globals : Globals} {program : Compiled globals} (coded : Coded program) where
+  open program use {elements, code, wide as all}
+  open coded use {function as f, result}
+
   abbrev pub IsOn : Around → Plan → ℕ → Option ℕ → Type 0
   IsOn l plan place out = On code.selects f.instrs l.leave l.again plan place out
 
@@ -99,33 +85,33 @@ module _ (file : File) (elements : List Element) (all : AllWide (globals file).s
 
   -- a statement's setting
   abbrev pub within : Bool → Bool → Setting
-  within breaks continues = record { globals = globals file; result = result; breaks = breaks; continues = continues }
+  within breaks continues = record { globals = globals; result = result; breaks = breaks; continues = continues }
 
   -- the variables lie where the layout says, and are those that the typing rules see; the elements of their types are noted
   pub record Fine (view : View) : Type 0 where
-    pub placed : IsPlaced (globals file).structs (scope_of view) view.begins
+    pub placed : IsPlaced globals.structs (scope_of view) view.begins
     pub alike : Alike view.checked (scope_of view)
-    pub noted : VariablesNoted elements (globals file) (scope_of view)
+    pub noted : VariablesNoted elements globals (scope_of view)
 
   abbrev pub made_here : View → Statement → Made
-  made_here view s = made (globals file) elements result view.site s
+  made_here view s = made globals elements result view.site s
 
   abbrev pub made_body : View → Statements → Made
-  made_body view body = made_all (globals file) elements result (inside view.site) body
+  made_body view body = made_all globals elements result (inside view.site) body
 
   abbrev pub made_other : View → Expression → Statements → Otherwise → Made
-  made_other view condition body otherwise = made_otherwise (globals file) elements result view.site condition (ended view.site.layout (made_body view body)) otherwise
+  made_other view condition body otherwise = made_otherwise globals elements result view.site condition (ended view.site.layout (made_body view body)) otherwise
 
   -- behind a statement
   abbrev pub behind : View → Statement → View
-  behind view s = record { site = past view.site (made_here view s); begins = view.begins; checked = after (globals file) view.checked s }
+  behind view s = record { site = past view.site (made_here view s); begins = view.begins; checked = after globals view.checked s }
 
   -- behind the first block of an if or a for
   abbrev pub behind_body : View → Statements → View
   behind_body view body = record {
     site = past view.site (ended view.site.layout (made_body view body));
     begins = view.begins;
-    checked = left view.checked (after_all (globals file) (entered view.checked) body);
+    checked = left view.checked (after_all globals (entered view.checked) body);
   }
 
   -- what is made has its print tables, and room for its variables
@@ -141,7 +127,7 @@ module _ (file : File) (elements : List Element) (all : AllWide (globals file).s
     pub continues : Bool
     pub fine : Fine view
     pub good : Free (StatementHas (within breaks continues) view.checked first s)
-    pub makes : Makes file elements all code result f s
+    pub makes : Makes globals elements s
     pub on : IsOn l (made_here view s).plan place mid
     pub fits : Fits view.site.prints (made_here view s)
 
@@ -152,11 +138,12 @@ module _ (file : File) (elements : List Element) (all : AllWide (globals file).s
     pub breaks : Bool
     pub continues : Bool
     pub fine : Fine view
-    pub test : Free (TestHas (globals file) view.checked first condition)
+    pub test : Free (TestHas globals view.checked first condition)
     pub good : Free (StatementsHave (within breaks continues) (entered view.checked) second body)
-    pub other : Free (OtherwiseHas (within breaks continues) (left view.checked (after_all (globals file) (entered view.checked) body)) third otherwise)
-    pub makes : AllMake file elements all code result f body
-    pub other_makes : OtherwiseMakes file elements all code result f otherwise
+    pub other : Free (OtherwiseHas (within breaks continues) (left view.checked (after_all globals (entered view.checked) body)) third otherwise)
+    pub test_makes : OneMakes globals elements condition
+    pub makes : AllMake globals elements body
+    pub other_makes : OtherwiseMakes globals elements otherwise
     pub on : IsOn l (made_other view condition body otherwise).plan place mid
     pub fits : Fits view.site.prints (made_other view condition body otherwise)
 
@@ -167,12 +154,12 @@ module _ (file : File) (elements : List Element) (all : AllWide (globals file).s
     pub continues : Bool
     pub fine : Fine view
     pub good : Free (StatementsHave (within breaks continues) view.checked first body)
-    pub makes : AllMake file elements all code result f body
-    pub on : IsOn l (made_all (globals file) elements result view.site body).plan place out
-    pub fits : Fits view.site.prints (made_all (globals file) elements result view.site body)
+    pub makes : AllMake globals elements body
+    pub on : IsOn l (made_all globals elements result view.site body).plan place out
+    pub fits : Fits view.site.prints (made_all globals elements result view.site body)
 
   abbrev pub post_made : View → Statements → Option Simple → Made
-  post_made view body post = made_post (globals file) elements view.site.layout (behind_body view body).site post
+  post_made view body post = made_post globals elements view.site.layout (behind_body view body).site post
 
   -- a loop with a condition and a post statement; a continue leads to `again`
   pub record Looping (l : Around) (view : View) (condition : Option Expression) (post : Option Simple) (body : Statements) (head : ℕ) (out : Option ℕ) : Type 0 where
@@ -180,49 +167,40 @@ module _ (file : File) (elements : List Element) (all : AllWide (globals file).s
     pub second : ℕ
     pub third : ℕ
     pub fine : Fine view
-    pub test : IfSome condition (λ c. Free (TestHas (globals file) view.checked first c))
+    pub test : IfSome condition (λ c. Free (TestHas globals view.checked first c))
     pub good : Free (StatementsHave (within true true) (entered view.checked) second body)
-    pub after_good : IfSome post (λ s. Free (SimpleHas (globals file) (entered (behind_body view body).checked) third s))
-    pub makes : AllMake file elements all code result f body
-    pub post_makes : IfSome post (SimpleMakes file elements all code result f)
-    pub on : IsOn l (loop (test_plan (globals file) elements view.site.layout condition) (made_body view body).plan (post_made view body post).plan) head out
+    pub after_good : IfSome post (λ s. Free (SimpleHas globals (entered (behind_body view body).checked) third s))
+    pub test_makes : IfSome condition (OneMakes globals elements)
+    pub makes : AllMake globals elements body
+    pub post_makes : IfSome post (SimpleMakes globals elements)
+    pub on : IsOn l (loop (test_plan globals elements view.site.layout condition) (made_body view body).plan (post_made view body post).plan) head out
     pub fits : Fits view.site.prints (made_body view body)
     pub post_fits : Fits (behind_body view body).site.prints (post_made view body post)
 
   -- a value that is returned is of the function's result
   abbrev pub IsResult : Value → Type 0
-  IsResult v = words_like (zero_result (globals file) result) v ≡ v
+  IsResult v = words_like (zero_result globals result) v ≡ v
 
   -- so many words values of these types take
   abbrev pub all_wide : List ValueType → ℕ
   all_wide [] = 0
-  all_wide (kind ∷ types) = words_in (globals file).structs kind + all_wide types
+  all_wide (kind ∷ types) = words_in globals.structs kind + all_wide types
 
   -- values of these types go to their destinations from the stack, behind so many words that are dropped
   pub record Assigning (l : Around) (view : View) (dropped : ℕ) (types : List ValueType) (destinations : List Destination) (next : View) (place : ℕ) (mid : Option ℕ) : Type 0 where
     pub spots : List Spot
     pub fine : Fine view
-    pub spots_are : AreSpots (globals file).structs all (scope_of view) destinations types spots
-    pub room : (behind_all (globals file).structs all destinations (scope_of view)).words ≤ length f.locals
+    pub spots_are : AreSpots globals.structs all (scope_of view) destinations types spots
+    pub room : (behind_all globals.structs all destinations (scope_of view)).words ≤ length f.locals
     pub on : IsOn l (drops dropped (assigns spots Skip)) place mid
-    pub variables_are : variables next ≡ (behind_all (globals file).structs all destinations (scope_of view)).variables
-
-  -- values that are stored: those that have a place lie on the stack
-  pub record Storing (l : Around) (view : View) (stack : List Word) (destinations : List Destination) (values : List Value) (next : View) (place : ℕ) (mid : Option ℕ) : Type 0 where
-    pub types : List ValueType
-    pub kept : List Value
-    pub others : List Value
-    pub values_are : values ≡ kept ++ others
-    pub stack_is : stack ≡ all_words_of (globals file).structs all kept
-    pub like : AreLike (globals file).structs all types kept
-    pub assigning : Assigning l view 0 types destinations next place mid
+    pub variables_are : variables next ≡ (behind_all globals.structs all destinations (scope_of view)).variables
 
   -- ---- loops over a channel
 
   -- what becomes of an item on the stack: it is dropped, or stored as a value of a type with the same zero
   abbrev pub Items : Around → View → ValueType → List Destination → View → ℕ → Option ℕ → Type 0
-  Items l view kind [] next place mid = IsOn l (drops (words_in (globals file).structs kind) Skip) place mid × (variables next ≡ variables view)
-  Items l view kind (first ∷ more) next place mid = (other : ValueType) × (zero_words (globals file).structs kind ≡ zero_words (globals file).structs other) × Assigning l view 0 (other ∷ []) (first ∷ more) next place mid
+  Items l view kind [] next place mid = IsOn l (drops (words_in globals.structs kind) Skip) place mid × (variables next ≡ variables view)
+  Items l view kind (first ∷ more) next place mid = (other : ValueType) × (zero_words globals.structs kind ≡ zero_words globals.structs other) × Assigning l view 0 (other ∷ []) (first ∷ more) next place mid
 
   -- the block of an item, in which the typing rules see this
   abbrev pub item_view : View → Scope → View
@@ -230,6 +208,7 @@ module _ (file : File) (elements : List Element) (all : AllWide (globals file).s
 
   -- a loop over a channel, which is the variable `_` of the block round the items
   pub record RangingAt (l : Around) (view : View) (destinations : List Destination) (zero : Value) (body : Statements) (head : ℕ) (out : Option ℕ) : Type 0 where
+    pub fine : Fine view
     pub direction : Direction
     pub kind : ValueType
     pub channel : Variable
@@ -237,9 +216,9 @@ module _ (file : File) (elements : List Element) (all : AllWide (globals file).s
     pub carries : known channel.kind ≡ ChannelType direction kind
     pub below : channel.place + 1 ≤ (scope_of view).words
     pub room : (scope_of view).words ≤ length f.locals
-    pub zero_is : zero ≡ zero_words (globals file).structs kind
+    pub zero_is : zero ≡ zero_words globals.structs kind
     pub shape : ℕ
-    pub shape_is : shape_kinds code shape ≡ kinds_of (globals file).structs elements kind
+    pub shape_is : shape_kinds code shape ≡ kinds_of globals.structs elements kind
     pub check : ℕ
     pub again : Option ℕ
     pub exit : ℕ
@@ -254,38 +233,13 @@ module _ (file : File) (elements : List Element) (all : AllWide (globals file).s
     pub item : Items (record { leave = out; again = again }) (item_view view checked) kind destinations next (check + 1) mid
     pub goes : IfSome mid (λ p. Doing (record { leave = out; again = again }) next (Block body) p again)
     pub turns : IfSome again (λ m. (turn : ℕ) × Leads f.instrs m (Some turn) × At f.instrs turn (instrs.Loop head))
-    pub ends : IsOn l (drops (words_in (globals file).structs kind) Skip) exit out
-
-  -- ---- calls and requests
+    pub ends : IsOn l (drops (words_in globals.structs kind) Skip) exit out
 
   -- what becomes of values of these types that lie on the stack: those that have no place are dropped, and the others are stored as ones
   -- of types with the same zeros
-  abbrev pub Taking : Around → View → List ValueType → Purpose → View → ℕ → Option ℕ → Type 0
-  Taking l view types Unused next place mid = IsOn l (drops (all_wide types) Skip) place mid × (variables next ≡ variables view)
-  Taking l view types (Assigned destinations) next place mid = (kept : List ValueType) × (others : List ValueType) × (map (zero_words (globals file).structs) types ≡ map (zero_words (globals file).structs) (kept ++ others)) × Assigning l view (all_wide others) kept destinations next place mid
-  Taking l view types GivenBack next place mid =
-      (first : ValueType) × (others : List ValueType) × (types ≡ first ∷ others) × IsOn l (drops (all_wide others) Stop) place mid × (zero_result (globals file) result ≡ zero_words (globals file).structs first)
-  Taking l view types (NextItem (Ranging destinations zero body)) next place mid =
-      (head : ℕ) × (place ≡ head + 1 + 1) × (d : RangingAt l view destinations zero body head mid) × (types ≡ d.kind ∷ BoolType ∷ []) × (variables next ≡ variables view)
-  Taking l view types purpose next place mid = ⊥
-
-  -- a goroutine that is started runs a function that is there, and gets values of its parameters
-  abbrev pub Begins : Request → Type 0
-  Begins (requests.Go function arguments) = (made : CodeFunction) × (slice_get code.functions function ≡ Some made) × (values : List Value) × AreLike (globals file).structs all (map known (parameters_of (globals file) function)) values × (arguments ≡ all_words_of (globals file).structs all values)
-  Begins q = Unit {0}
-
-  -- an instruction that asks, its operands on the stack, and what becomes of the values that it is told
-  pub record Asking (l : Around) (view : View) (stack : List Word) (q : Request) (zeros : List Value) (purpose : Purpose) (next : View) (place : ℕ) (mid : Option ℕ) : Type 0 where
-    pub instr : Instr
-    pub there : At f.instrs place instr
-    pub pops_are : pops code f instr ≡ length stack
-    pub told : is_told instr ≡ true
-    pub asks : (c : CodeFrame) (callers : CodeFrames) → instr_next code c callers [] stack instr ≡ Asks q
-    pub starts : Begins q
-    pub types : List ValueType
-    pub zeros_are : zeros ≡ map (zero_words (globals file).structs) types
-    pub gives_are : map zero_of (gives code f instr []) ≡ all_words_of (globals file).structs all zeros
-    pub taking : Taking l view types purpose next (place + 1) mid
+  abbrev pub Taking : Around → View → List ValueType → List Destination → View → ℕ → Option ℕ → Type 0
+  Taking l view types [] next place mid = IsOn l (drops (all_wide types) Skip) place mid × (variables next ≡ variables view)
+  Taking l view types (first ∷ more) next place mid = (kept : List ValueType) × (others : List ValueType) × (map (zero_words globals.structs) types ≡ map (zero_words globals.structs) (kept ++ others)) × Assigning l view (all_wide others) kept (first ∷ more) next place mid
 
   -- ---- selects
 
@@ -298,58 +252,21 @@ module _ (file : File) (elements : List Element) (all : AllWide (globals file).s
     pub together : Together (opened outer) next
     pub fine : Fine next
     pub mid : Option ℕ
-    pub taking : Taking (in_way l out) (opened outer) types (purpose_of destinations) next place mid
+    pub taking : Taking (in_way l out) (opened outer) types destinations next place mid
     pub live : IfSome mid (λ m. Live next (in_way l out) body m out)
-
-  -- the ways of the clauses of a table: what is received is told in the words of their zeros
-  abbrev pub WaysAt : Around → View → List Way → List TableClause → Option ℕ → Type 0
-  WaysAt l view [] [] out = Unit {0}
-  WaysAt l view (way ∷ ways) (clause ∷ clauses) out =
-      (types : List ValueType) × (way.zeros ≡ map (zero_words (globals file).structs) types) × (map zero_of (clause_gives code (Some clause)) ≡ all_words_of (globals file).structs all way.zeros)
-      × WayAt l view types way.destinations way.body (clause_target clause) out × WaysAt l view ways clauses out
-  WaysAt l view ways clauses out = ⊥
-
-  -- a select that asks, its operands on the stack, and its ways
-  pub record Choosing (l : Around) (view : View) (stack : List Word) (q : Request) (ways : List Way) (default : Statements) (next : View) (place : ℕ) (mid : Option ℕ) : Type 0 where
-    pub number : ℕ
-    pub table : SelectTable
-    pub cases : List Case
-    pub there : At f.instrs place (instrs.Select number)
-    pub table_is : slice_get code.selects number ≡ Some table
-    pub pops_are : pops code f (instrs.Select number) ≡ length stack
-    pub cases_are : cases_of code table.clauses stack ≡ Some cases
-    pub asks : q ≡ requests.Select cases (is_some table.default)
-    pub ways_are : WaysAt l view ways table.clauses mid
-    pub default_is : IfSome table.default (λ p. WayAt l view [] [] default p mid)
-    pub same : variables next ≡ variables view
-
-  -- a request, and what becomes of what it gives
-  abbrev pub Requesting : Around → View → List Word → Request → List Value → Purpose → View → ℕ → Option ℕ → Type 0
-  Requesting l view stack q zeros (Chosen ways default) next place mid = Choosing l view stack q ways default next place mid
-  Requesting l view stack q zeros purpose next place mid = Asking l view stack q zeros purpose next place mid
-
-  pub requesting : (l : Around) (view : View) (stack : List Word) (q : Request) (zeros : List Value) (purpose : Purpose) (next : View) (place : ℕ) (mid : Option ℕ) → Asking l view stack q zeros purpose next place mid → Requesting l view stack q zeros purpose next place mid
-  requesting l view stack q zeros Unused next place mid d = d
-  requesting l view stack q zeros (Assigned destinations) next place mid d = d
-  requesting l view stack q zeros GivenBack next place mid d = d
-  requesting l view stack q zeros (NextItem loop) next place mid d = d
-  requesting l view stack q zeros (Chosen ways default) next place mid d = absurd d.taking
 
   -- what a loop's head does at a place
   abbrev pub Loops : Around → View → Loop → ℕ → Option ℕ → Type 0
   Loops l view (Repeating condition post body) head out = Looping l view condition post body head out
   Loops l view (Ranging destinations zero body) head out = RangingAt l view destinations zero body head out
 
-  -- a task at a place, with this stack: its code leads to `mid`, where what is next has its variables
-  abbrev pub Does : Around → View → List Word → Task → View → ℕ → Option ℕ → Type 0
-  Does l view stack (Do s) next place mid = (stack ≡ []) × Doing l view s place mid × (variables next ≡ variables (behind view s))
-  Does l view stack (Decide condition body otherwise) next place mid = (stack ≡ []) × Deciding l view condition body otherwise place mid × (variables next ≡ variables view)
-  Does l view stack (Head loop) next place mid = (stack ≡ []) × Loops l view loop place mid × (variables next ≡ variables view)
-  Does l view stack (Turn loop) next place mid = (stack ≡ []) × (head : ℕ) × At f.instrs place (instrs.Loop head) × Loops l view loop head mid × (variables next ≡ variables view)
-  Does l view stack (Store destinations values) next place mid = Storing l view stack destinations values next place mid
-  Does l view stack (GiveBack v) next place mid = (stack ≡ v) × At f.instrs place instrs.Return × IsResult v
-  Does l view stack (Ask q zeros purpose) next place mid = Requesting l view stack q zeros purpose next place mid
-  Does l view stack task next place mid = ⊥
+  -- a task at a place: its code leads to `mid`, where what is next has its variables
+  abbrev pub Does : Around → View → Task → View → ℕ → Option ℕ → Type 0
+  Does l view (Do s) next place mid = Doing l view s place mid × (variables next ≡ variables (behind view s))
+  Does l view (Decide condition body otherwise) next place mid = Deciding l view condition body otherwise place mid × (variables next ≡ variables view)
+  Does l view (Head loop) next place mid = Loops l view loop place mid × (variables next ≡ variables view)
+  Does l view (Turn loop) next place mid = (head : ℕ) × At f.instrs place (instrs.Loop head) × Loops l view loop head mid × (variables next ≡ variables view)
+  Does l view task next place mid = ⊥
 
   -- where a loop's body ends
   abbrev pub Turns : Loop → Around → View → ℕ → Option ℕ → Option ℕ → Type 0
@@ -358,14 +275,14 @@ module _ (file : File) (elements : List Element) (all : AllWide (globals file).s
       Looping l view condition post body head out
       × IfSome post_at (λ m. (turn : ℕ) × IsOn l (post_made view body post).plan m (Some turn) × At f.instrs turn (instrs.Loop head))
 
-  -- the code from a place on, with this stack, does what is still to be done; what is never reached has no place
-  abbrev pub Sits : View → Around → Option ℕ → List Word → List Task → Type 0
-  Sits view l place stack [] = (l ≡ nowhere) × IfSome place (λ p. (stack ≡ []) × IsOn nowhere (pushes_zeros (result_kinds (globals file) elements result) Stop) p None)
-  Sits view l place stack (EndBlock ∷ rest) = (outer : View) × Inner outer view × (to : Option ℕ) × IfSome place (λ p. (stack ≡ []) × Leads f.instrs p to) × Sits outer l to [] rest
-  Sits view l place stack (EndSelect ∷ rest) =
-      (outer : View) × Inner outer view × (around : Around) × (l.again ≡ around.again) × (to : Option ℕ) × LeadsOn l.leave to × IfSome place (λ p. (stack ≡ []) × Leads f.instrs p to) × Sits outer around to [] rest
-  Sits view l place stack (Again loop ∷ rest) =
+  -- the code from a place on does what is still to be done; what is never reached has no place
+  abbrev pub Sits : View → Around → Option ℕ → List Task → Type 0
+  Sits view l place [] = (l ≡ nowhere) × IfSome place (λ p. IsOn nowhere (pushes_zeros (result_kinds globals elements result) Stop) p None)
+  Sits view l place (EndBlock ∷ rest) = (outer : View) × Inner outer view × (to : Option ℕ) × IfSome place (λ p. Leads f.instrs p to) × Sits outer l to rest
+  Sits view l place (EndSelect ∷ rest) =
+      (outer : View) × Inner outer view × (around : Around) × (l.again ≡ around.again) × (to : Option ℕ) × LeadsOn l.leave to × IfSome place (λ p. Leads f.instrs p to) × Sits outer around to rest
+  Sits view l place (Again loop ∷ rest) =
       (outer : View) × Inner outer view × (around : Around) × (next : View) × Together outer next × (variables next ≡ variables outer) × (head : ℕ) × (out : Option ℕ) × (l.leave ≡ out) × Turns loop around outer head out l.again
-      × IfSome place (λ p. (stack ≡ []) × (l.again ≡ Some p)) × (to : Option ℕ) × LeadsOn out to × Sits next around to [] rest
-  Sits view l place stack (task ∷ rest) =
-      (next : View) × Together view next × (mid : Option ℕ) × IfSome place (λ p. Does l view stack task next p mid) × (to : Option ℕ) × LeadsOn mid to × Sits next l to [] rest
+      × IfSome place (λ p. l.again ≡ Some p) × (to : Option ℕ) × LeadsOn out to × Sits next around to rest
+  Sits view l place (task ∷ rest) =
+      (next : View) × Together view next × (mid : Option ℕ) × IfSome place (λ p. Does l view task next p mid) × (to : Option ℕ) × LeadsOn mid to × Sits next l to rest

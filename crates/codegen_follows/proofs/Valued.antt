@@ -1,38 +1,35 @@
 -- An expression's code leads to where its value lies on the stack, or panics as the source does.
-use Rattle.std.proofs.Common.{◌≡◌, ℕ, ◌+◌, ◌≤◌, Bool, true, false, List, [], ◌∷◌, ◌++◌, length, Option, Some, Ok, Err, refl, sym, ap, ◌∙◌, subst, arith, slice_get, inl, inr}
+use Rattle.std.proofs.Common.{◌≡◌, ℕ, ◌+◌, Bool, true, false, List, [], ◌∷◌, ◌++◌, Option, Some, refl, sym, ap, ◌∙◌, subst, arith, inl, inr}
 use Rattle.go_text.specs.declared.rule.Rule.TheVariants as rules
-use Rattle.syntax.specs.Tree.{Expression, File}
-use Rattle.bytecode.specs.Code.{Function as CodeFunction, Code}
-use Rattle.bytecode.specs.Machine.{Frames as CodeFrames, code_next}
-use Rattle.word.specs.declared.panic.Panic.{Panic as Cause}
+use Rattle.syntax.specs.Tree.{Expression}
+use Rattle.bytecode.specs.Machine.{Frames as CodeFrames}
 use Rattle.word.specs.declared.value.Word.{Word}
 use Rattle.word.specs.declared.value.Word.TheVariants.{Bool as Truth}
-use Rattle.word.specs.Values.{Request, Panic}
-use Rattle.word.specs.Kinds.{Next, Slides, Ticks, Asks, Stuck}
-use Rattle.word.specs.Related.{Slips}
 use Rattle.type_table.specs.Types.{ValueType, BoolType, StructType, ChannelType, IntType, is_bool_type}
-use Rattle.type_table.specs.Containment.{fields_of}
-use Rattle.type_table.specs.Scopes.{Scope, Yield}
+use Rattle.type_table.specs.Scopes.{Scope, Globals}
 use Rattle.typing_rules.specs.Worths.{Worth, Typed, Constant, Nil, worth}
 use Rattle.typing_rules.specs.Expressions.{nodes_of, ExpressionHas, ConditionHas, TestHas}
 use Rattle.meaning.specs.Values.{Value}
-use Rattle.meaning.specs.Expressions.{Worked, and_then, word_in, value}
-use Rattle.meaning.specs.Tasks.{Frames}
-use Rattle.meaning.specs.Source.{globals, valued}
-use Rattle.codegen_base.specs.declared.element.Element.{Element}
+use Rattle.meaning.specs.Expressions.{word_in, value}
+use Rattle.meaning.specs.Tasks.{Task}
+use Rattle.meaning.specs.Source.{one}
 use Rattle.codegen_base.specs.Pushes.{settled, emits, pushes}
 use Rattle.plan.specs.Plan.{Plan}
 use Rattle.plan.proofs.Words.{Words}
-use Rattle.plan.proofs.Steps.{spots, slips_more}
-use Rattle.codegen_base.proofs.Fields.{AllWide, AllTyped}
-use Rattle.codegen_base.proofs.Seen.{Like, seen}
+use Rattle.codegen_base.proofs.Seen.{Like}
 use Rattle.codegen_base.proofs.Likeness.{is_bool}
-use Rattle.codegen_base.proofs.Typing.{Free, FieldsKnown, Fits, broken, nodes_end, worth_there}
+use Rattle.codegen_base.proofs.Typing.{Free, Fits, broken, nodes_end, worth_there}
 use Rattle.codegen_base.proofs.Settled.{pushes_by}
-use Rattle.codegen_base.proofs.Expressions.{Holding}
-use Rattle.codegen_base.proofs.Pushed.{env, same, checked, EK, emits_goes}
+use Rattle.codegen_base.proofs.Pushed.{checked, emits_goes}
 use Rattle.codegen_base.proofs.Static.{variables_known}
-use Rattle.codegen_follows.proofs.Stands.{Around, View, scope_of, variables, IsOn, Fine}
+use Rattle.codegen_follows.proofs.Stands.{scope_of, OneMakes}
+use Rattle.codegen_base.proofs.Running.{Compiled, Coded}
+use Rattle.codegen_follows.proofs.Simulated.{Simulated, Point, standing, here_blocks, On', at}
+use Rattle.codegen_base.proofs.Gave.{Follows, stays, bind as follows_then}
+use Rattle.codegen_base.proofs.Evaluates.{Lies}
+use Rattle.meaning.specs.Worked.{Worked, ready, and_then}
+use Rattle.meaning.specs.Variables.{Blocks}
+use Rattle.type_table.specs.Zeros.{zero_words}
 
 -- a truth value may stand where nothing is wrong with a condition
 bool_fits : (kind : ValueType) → is_bool_type kind ≡ true → kind ≡ BoolType
@@ -50,75 +47,52 @@ condition_fits e first (Typed kind) free = let b = broken rules.Condition (nodes
 condition_fits e first (Constant z) free = let b = broken rules.Condition (nodes_of first e).end (nodes_end first e) in absurd (free b.0 b.1)
 condition_fits e first Nil free = let b = broken rules.Nil ((nodes_of first e).first + 1) (omega arith) in absurd (free b.0 b.1)
 
-module _ (file : File) (elements : List Element) (all : AllWide (globals file).structs) (typed : (n : ℕ) → AllTyped (globals file).structs (fields_of (globals file).structs n)) (known_fields : (s : Scope) → FieldsKnown (globals file) s)
-    (code : Code) (result : Yield) (g : ℕ) (f : CodeFunction) (there : slice_get code.functions g ≡ Some f) (ds : CodeFrames) (R : Frames → CodeFrames → Type 0) (Asked : Request → CodeFrames → Type 0) (panics : (cause : Cause) (d : CodeFrames) → Asked (Panic cause) d) where
-  abbrev pub place_at : ℕ → Words → Words → CodeFrames
-  place_at place ls stack = spots code g f there ds place ls stack
+module _ {globals : Globals} {program : Compiled globals} {coded : Coded program} {simulated : Simulated coded} (point : Point simulated) where
+  open program use {elements}
+  open simulated use {running.{context}}
+  open point use {locals as ls, view}
 
-  -- what the code does where the source does this next; `Asked` says that both are told the same
-  abbrev pub Goes : Next Frames → CodeFrames → Type 0
-  Goes (Slides a) c = (d : CodeFrames) × Slips (code_next code) c d × R a d
-  Goes (Ticks a) c = (d : CodeFrames) × (e : CodeFrames) × Slips (code_next code) c d × (code_next code d ≡ Ticks e) × R a e
-  Goes (Asks q) c = (d : CodeFrames) × Slips (code_next code) c d × (code_next code d ≡ Asks q) × Asked q d
-  Goes Stuck c = ⊥
+  abbrev checked_scope : Scope
+  checked_scope = view.checked
 
-  pub before : (x : Next Frames) (c d : CodeFrames) → Slips (code_next code) c d → Goes x d → Goes x c
-  before (Slides a) c d slips m = (m.0, slips_more (code_next code) c d m.0 slips m.1, m.2)
-  before (Ticks a) c d slips m = (m.0, m.1, slips_more (code_next code) c d m.0 slips m.2, m.3, m.4)
-  before (Asks q) c d slips m = (m.0, slips_more (code_next code) c d m.0 slips m.1, m.2, m.3)
-  before Stuck c d slips m = m
+  abbrev scope : Scope
+  scope = scope_of view
 
-  pub valued_then : {A B : Type 0} (o : Worked A) (h : A → Worked B) (go : B → Next Frames) → valued (and_then o h) go ≡ valued o (λ a. valued (h a) go)
-  valued_then (Err c) h go = refl
-  valued_then (Ok a) h go = refl
+  abbrev here : Blocks
+  here = here_blocks point
 
-  module _ (ls : Words) (l : Around) (view : View) (fine : Fine file elements all code result f view) (room : (scope_of view).words ≤ length ls) (holding : Holding (globals file).structs ls (variables view)) where
-    abbrev pub E : Worked Value → ValueType → Plan → Option ℕ → ℕ → List Word → List Word → Type 0
-    E o kind rest out place stack base = EK (globals file) elements all typed code g f there ds ls l.leave l.again (scope_of view) view.begins fine.placed room holding view.checked fine.alike (known_fields view.checked) o kind rest out place stack base
+  -- a value is worked out, and then
+  pub value_goes : {B : Type 0} (e : Expression) (first : ℕ) (w : Worth) (kind : ValueType) (go : Value → Worked B) (L : B → CodeFrames → Type 0) (rest : Plan) (out : Option ℕ) (place : ℕ) (stack : Words) → Free (ExpressionHas globals checked_scope first e) → OneMakes globals elements e → worth globals checked_scope e ≡ Some w → Fits w kind
+      → On' point (pushes globals elements scope kind e rest) place out
+      → ((v : Value) → Like globals.structs kind v → (to : ℕ) → On' point rest to out → Follows context (go v) L (at simulated to ls (stack ++ v))) → Follows context (and_then (value globals here e) go) L (at simulated place ls stack)
+  value_goes e first w kind go L rest out place stack free makes is fits on then' =
+      let here-worth : worth globals scope e ≡ Some w = sym (checked (standing point) e) ∙ is in
+      follows_then context (value globals here e) go (Lies (standing point) (zero_words globals.structs kind) rest out stack) L (at simulated place ls stack)
+      (pushes_by (standing point) e w kind here-worth fits (λ t et. emits_goes (standing point) e first free makes t (here-worth ∙ ap Some et)) rest out place stack
+      (subst (λ o. On' point (settled elements o kind (emits globals elements scope e rest) rest) place out) here-worth on))
+      (λ v d l. subst (λ x. Follows context (go v) L x) (sym l.2) (then' v l.1 l.0 l.3))
 
-    abbrev On' : Plan → ℕ → Option ℕ → Type 0
-    On' plan place out = IsOn file elements all code result f l plan place out
+  -- a value of a type of its own, and then
+  pub own_goes : {B : Type 0} (e : Expression) (first : ℕ) (kind wanted : ValueType) (go : Value → Worked B) (L : B → CodeFrames → Type 0) (rest : Plan) (out : Option ℕ) (place : ℕ) (stack : Words) → Free (ExpressionHas globals checked_scope first e) → OneMakes globals elements e → worth globals checked_scope e ≡ Some (Typed kind)
+      → On' point (pushes globals elements scope wanted e rest) place out
+      → ((v : Value) → Like globals.structs kind v → (to : ℕ) → On' point rest to out → Follows context (go v) L (at simulated to ls (stack ++ v))) → Follows context (and_then (value globals here e) go) L (at simulated place ls stack)
+  own_goes e first kind wanted go L rest out place stack free makes is on then' =
+      let here-worth : worth globals scope e ≡ Some (Typed kind) = sym (checked (standing point) e) ∙ is in
+      follows_then context (value globals here e) go (Lies (standing point) (zero_words globals.structs kind) rest out stack) L (at simulated place ls stack)
+      (emits_goes (standing point) e first free makes kind here-worth rest out place stack
+      (subst (λ o. On' point (settled elements o wanted (emits globals elements scope e rest) rest) place out) here-worth on))
+      (λ v d l. subst (λ x. Follows context (go v) L x) (sym l.2) (then' v l.1 l.0 l.3))
 
-    abbrev pub value_here : Expression → Worked Value
-    value_here e = value (globals file) (seen (globals file).structs ls (variables view) view.begins) e
-
-    evals : (e : Expression) (first : ℕ) (w : Worth) (kind : ValueType) (rest : Plan) (out : Option ℕ) (place : ℕ) (stack : List Word) → Free (ExpressionHas (globals file) view.checked first e) → worth (globals file) view.checked e ≡ Some w → Fits w kind
-        → On' (pushes (globals file) elements (scope_of view) kind e rest) place out → E (value_here e) kind rest out place stack stack
-    evals e first w kind rest out place stack free is fits on =
-        let blocks = env (globals file) elements all typed code g f there ds ls l.leave l.again (scope_of view) view.begins fine.placed room holding view.checked fine.alike (known_fields view.checked) in
-        let here-worth : worth (globals file) (scope_of view) e ≡ Some w = sym (checked (globals file) elements all typed code g f there ds ls l.leave l.again (scope_of view) view.begins fine.placed room holding view.checked fine.alike (known_fields view.checked) e) ∙ is in
-        pushes_by (globals file) elements (scope_of view) blocks (same (globals file) elements all typed code g f there ds ls l.leave l.again (scope_of view) view.begins fine.placed room holding view.checked fine.alike (known_fields view.checked)) code g f there ds ls l.leave l.again e w kind here-worth fits
-        (λ t et. emits_goes (globals file) elements all typed code g f there ds ls l.leave l.again (scope_of view) view.begins fine.placed room holding view.checked fine.alike (known_fields view.checked) e first free t (here-worth ∙ ap Some et)) rest out place stack
-        (subst (λ o. On' (settled elements o kind (emits (globals file) elements (scope_of view) e rest) rest) place out) here-worth on)
-
-    pub valued_by : (o : Worked Value) (go : Value → Next Frames) (kind : ValueType) (rest : Plan) (out : Option ℕ) (place : ℕ) (stack : Words) → E o kind rest out place stack stack
-        → ((v : Value) → Like (globals file).structs kind v → (to : ℕ) → On' rest to out → Goes (go v) (place_at to ls (stack ++ v))) → Goes (valued o go) (place_at place ls stack)
-    valued_by (Err c) go kind rest out place stack e then' = (e.0, e.1, e.2, panics c e.0)
-    valued_by (Ok v) go kind rest out place stack e then' = before (go v) (place_at place ls stack) (place_at e.0 ls (stack ++ v)) e.2 (then' v e.1 e.0 e.3)
-
-    -- a value is worked out, and then
-    pub value_goes : (e : Expression) (first : ℕ) (w : Worth) (kind : ValueType) (go : Value → Next Frames) (rest : Plan) (out : Option ℕ) (place : ℕ) (stack : Words) → Free (ExpressionHas (globals file) view.checked first e) → worth (globals file) view.checked e ≡ Some w → Fits w kind
-        → On' (pushes (globals file) elements (scope_of view) kind e rest) place out
-        → ((v : Value) → Like (globals file).structs kind v → (to : ℕ) → On' rest to out → Goes (go v) (place_at to ls (stack ++ v))) → Goes (valued (value_here e) go) (place_at place ls stack)
-    value_goes e first w kind go rest out place stack free is fits on then' = valued_by (value_here e) go kind rest out place stack (evals e first w kind rest out place stack free is fits on) then'
-
-    -- a value of a type of its own, and then
-    pub own_goes : (e : Expression) (first : ℕ) (kind wanted : ValueType) (go : Value → Next Frames) (rest : Plan) (out : Option ℕ) (place : ℕ) (stack : Words) → Free (ExpressionHas (globals file) view.checked first e) → worth (globals file) view.checked e ≡ Some (Typed kind)
-        → On' (pushes (globals file) elements (scope_of view) wanted e rest) place out
-        → ((v : Value) → Like (globals file).structs kind v → (to : ℕ) → On' rest to out → Goes (go v) (place_at to ls (stack ++ v))) → Goes (valued (value_here e) go) (place_at place ls stack)
-    own_goes e first kind wanted go rest out place stack free is on then' =
-        let here-worth : worth (globals file) (scope_of view) e ≡ Some (Typed kind) = sym (checked (globals file) elements all typed code g f there ds ls l.leave l.again (scope_of view) view.begins fine.placed room holding view.checked fine.alike (known_fields view.checked) e) ∙ is in
-        valued_by (value_here e) go kind rest out place stack
-        (emits_goes (globals file) elements all typed code g f there ds ls l.leave l.again (scope_of view) view.begins fine.placed room holding view.checked fine.alike (known_fields view.checked) e first free kind here-worth rest out place stack
-        (subst (λ o. On' (settled elements o wanted (emits (globals file) elements (scope_of view) e rest) rest) place out) here-worth on)) then'
-
-    -- a condition is a truth value, and then
-    pub test_goes : (e : Expression) (first : ℕ) (go : Word → Next Frames) (rest : Plan) (out : Option ℕ) (place : ℕ) → Free (TestHas (globals file) view.checked first e) → On' (pushes (globals file) elements (scope_of view) BoolType e rest) place out
-        → ((b : Bool) (to : ℕ) → On' rest to out → Goes (go (Truth b)) (place_at to ls (Truth b ∷ []))) → Goes (valued (and_then (value_here e) (λ words. Ok (word_in words))) go) (place_at place ls [])
-    test_goes e first go rest out place free on then' =
-        let w = worth_there (globals file) view.checked (known_fields view.checked) (variables_known view.checked (scope_of view) fine.alike fine.placed.known) e first (λ flaw h. free flaw (inl h)) in
-        let is-bool = condition_fits e first w.0 (λ flaw h. free flaw (inr (subst (λ o. ConditionHas o (nodes_of first e) flaw) (sym w.1) h))) in
-        subst (λ x. Goes x (place_at place ls [])) (sym (valued_then (value_here e) (λ words. Ok (word_in words)) go))
-        (value_goes e first (Typed BoolType) BoolType _ rest out place [] (λ flaw h. free flaw (inl h)) (w.1 ∙ ap Some is-bool) refl on
-        (λ v like to on1. let b = is_bool (globals file).structs v like in
-        subst (λ (x : Value). Goes (go (word_in x)) (place_at to ls x)) (sym b.1) (then' b.0 to on1)))
+  -- a condition is a truth value, and then
+  pub test_goes : {B : Type 0} (e : Expression) (first : ℕ) (k : List Task) (go : Word → Worked B) (L : B → CodeFrames → Type 0) (rest : Plan) (out : Option ℕ) (place : ℕ) → Free (TestHas globals checked_scope first e) → OneMakes globals elements e → On' point (pushes globals elements scope BoolType e rest) place out
+      → ((b : Bool) (to : ℕ) → On' point rest to out → Follows context (go (Truth b)) L (at simulated to ls (Truth b ∷ []))) → Follows context (and_then (one globals here k e) go) L (at simulated place ls [])
+  test_goes e first k go L rest out place free makes on then' =
+      let w = worth_there globals checked_scope program.types_known (variables_known checked_scope scope point.fine.alike point.fine.placed.known) e first (λ flaw h. free flaw (inl h)) in
+      let is-bool = condition_fits e first w.0 (λ flaw h. free flaw (inr (subst (λ o. ConditionHas o (nodes_of first e) flaw) (sym w.1) h))) in
+      follows_then context (one globals here k e) go M L (at simulated place ls [])
+      (value_goes e first (Typed BoolType) BoolType (λ words. ready (word_in words)) M rest out place [] (λ flaw h. free flaw (inl h)) makes (w.1 ∙ ap Some is-bool) refl on
+      (λ v like to on1. let b = is_bool globals.structs v like in
+      subst (λ (x : Value). Follows context (ready (word_in x)) M (at simulated to ls x)) (sym b.1) (stays context (Truth b.0) M (at simulated to ls (Truth b.0 ∷ [])) (b.0, to, refl, refl, on1))))
+      (λ w d m. subst (λ x. Follows context (go x) L d) (sym m.2) (subst (λ x. Follows context (go (Truth m.0)) L x) (sym m.3) (then' m.0 m.1 m.4))) where
+        M : Word → CodeFrames → Type 0
+        M w d = (b : Bool) × (to : ℕ) × (w ≡ Truth b) × (d ≡ at simulated to ls (Truth b ∷ [])) × On' point rest to out

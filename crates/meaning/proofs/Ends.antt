@@ -1,35 +1,41 @@
 -- Steps without cost end: what is still to be done weighs less after each.
-use Rattle.std.proofs.Common.{◌≡◌, ℕ, ◌+◌, ◌<◌, ◌≤◌, Bool, true, false, cond, List, [], ◌∷◌, ◌++◌, length, Option, Some, None, refl, arith}
-use Rattle.std.specs.Prelude.{Ok, Err, nat_lt, slice_get, if◌then◌else◌}
+use Rattle.std.proofs.Common.{◌≡◌, ℕ, pos, zero, suc, ◌+◌, ◌<◌, ◌≤◌, Bool, true, false, cond, List, [], ◌∷◌, ◌++◌, length, Option, Some, None, refl, arith}
+use Rattle.std.specs.Option.{is_some}
+use Rattle.std.specs.Prelude.{nat_lt, slice_get, if◌then◌else◌}
 use Rattle.type_table.specs.Types.{ValueType}
-use Rattle.syntax.specs.Tree.{Expression, Operation, Call, Receive, Make, Length, Capacity, Right, RightOperation, Values, Simple, CallAlone, Close, Print, ReceiveAlone, Send, Increment, Decrement, Assign, Define, Update, Bare, Semicolon, First, ForHead, Forever, While, ForClauses, Range, Returned, NoValue, ReturnedOperation, ReturnedValue, Statement, Empty, Alone, VarTyped, VarUntyped, Block, If, For, Select, Go, Return, Break, Continue, Statements, NoStatement, Then, Branch, Conditional, Otherwise, NoElse, ElseBlock, ElseIf, Function, File}
-use Rattle.word.specs.Values.{Request}
+use Rattle.type_table.specs.Scopes.{Globals}
+use Rattle.syntax.specs.Tree.{Expression, Place, Simple, CallAlone, Close, Print, ReceiveAlone, Send, Increment, Decrement, Assign, Define, Update, Bare, Semicolon, First, ForHead, Forever, While, ForClauses, Range, Returned, NoValue, ReturnedValue, Statement, Empty, Alone, VarTyped, VarUntyped, Block, If, For, Select, Go, Return, Break, Continue, Statements, NoStatement, Then, Branch, Conditional, Otherwise, NoElse, ElseBlock, ElseIf, Clauses, NoClause, Clause, Function, File}
+use Rattle.syntax.specs.declared.node.BinaryOperator.{BinaryOperator}
+use Rattle.syntax.specs.declared.node.BinaryOperator.TheVariants.{Add, Subtract}
+use Rattle.word.specs.declared.value.Word.{Word}
+use Rattle.word.specs.declared.value.Word.TheVariants.{Int, Bool as Truth, Chan}
+use Rattle.word.specs.Values.{Request, Nothing, Value as Answer, Received, Clause as Chose, Default, Closed}
 use Rattle.word.specs.Values as requests
-use Rattle.word.specs.Kinds.{Next, Ticks, Asks}
+use Rattle.word.specs.Kinds.{Ticks, Asks}
 use Rattle.word.specs.Related.{Falls}
 use Rattle.word.specs.declared.limits.TheConstants.{MAX_DEPTH}
-use Rattle.meaning.specs.Values.{Value, words_like}
+use Rattle.meaning.specs.Values.{Value, reply_words}
+use Rattle.meaning.specs.Worked.{Need, Asking, Calling, Given, Told, Yielded, Reached, Came, Fails, Needs, Worked, ready, needs, go_on_from, and_then}
 use Rattle.meaning.specs.Variables.{Blocks, Destination, left}
-use Rattle.meaning.specs.Expressions.{Worked}
-use Rattle.meaning.specs.Tasks.{Loop, Repeating, Ranging, Purpose, Unused, Assigned, GivenBack, NextItem, Chosen, Task, Do, EndBlock, Decide, Head, Again, Turn, EndSelect, Ask, Await, Store, GiveBack, Frames, all_of, broken, continued}
-use Rattle.meaning.specs.Replies.{used, awaited, give_back}
-use Rattle.meaning.specs.Destinations.{number_of}
-use Rattle.meaning.specs.Source.{globals, functions, valued, truth_in, item_in, go_on, asks, channel, enters, calls, operates, gives, simple_next, enters_block, leaves_block, branch_next, otherwise_next, for_next, body_next, head_next, again_next, ranges, return_next, statement_next, task_next, frame_next, source_next}
+use Rattle.meaning.specs.Tasks.{Loop, Repeating, Ranging, Task, Do, EndBlock, Decide, Head, Again, Turn, EndSelect, Frames, Course, Goes, Moves, GivesBack, all_of, broken, continued}
+use Rattle.meaning.specs.Expressions.{binary, told, value, right_values}
+use Rattle.meaning.specs.Destinations.{placed}
+use Rattle.meaning.specs.Source.{globals, functions, truth_in, go_on, channel, item_in, asks, does, stores, gives, value_at, updates, kept, simple_work, enters_block, leaves_block, branch_work, otherwise_work, for_work, assigned, next_item, body_work, head_work, again_work, ranges, at_clause, cases_of, chosen, default_of, at_default, return_work, statement_work, task_work, tasks_work, give_back, enters, needed, taken, reached, source_next}
 
 abbrev first_weight : Option Simple → ℕ
 first_weight None = 0
-first_weight (Some simple) = 3
+first_weight (Some simple) = 2
 
 abbrev again_weight : Option Simple → ℕ
 again_weight post = 2 + first_weight post
 
 abbrev mutual
   statement_weight : Statement → ℕ
-  statement_weight (Alone simple) = 2
   statement_weight (Block body) = 2 + body_weight body
   statement_weight (If branch) = 1 + branch_weight branch
   statement_weight (For head body) = 20 + body_weight body
-  statement_weight statement = 2
+  statement_weight (Select clauses) = 3 + clauses_weight clauses
+  statement_weight statement = 1
 
   body_weight : Statements → ℕ
   body_weight NoStatement = 0
@@ -43,9 +49,13 @@ abbrev mutual
   otherwise_weight (ElseBlock body) = 1 + body_weight body
   otherwise_weight (ElseIf branch) = 1 + branch_weight branch
 
+  clauses_weight : Clauses → ℕ
+  clauses_weight NoClause = 0
+  clauses_weight (Clause comm body more) = body_weight body + clauses_weight more
+
 abbrev head_weight : Loop → ℕ
 head_weight (Repeating condition post body) = 2 + body_weight body + again_weight post
-head_weight (Ranging destinations z body) = 2
+head_weight (Ranging destinations z body) = 8 + body_weight body
 
 abbrev loop_weight : Loop → ℕ
 loop_weight (Repeating condition post body) = again_weight post
@@ -56,7 +66,6 @@ task_weight (Do statement) = statement_weight statement
 task_weight (Decide condition body otherwise) = 2 + body_weight body + otherwise_weight otherwise
 task_weight (Head loop) = head_weight loop
 task_weight (Again loop) = loop_weight loop
-task_weight (Await z purpose) = 2
 task_weight task = 1
 
 abbrev tasks_weight : List Task → ℕ
@@ -84,10 +93,6 @@ broken_weight blocks (Do s ∷ rest) = omega (arith, broken_weight blocks rest)
 broken_weight blocks (Decide c b o ∷ rest) = omega (arith, broken_weight blocks rest)
 broken_weight blocks (Head loop ∷ rest) = omega (arith, broken_weight blocks rest)
 broken_weight blocks (Turn loop ∷ rest) = omega (arith, broken_weight blocks rest)
-broken_weight blocks (Ask q z p ∷ rest) = omega (arith, broken_weight blocks rest)
-broken_weight blocks (Await z p ∷ rest) = omega (arith, broken_weight blocks rest)
-broken_weight blocks (Store ds vs ∷ rest) = omega (arith, broken_weight blocks rest)
-broken_weight blocks (GiveBack v ∷ rest) = omega (arith, broken_weight blocks rest)
 
 continued_weight : (blocks : Blocks) (tasks : List Task) → tasks_weight (continued blocks tasks).tasks ≤ tasks_weight tasks
 continued_weight blocks [] = omega arith
@@ -98,184 +103,221 @@ continued_weight blocks (Do s ∷ rest) = omega (arith, continued_weight blocks 
 continued_weight blocks (Decide c b o ∷ rest) = omega (arith, continued_weight blocks rest)
 continued_weight blocks (Head loop ∷ rest) = omega (arith, continued_weight blocks rest)
 continued_weight blocks (Turn loop ∷ rest) = omega (arith, continued_weight blocks rest)
-continued_weight blocks (Ask q z p ∷ rest) = omega (arith, continued_weight blocks rest)
-continued_weight blocks (Await z p ∷ rest) = omega (arith, continued_weight blocks rest)
-continued_weight blocks (Store ds vs ∷ rest) = omega (arith, continued_weight blocks rest)
-continued_weight blocks (GiveBack v ∷ rest) = omega (arith, continued_weight blocks rest)
 
-used_weight : (blocks : Blocks) (rest : List Task) (purpose : Purpose) (vs : List Value) → tasks_weight (used blocks rest purpose vs).tasks ≤ 1 + tasks_weight rest
-used_weight blocks rest Unused vs = omega arith
-used_weight blocks rest (Assigned ds) vs = omega arith
-used_weight blocks rest GivenBack vs = omega arith
-used_weight blocks rest (NextItem loop) vs = omega arith
-used_weight blocks rest (Chosen ways default) vs = omega arith
+-- ---- where a task leads to without cost, less is to be done
 
-awaited_weight : (blocks : Blocks) (tasks : List Task) (result : Value) → tasks_weight (awaited blocks tasks result).tasks ≤ tasks_weight tasks
-awaited_weight blocks [] result = omega arith
-awaited_weight blocks (Await z purpose ∷ rest) result = omega (arith, used_weight blocks rest purpose (words_like z result ∷ []))
-awaited_weight blocks (Do s ∷ rest) result = omega arith
-awaited_weight blocks (EndBlock ∷ rest) result = omega arith
-awaited_weight blocks (Decide c b o ∷ rest) result = omega arith
-awaited_weight blocks (Head loop ∷ rest) result = omega arith
-awaited_weight blocks (Again loop ∷ rest) result = omega arith
-awaited_weight blocks (Turn loop ∷ rest) result = omega arith
-awaited_weight blocks (EndSelect ∷ rest) result = omega arith
-awaited_weight blocks (Ask q z p ∷ rest) result = omega arith
-awaited_weight blocks (Store ds vs ∷ rest) result = omega arith
-awaited_weight blocks (GiveBack v ∷ rest) result = omega arith
+abbrev Lighter : ℕ → Course → Type 0
+Lighter n (Goes top) = tasks_weight top.tasks < n
+Lighter n (Moves top) = Unit {0}
+Lighter n (GivesBack result) = Unit {0}
 
-record Lighter (n : ℕ) (step : Next (Frames)) : Type 0 where
-  falls : Falls weight n step
+abbrev Light : ℕ → Reached Course → Type 0
+Light n (Came course left) = Lighter n course
+Light n (Fails cause) = Unit {0}
+Light n (Needs need) = Unit {0}
 
-give_back_falls : (result : Value) (callers : Frames) (n : ℕ) → weight callers < n → Lighter n (give_back result callers)
-give_back_falls result [] n more = record { falls = tt }
-give_back_falls result (caller ∷ callers) n more = record { falls = omega (arith, awaited_weight caller.blocks caller.tasks result, more) }
+record Leads (n : ℕ) (work : Worked Course) : Type 0 where
+  light : (given : List Given) → Light n (work given)
 
-valued_falls : {A : Type 0} (worked : Worked A) (f : A → Next (Frames)) (n : ℕ) → ((a : A) → Lighter n (f a)) → Lighter n (valued worked f)
-valued_falls (Err cause) f n each = record { falls = tt }
-valued_falls (Ok a) f n each = each a
+light_from : {A : Type 0} (r : Reached A) (f : A → Worked Course) (n : ℕ) → ((a : A) → Leads n (f a)) → Light n (go_on_from r f)
+light_from (Came a left) f n each = (each a).light left
+light_from (Fails cause) f n each = tt
+light_from (Needs need) f n each = tt
 
-enters_or_panics : (a : Frames) (q : Request) (n : ℕ) (deep : Bool) → Lighter n (cond deep (Ticks a) (Asks q))
-enters_or_panics a q n true = record { falls = tt }
-enters_or_panics a q n false = record { falls = tt }
+then_leads : {A : Type 0} (work : Worked A) (f : A → Worked Course) (n : ℕ) → ((a : A) → Leads n (f a)) → Leads n (and_then work f)
+then_leads work f n each = record { light = λ given. light_from (work given) f n each }
 
-module _ (file : File) (blocks : Blocks) (rest : List Task) (callers : Frames) where
-  abbrev left_over : ℕ
-  left_over = tasks_weight rest + weight callers
+module _ (globals : Globals) (blocks : Blocks) (rest : List Task) where
+  abbrev behind : ℕ
+  behind = tasks_weight rest
 
-  goes : (tasks : List Task) (n : ℕ) → 1 + tasks_weight tasks + left_over < n → Lighter n (go_on file blocks rest callers tasks)
-  goes tasks n less = let e : 1 + tasks_weight (tasks ++ rest) + weight callers < n = omega (arith, append_weight tasks rest, less) in record { falls = e }
+  goes : (tasks : List Task) (n : ℕ) → tasks_weight tasks + behind < n → Leads n (go_on globals blocks rest tasks)
+  goes tasks n less = let e : tasks_weight (tasks ++ rest) < n = omega (arith, append_weight tasks rest, less) in record { light = λ given. e }
 
-  enters_falls : (tasks : List Task) (n : ℕ) → 2 + tasks_weight tasks + left_over < n → Lighter n (enters_block file blocks rest callers tasks)
-  enters_falls tasks n less = let e : 1 + tasks_weight (tasks ++ EndBlock ∷ rest) + weight callers < n = omega (arith, append_weight tasks (EndBlock ∷ rest), less) in record { falls = e }
+  enters_leads : (tasks : List Task) (n : ℕ) → 1 + tasks_weight tasks + behind < n → Leads n (enters_block globals blocks rest tasks)
+  enters_leads tasks n less = let e : tasks_weight (tasks ++ EndBlock ∷ rest) < n = omega (arith, append_weight tasks (EndBlock ∷ rest), less) in record { light = λ given. e }
 
-  asks_falls : (q : Request) (zeros : List Value) (purpose : Purpose) (n : ℕ) → 2 + left_over < n → Lighter n (asks file blocks rest callers q zeros purpose)
-  asks_falls q zeros purpose n less = goes (Ask q zeros purpose ∷ []) n (omega (arith, less))
+  leaves_leads : (tasks : List Task) (n : ℕ) → tasks_weight tasks + behind < n → Leads n (leaves_block globals blocks rest tasks)
+  leaves_leads tasks n less = let e : tasks_weight (tasks ++ rest) < n = omega (arith, append_weight tasks rest, less) in record { light = λ given. e }
 
-  store_falls : (destinations : List Destination) (vs : List Value) (n : ℕ) → 2 + left_over < n → Lighter n (go_on file blocks rest callers (Store destinations vs ∷ []))
-  store_falls destinations vs n less = goes (Store destinations vs ∷ []) n (omega (arith, less))
+  does_leads : (need : Need) (n : ℕ) → behind < n → Leads n (does globals blocks rest need)
+  does_leads need n less = then_leads _ _ n (λ given. goes [] n (omega (arith, less)))
 
-  leaves_falls : (tasks : List Task) (n : ℕ) → 1 + tasks_weight tasks + left_over < n → Lighter n (leaves_block file blocks rest callers tasks)
-  leaves_falls tasks n less = let e : 1 + tasks_weight (tasks ++ rest) + weight callers < n = omega (arith, append_weight tasks rest, less) in record { falls = e }
+  gives_leads : (destinations : List Destination) (right : List Expression) (n : ℕ) → Leads n (gives globals blocks rest destinations right)
+  gives_leads destinations right n = then_leads (right_values globals blocks (length destinations) right) (stores globals blocks rest destinations) n (λ all. record { light = λ given. tt })
 
-  enters_function_falls : (purpose : Purpose) (number : ℕ) (vs : List Value) (n : ℕ) (found : Option Function) → 2 + left_over < n → Lighter n (enters file blocks rest callers purpose number vs found)
-  enters_function_falls purpose number vs n None less = goes [] n (omega (arith, less))
-  enters_function_falls purpose number vs n (Some function) less = enters_or_panics _ _ n (nat_lt (length callers + 1) MAX_DEPTH)
+  updates_leads : (place : Place) (operator : BinaryOperator) (operand : Worked Value) (n : ℕ) → Leads n (updates globals blocks rest place operator operand)
+  updates_leads place operator operand n =
+      then_leads (binary operator (ready (value_at globals blocks rest place)) operand) (λ v. stores globals blocks rest (placed globals blocks place ∷ []) (v ∷ [])) n (λ v. record { light = λ given. tt })
 
-  calls_falls : (purpose : Purpose) (number : ℕ) (vs : List Value) (n : ℕ) → 2 + left_over < n → Lighter n (calls file blocks rest callers purpose number vs)
-  calls_falls purpose number vs n less = enters_function_falls purpose number vs n (slice_get (functions file) number) less
+  send_leads : (c : Option ℕ) (item : Worked Value) (n : ℕ) → behind < n → Leads n (and_then item (λ words. asks globals blocks rest (requests.Send c words)))
+  send_leads c item n less = then_leads item (λ words. asks globals blocks rest (requests.Send c words)) n (λ words. does_leads (Asking (requests.Send c words)) n less)
 
-  operates_falls : (operation : Operation) (purpose : Purpose) (n : ℕ) → 2 + left_over < n → Lighter n (operates file blocks rest callers operation purpose)
-  operates_falls (Call function arguments) purpose n less = valued_falls _ _ n (λ all. calls_falls purpose (number_of (globals file) function) all n less)
-  operates_falls (Receive from) purpose n less = valued_falls _ _ n (λ c. asks_falls _ _ purpose n (omega (arith, less)))
-  operates_falls (Make kind None) purpose n less = asks_falls _ _ purpose n (omega (arith, less))
-  operates_falls (Make kind (Some size)) purpose n less = valued_falls _ _ n (λ c. asks_falls _ _ purpose n (omega (arith, less)))
-  operates_falls (Length from) purpose n less = valued_falls _ _ n (λ c. asks_falls _ _ purpose n (omega (arith, less)))
-  operates_falls (Capacity from) purpose n less = valued_falls _ _ n (λ c. asks_falls _ _ purpose n (omega (arith, less)))
+  simple_leads : (simple : Simple) (n : ℕ) → behind < n → Leads n (simple_work globals blocks rest simple)
+  simple_leads (CallAlone function arguments) n less = then_leads _ _ n (λ all. does_leads _ n less)
+  simple_leads (Close from) n less = then_leads _ _ n (λ c. does_leads _ n less)
+  simple_leads (Print line parts trailing) n less = then_leads _ _ n (λ all. does_leads _ n less)
+  simple_leads (ReceiveAlone from) n less = then_leads _ _ n (λ c. does_leads _ n less)
+  simple_leads (Send to item) n less = then_leads (channel globals blocks rest to) (λ c. and_then (item_in globals blocks rest to item) (λ words. asks globals blocks rest (requests.Send c words))) n (λ c. send_leads c (item_in globals blocks rest to item) n less)
+  simple_leads (Increment place) n less = updates_leads place Add (ready (Int (pos 1) ∷ [])) n
+  simple_leads (Decrement place) n less = updates_leads place Subtract (ready (Int (pos 1) ∷ [])) n
+  simple_leads (Assign places right) n less = gives_leads _ right n
+  simple_leads (Define names right) n less = gives_leads _ right n
+  simple_leads (Update place operator operand) n less = updates_leads place operator (value globals blocks operand) n
 
-  gives_falls : (destinations : List Destination) (right : Right) (n : ℕ) → 2 + left_over < n → Lighter n (gives file blocks rest callers destinations right)
-  gives_falls destinations (RightOperation operation) n less = operates_falls operation (Assigned destinations) n less
-  gives_falls destinations (Values all) n less = valued_falls _ _ n (λ vs. store_falls destinations vs n less)
+  otherwise_leads : (otherwise : Otherwise) (n : ℕ) → 1 + otherwise_weight otherwise + behind < n → Leads n (otherwise_work globals blocks rest otherwise)
+  otherwise_leads NoElse n less = goes [] n (omega (arith, less))
+  otherwise_leads (ElseBlock body) n less = enters_leads (all_of body) n (omega (arith, body_is body, less))
+  otherwise_leads (ElseIf branch) n less = goes (Do (If branch) ∷ []) n (omega (arith, less))
 
-  send_falls : (c : Option ℕ) (item : Worked Value) (n : ℕ) → 2 + left_over < n → Lighter n (valued item (λ words. asks file blocks rest callers (requests.Send c words) [] Unused))
-  send_falls c item n less = valued_falls item (λ words. asks file blocks rest callers (requests.Send c words) [] Unused) n (λ words. asks_falls (requests.Send c words) [] Unused n less)
+  decides_leads : (body : Statements) (otherwise : Otherwise) (n : ℕ) (b : Bool) → 1 + body_weight body + otherwise_weight otherwise + behind < n
+      → Leads n (if b then enters_block globals blocks rest (all_of body) else otherwise_work globals blocks rest otherwise)
+  decides_leads body otherwise n true less = enters_leads (all_of body) n (omega (arith, body_is body, less))
+  decides_leads body otherwise n false less = otherwise_leads otherwise n (omega (arith, less))
 
-  simple_falls : (simple : Simple) (n : ℕ) → 2 + left_over < n → Lighter n (simple_next file blocks rest callers simple)
-  simple_falls (CallAlone function arguments) n less = operates_falls (Call function arguments) Unused n less
-  simple_falls (Close from) n less = valued_falls _ _ n (λ c. asks_falls _ _ Unused n (omega (arith, less)))
-  simple_falls (Print line parts trailing) n less = valued_falls _ _ n (λ c. asks_falls _ _ Unused n (omega (arith, less)))
-  simple_falls (ReceiveAlone from) n less = operates_falls (Receive from) Unused n less
-  simple_falls (Send to item) n less = valued_falls (channel file blocks rest callers to) (λ c. valued (item_in file blocks rest callers to item) (λ words. asks file blocks rest callers (requests.Send c words) [] Unused)) n (λ c. send_falls c (item_in file blocks rest callers to item) n less)
-  simple_falls (Increment place) n less = valued_falls _ _ n (λ v. store_falls _ (v ∷ []) n less)
-  simple_falls (Decrement place) n less = valued_falls _ _ n (λ v. store_falls _ (v ∷ []) n less)
-  simple_falls (Assign places right) n less = gives_falls _ right n less
-  simple_falls (Define names right) n less = gives_falls _ right n less
-  simple_falls (Update place operator operand) n less = valued_falls _ _ n (λ v. store_falls _ (v ∷ []) n less)
+  body_leads : (loop : Loop) (body : Statements) (n : ℕ) → body_weight body + loop_weight loop + behind < n → Leads n (body_work globals blocks rest loop body)
+  body_leads loop body n less = let e : tasks_weight (all_of body ++ Again loop ∷ rest) < n = omega (arith, append_weight (all_of body) (Again loop ∷ rest), body_is body, less) in record { light = λ given. e }
 
-  otherwise_falls : (otherwise : Otherwise) (n : ℕ) → 2 + otherwise_weight otherwise + left_over < n → Lighter n (otherwise_next file blocks rest callers otherwise)
-  otherwise_falls NoElse n less = goes [] n (omega (arith, less))
-  otherwise_falls (ElseBlock body) n less = enters_falls (all_of body) n (omega (arith, body_is body, less))
-  otherwise_falls (ElseIf branch) n less = goes (Do (If branch) ∷ []) n (omega (arith, less))
+  tested_leads : (loop : Loop) (body : Statements) (n : ℕ) (b : Bool) → body_weight body + loop_weight loop + behind < n
+      → Leads n (if b then body_work globals blocks rest loop body else go_on globals blocks rest [])
+  tested_leads loop body n true less = body_leads loop body n less
+  tested_leads loop body n false less = goes [] n (omega (arith, less))
 
-  decides_falls : (body : Statements) (otherwise : Otherwise) (n : ℕ) (b : Bool) → 2 + body_weight body + otherwise_weight otherwise + left_over < n
-      → Lighter n (if b then enters_block file blocks rest callers (all_of body) else otherwise_next file blocks rest callers otherwise)
-  decides_falls body otherwise n true less = enters_falls (all_of body) n (omega (arith, body_is body, less))
-  decides_falls body otherwise n false less = otherwise_falls otherwise n (omega (arith, less))
+  -- what was received is stored at a cost, or there is nothing to store
+  assigned_light : (destinations : List Destination) (all : List Value) (tasks : List Task) (n : ℕ) → tasks_weight tasks < n → Lighter n (assigned globals blocks rest destinations all tasks)
+  assigned_light [] all tasks n less = less
+  assigned_light (first ∷ more) all tasks n less = tt
 
-  body_falls : (loop : Loop) (body : Statements) (n : ℕ) → 2 + body_weight body + loop_weight loop + left_over < n → Lighter n (body_next file blocks rest callers loop body)
-  body_falls loop body n less = let e : 1 + tasks_weight (all_of body ++ Again loop ∷ rest) + weight callers < n = omega (arith, append_weight (all_of body) (Again loop ∷ rest), body_is body, less) in record { falls = e }
+  item_light : (destinations : List Destination) (z : Value) (body : Statements) (got : List Value) (n : ℕ) → 4 + body_weight body + behind < n → Lighter n (next_item globals blocks rest destinations z body got)
+  item_light destinations z body [] n less = omega (arith, less)
+  item_light destinations z body (item ∷ []) n less = omega (arith, less)
+  item_light destinations z body (item ∷ ([] ∷ more)) n less = omega (arith, less)
+  item_light destinations z body (item ∷ ((Truth true ∷ ok) ∷ more)) n less =
+      assigned_light destinations (item ∷ ((Truth true ∷ ok) ∷ more)) (Do (Block body) ∷ (Again (Ranging destinations z body) ∷ rest)) n (omega (arith, less))
+  item_light destinations z body (item ∷ ((Truth false ∷ ok) ∷ more)) n less = omega (arith, less)
+  item_light destinations z body (item ∷ ((Int i ∷ ok) ∷ more)) n less = omega (arith, less)
+  item_light destinations z body (item ∷ ((Chan c ∷ ok) ∷ more)) n less = omega (arith, less)
 
-  tested_falls : (loop : Loop) (body : Statements) (n : ℕ) (b : Bool) → 2 + body_weight body + loop_weight loop + left_over < n
-      → Lighter n (if b then body_next file blocks rest callers loop body else go_on file blocks rest callers [])
-  tested_falls loop body n true less = body_falls loop body n less
-  tested_falls loop body n false less = goes [] n (omega (arith, less))
+  head_leads : (loop : Loop) (n : ℕ) → head_weight loop + behind ≤ n → Leads n (head_work globals blocks rest loop)
+  head_leads (Repeating None post body) n less = body_leads (Repeating None post body) body n (omega (arith, less))
+  head_leads (Repeating (Some condition) post body) n less = then_leads _ _ n (λ word. tested_leads (Repeating (Some condition) post body) body n (truth_in word) (omega (arith, less)))
+  head_leads (Ranging destinations z body) n less = then_leads (told (z ∷ (Truth false ∷ []) ∷ []) (Asking (requests.Receive (kept globals blocks rest)))) (λ got. ready (next_item globals blocks rest destinations z body got)) n (λ got. record { light = λ given. item_light destinations z body got n (omega (arith, less)) })
 
-  head_falls : (loop : Loop) (n : ℕ) → head_weight loop + left_over < n → Lighter n (head_next file blocks rest callers loop)
-  head_falls (Repeating None post body) n less = body_falls (Repeating None post body) body n (omega (arith, less))
-  head_falls (Repeating (Some condition) post body) n less = valued_falls _ _ n (λ word. tested_falls (Repeating (Some condition) post body) body n (truth_in word) (omega (arith, less)))
-  head_falls (Ranging destinations z body) n less = asks_falls _ _ _ n (omega (arith, less))
+  again_leads : (loop : Loop) (n : ℕ) → loop_weight loop + behind ≤ n → Leads n (again_work globals blocks rest loop)
+  again_leads (Repeating condition None body) n less = leaves_leads (Turn (Repeating condition None body) ∷ []) n (omega (arith, less))
+  again_leads (Repeating condition (Some post) body) n less = record { light = λ given. omega (arith, less) }
+  again_leads (Ranging destinations z body) n less = leaves_leads (Turn (Ranging destinations z body) ∷ []) n (omega (arith, less))
 
-  again_falls : (loop : Loop) (n : ℕ) → loop_weight loop + left_over < n → Lighter n (again_next file blocks rest callers loop)
-  again_falls (Repeating condition None body) n less = leaves_falls (Turn (Repeating condition None body) ∷ []) n (omega (arith, less))
-  again_falls (Repeating condition (Some post) body) n less = record { falls = omega (arith, less) }
-  again_falls (Ranging destinations z body) n less = leaves_falls (Turn (Ranging destinations z body) ∷ []) n (omega (arith, less))
+  ranges_leads : (destinations : List Destination) (kind : ValueType) (body : Statements) (from : Expression) (c : Option ℕ) (n : ℕ) → 20 + body_weight body + behind ≤ n
+      → Leads n (ranges globals blocks rest destinations kind body from c)
+  ranges_leads destinations kind body from c n less = record { light = λ given. omega (arith, less) }
 
-  range_falls : (destinations : List Destination) (kind : ValueType) (body : Statements) (from : Expression) (c : Option ℕ) (n : ℕ) → 20 + body_weight body + left_over < n
-      → Lighter n (ranges file blocks rest callers destinations kind body from c)
-  range_falls destinations kind body from c n less = record { falls = omega (arith, less) }
+  for_leads : (head : ForHead) (body : Statements) (n : ℕ) → 20 + body_weight body + behind ≤ n → Leads n (for_work globals blocks rest head body)
+  for_leads Forever body n less = goes (Head (Repeating None None body) ∷ []) n (omega (arith, less))
+  for_leads (While condition) body n less = goes (Head (Repeating (Some condition) None body) ∷ []) n (omega (arith, less))
+  for_leads (ForClauses None condition None) body n less = enters_leads (Head (Repeating condition None body) ∷ []) n (omega (arith, less))
+  for_leads (ForClauses None condition (Some post)) body n less = enters_leads (Head (Repeating condition (Some post) body) ∷ []) n (omega (arith, less))
+  for_leads (ForClauses (Some first) condition None) body n less = enters_leads (Do (Alone first) ∷ (Head (Repeating condition None body) ∷ [])) n (omega (arith, less))
+  for_leads (ForClauses (Some first) condition (Some post)) body n less = enters_leads (Do (Alone first) ∷ (Head (Repeating condition (Some post) body) ∷ [])) n (omega (arith, less))
+  for_leads (Range target from) body n less = then_leads _ _ n (λ c. ranges_leads _ _ body from c n less)
 
-  for_falls : (head : ForHead) (body : Statements) (n : ℕ) → 20 + body_weight body + left_over < n → Lighter n (for_next file blocks rest callers head body)
-  for_falls Forever body n less = goes (Head (Repeating None None body) ∷ []) n (omega (arith, less))
-  for_falls (While condition) body n less = goes (Head (Repeating (Some condition) None body) ∷ []) n (omega (arith, less))
-  for_falls (ForClauses None condition None) body n less = enters_falls (Head (Repeating condition None body) ∷ []) n (omega (arith, less))
-  for_falls (ForClauses None condition (Some post)) body n less = enters_falls (Head (Repeating condition (Some post) body) ∷ []) n (omega (arith, less))
-  for_falls (ForClauses (Some first) condition None) body n less = enters_falls (Do (Alone first) ∷ (Head (Repeating condition None body) ∷ [])) n (omega (arith, less))
-  for_falls (ForClauses (Some first) condition (Some post)) body n less = enters_falls (Do (Alone first) ∷ (Head (Repeating condition (Some post) body) ∷ [])) n (omega (arith, less))
-  for_falls (Range _ from) body n less = valued_falls _ _ n (λ c. range_falls _ _ body from c n less)
+  branch_leads : (branch : Branch) (n : ℕ) → branch_weight branch + behind < n → Leads n (branch_work globals blocks rest branch)
+  branch_leads (Conditional Bare condition body otherwise) n less = enters_leads (Decide condition body otherwise ∷ []) n (omega (arith, less))
+  branch_leads (Conditional Semicolon condition body otherwise) n less = enters_leads (Decide condition body otherwise ∷ []) n (omega (arith, less))
+  branch_leads (Conditional (First simple) condition body otherwise) n less = enters_leads (Do (Alone simple) ∷ (Decide condition body otherwise ∷ [])) n (omega (arith, less))
 
-  branch_falls : (branch : Branch) (n : ℕ) → 1 + branch_weight branch + left_over < n → Lighter n (branch_next file blocks rest callers branch)
-  branch_falls (Conditional Bare condition body otherwise) n less = enters_falls (Decide condition body otherwise ∷ []) n (omega (arith, less))
-  branch_falls (Conditional Semicolon condition body otherwise) n less = enters_falls (Decide condition body otherwise ∷ []) n (omega (arith, less))
-  branch_falls (Conditional (First simple) condition body otherwise) n less = enters_falls (Do (Alone simple) ∷ (Decide condition body otherwise ∷ [])) n (omega (arith, less))
+  return_leads : (returned : Returned) (n : ℕ) → Leads n (return_work globals blocks rest returned)
+  return_leads NoValue n = record { light = λ given. tt }
+  return_leads (ReturnedValue expression) n = then_leads (value globals blocks expression) (λ v. ready (GivesBack v)) n (λ v. record { light = λ given. tt })
 
-  return_falls : (returned : Returned) (n : ℕ) → 2 + left_over < n → Lighter n (return_next file blocks rest callers returned)
-  return_falls NoValue n less = goes (GiveBack [] ∷ []) n (omega (arith, less))
-  return_falls (ReturnedOperation operation) n less = operates_falls operation GivenBack n less
-  return_falls (ReturnedValue expression) n less = valued_falls _ _ n (λ v. goes (GiveBack v ∷ []) n (omega (arith, less)))
+  -- ---- selects
 
-  statement_falls : (statement : Statement) (n : ℕ) → statement_weight statement + left_over < n → Lighter n (statement_next file blocks rest callers statement)
-  statement_falls Empty n less = goes [] n (omega (arith, less))
-  statement_falls (Alone simple) n less = simple_falls simple n less
-  statement_falls (VarTyped names kind None) n less = store_falls _ _ n (omega (arith, less))
-  statement_falls (VarTyped names kind (Some right)) n less = gives_falls _ right n less
-  statement_falls (VarUntyped names right) n less = gives_falls _ right n less
-  statement_falls (Block body) n less = enters_falls (all_of body) n (omega (arith, body_is body, less))
-  statement_falls (If branch) n less = branch_falls branch n less
-  statement_falls (For head body) n less = for_falls head body n less
-  statement_falls (Select clauses) n less = valued_falls _ _ n (λ cases. asks_falls _ _ _ n (omega (arith, less)))
-  statement_falls (Go function arguments) n less = valued_falls _ _ n (λ all. asks_falls _ _ _ n (omega (arith, less)))
-  statement_falls (Return returned) n less = return_falls returned n less
-  statement_falls Break n less = record { falls = omega (arith, broken_weight blocks rest, less) }
-  statement_falls Continue n less = record { falls = omega (arith, continued_weight blocks rest, less) }
+  way_light : (body : Statements) (n : ℕ) → 1 + body_weight body + behind < n → tasks_weight (all_of body ++ EndSelect ∷ rest) < n
+  way_light body n less = omega (arith, append_weight (all_of body) (EndSelect ∷ rest), body_is body, less)
 
-  task_falls : (task : Task) (n : ℕ) → task_weight task + left_over < n → Lighter n (task_next file blocks rest callers task)
-  task_falls (Do statement) n less = statement_falls statement n less
-  task_falls EndBlock n less = leaves_falls [] n (omega (arith, less))
-  task_falls (Decide condition body otherwise) n less = valued_falls _ _ n (λ word. decides_falls body otherwise n (truth_in word) less)
-  task_falls (Head loop) n less = head_falls loop n less
-  task_falls (Again loop) n less = again_falls loop n less
-  task_falls (Turn loop) n less = record { falls = tt }
-  task_falls EndSelect n less = leaves_falls [] n (omega (arith, less))
-  task_falls (Ask request zeros purpose) n less = record { falls = tt }
-  task_falls (Await z purpose) n less = goes [] n (omega (arith, less))
-  task_falls (Store destinations vs) n less = record { falls = tt }
-  task_falls (GiveBack result) n less = give_back_falls result callers n (omega (arith, less))
+  clause_light : (clauses : Clauses) (k : ℕ) (got : List Word) (n : ℕ) → 1 + clauses_weight clauses + behind < n → Lighter n (at_clause globals blocks rest clauses k got)
+  clause_light NoClause k got n less = omega (arith, less)
+  clause_light (Clause None body more) k got n less = clause_light more k got n (omega (arith, less))
+  clause_light (Clause (Some comm) body more) zero got n less = omega (arith, less)
+  clause_light (Clause (Some comm) body more) (suc zero) got n less = assigned_light _ _ (all_of body ++ EndSelect ∷ rest) n (way_light body n (omega (arith, less)))
+  clause_light (Clause (Some comm) body more) (suc (suc k)) got n less = clause_light more (suc k) got n (omega (arith, less))
 
-frame_falls : (file : File) (blocks : Blocks) (tasks : List Task) (callers : Frames) (n : ℕ) → tasks_weight tasks + weight callers < n → Lighter n (frame_next file blocks tasks callers)
-frame_falls file blocks [] callers n less = give_back_falls [] callers n (omega (arith, less))
-frame_falls file blocks (task ∷ rest) callers n less = task_falls file blocks rest callers task n (omega (arith, less))
+  default_light : (clauses : Clauses) (n : ℕ) → 1 + clauses_weight clauses + behind < n → Lighter n (at_default globals blocks rest (default_of globals blocks rest clauses))
+  default_light NoClause n less = omega (arith, less)
+  default_light (Clause None body more) n less = way_light body n (omega (arith, less))
+  default_light (Clause (Some comm) body more) n less = default_light more n (omega (arith, less))
 
--- steps without cost end
-pub source_falls : (file : File) (state : Frames) → Falls weight (weight state) (source_next file state)
-source_falls file [] = tt
-source_falls file (top ∷ callers) = (frame_falls file top.blocks top.tasks callers (weight (top ∷ callers)) (omega arith)).falls
+  chosen_light : (clauses : Clauses) (given : Given) (n : ℕ) → 1 + clauses_weight clauses + behind < n → Lighter n (chosen globals blocks rest clauses given)
+  chosen_light clauses (Told (Chose k got)) n less = clause_light clauses k (reply_words (Chose k got)) n less
+  chosen_light clauses (Told Nothing) n less = default_light clauses n less
+  chosen_light clauses (Told (Answer w)) n less = default_light clauses n less
+  chosen_light clauses (Told (Received item ok)) n less = default_light clauses n less
+  chosen_light clauses (Told Default) n less = default_light clauses n less
+  chosen_light clauses (Told Closed) n less = default_light clauses n less
+  chosen_light clauses (Yielded v) n less = default_light clauses n less
+
+  statement_leads : (statement : Statement) (n : ℕ) → statement_weight statement + behind ≤ n → Leads n (statement_work globals blocks rest statement)
+  statement_leads Empty n less = goes [] n (omega (arith, less))
+  statement_leads (Alone simple) n less = simple_leads simple n (omega (arith, less))
+  statement_leads (VarTyped names kind None) n less = record { light = λ given. tt }
+  statement_leads (VarTyped names kind (Some right)) n less = gives_leads _ right n
+  statement_leads (VarUntyped names right) n less = gives_leads _ right n
+  statement_leads (Block body) n less = enters_leads (all_of body) n (omega (arith, body_is body, less))
+  statement_leads (If branch) n less = branch_leads branch n (omega (arith, less))
+  statement_leads (For head body) n less = for_leads head body n less
+  statement_leads (Select clauses) n less =
+      then_leads (cases_of globals blocks rest clauses) (λ cases. and_then (needs (Asking (requests.Select cases (is_some (default_of globals blocks rest clauses))))) (λ given. ready (chosen globals blocks rest clauses given))) n
+      (λ cases. then_leads (needs (Asking (requests.Select cases (is_some (default_of globals blocks rest clauses))))) (λ given. ready (chosen globals blocks rest clauses given)) n (λ given. record { light = λ left. chosen_light clauses given n (omega (arith, less)) }))
+  statement_leads (Go function arguments) n less = then_leads _ _ n (λ all. does_leads _ n (omega (arith, less)))
+  statement_leads (Return returned) n less = return_leads returned n
+  statement_leads Break n less = record { light = λ given. omega (arith, broken_weight blocks rest, less) }
+  statement_leads Continue n less = record { light = λ given. omega (arith, continued_weight blocks rest, less) }
+
+  task_leads : (task : Task) (n : ℕ) → task_weight task + behind ≤ n → Leads n (task_work globals blocks rest task)
+  task_leads (Do statement) n less = statement_leads statement n less
+  task_leads EndBlock n less = leaves_leads [] n (omega (arith, less))
+  task_leads (Decide condition body otherwise) n less = then_leads _ _ n (λ word. decides_leads body otherwise n (truth_in word) (omega (arith, less)))
+  task_leads (Head loop) n less = head_leads loop n less
+  task_leads (Again loop) n less = again_leads loop n less
+  task_leads (Turn loop) n less = record { light = λ given. tt }
+  task_leads EndSelect n less = leaves_leads [] n (omega (arith, less))
+
+tasks_leads : (globals : Globals) (blocks : Blocks) (tasks : List Task) → Leads (tasks_weight tasks) (tasks_work globals blocks tasks)
+tasks_leads globals blocks [] = record { light = λ given. tt }
+tasks_leads globals blocks (task ∷ rest) = task_leads globals blocks rest task (tasks_weight (task ∷ rest)) (omega arith)
+
+-- ---- steps
+
+back_falls : (result : Value) (callers : Frames) (n : ℕ) → weight callers < n → Falls weight n (give_back result callers)
+back_falls result [] n less = tt
+back_falls result (caller ∷ callers) n less = omega (arith, less)
+
+enters_or_panics : (a : Frames) (q : Request) (n : ℕ) (deep : Bool) → Falls weight n (cond deep (Ticks a) (Asks q))
+enters_or_panics a q n true = tt
+enters_or_panics a q n false = tt
+
+module _ (file : File) where
+  enters_falls : (frames : Frames) (arguments : List Value) (n : ℕ) (found : Option Function) → Falls weight n (enters file frames arguments found)
+  enters_falls frames arguments n None = tt
+  enters_falls frames arguments n (Some function) = enters_or_panics _ _ n (nat_lt (length frames) MAX_DEPTH)
+
+  needed_falls : (frames : Frames) (need : Need) (n : ℕ) → Falls weight n (needed file frames need)
+  needed_falls frames (Asking request) n = tt
+  needed_falls frames (Calling number arguments) n = enters_falls frames arguments n (slice_get (functions file) number)
+
+  taken_falls : (callers : Frames) (course : Course) (n : ℕ) → Lighter n course → Falls weight (1 + n + weight callers) (taken file callers course)
+  taken_falls callers (Goes top) n light = omega (arith, light)
+  taken_falls callers (Moves top) n light = tt
+  taken_falls callers (GivesBack result) n light = back_falls result callers (1 + n + weight callers) (omega arith)
+
+  reached_falls : (blocks : Blocks) (given : List Given) (tasks : List Task) (callers : Frames) (r : Reached Course) (n : ℕ) → Light n r
+      → Falls weight (1 + n + weight callers) (reached file (record { blocks = blocks; given = given; tasks = tasks }) callers r)
+  reached_falls blocks given tasks callers (Came course left) n light = taken_falls callers course n light
+  reached_falls blocks given tasks callers (Fails cause) n light = tt
+  reached_falls blocks given tasks callers (Needs need) n light = needed_falls (record { blocks = blocks; given = given; tasks = tasks } ∷ callers) need (1 + n + weight callers)
+
+  -- steps without cost end
+  pub source_falls : (state : Frames) → Falls weight (weight state) (source_next file state)
+  source_falls [] = tt
+  source_falls (top ∷ callers) =
+      reached_falls top.blocks top.given top.tasks callers (tasks_work (globals file) top.blocks top.tasks top.given) (tasks_weight top.tasks) ((tasks_leads (globals file) top.blocks top.tasks).light top.given)

@@ -8,7 +8,6 @@ use Rattle.syntax.specs.declared.node.ExpressionNode.{ExpressionNode}
 use Rattle.syntax.specs.declared.node.ExpressionNode.TheVariants as expressions
 use Rattle.syntax.specs.declared.node.ExpressionNode.TheFolds.{fold-roll-ExpressionNode}
 use Rattle.syntax.specs.declared.node.ArgumentsNode.{ArgumentsNode}
-use Rattle.syntax.specs.declared.node.RightNode.{RightNode}
 use Rattle.syntax.specs.declared.node.ForHeader.{ForHeader}
 use Rattle.syntax.specs.declared.node.ReturnNode.{ReturnNode}
 use Rattle.syntax.specs.declared.node.IfNode.{IfNode}
@@ -19,7 +18,7 @@ use Rattle.syntax.specs.declared.node.ClauseNode.{ClauseNode}
 use Rattle.syntax.specs.declared.node.StatementNode.{StatementNode}
 use Rattle.syntax.specs.declared.node.StatementNode.TheVariants as nodes
 use Rattle.syntax.specs.declared.node.ElseNode.TheFolds.{fold-roll-StatementNode, fold-roll-ElseNode, fold_out-IfNode, fold_out-ClauseNode}
-use Rattle.syntax.specs.Tree.{Integer, Named, Parenthesized, Selection, Composite, Unary, Binary, expressions as expressions_in, Empty, Alone, If, NoElse, ElseBlock, ElseIf, VarTyped, VarUntyped, Block, For, Select, Go, Return, Break, Continue, Conditional}
+use Rattle.syntax.specs.Tree.{Integer, Named, Parenthesized, Selection, Composite, Unary, Binary, Call, Receive, Make, MakeSized, Length, Capacity, expressions as expressions_in, Empty, Alone, If, NoElse, ElseBlock, ElseIf, VarTyped, VarUntyped, Block, For, Select, Go, Return, Break, Continue, Conditional}
 use Rattle.syntax.specs.View.{name_of, type_of, expression_of, arguments_of, right_of, simple_of, if_head_of, for_head_of, comm_of, returned_of, statement_of, body_of, branch_of, otherwise_of, clause_of, clauses}
 
 -- ---- expressions
@@ -47,6 +46,25 @@ pub composite_is : (e : ExpressionNode) (name : Name) (values : Vec ExpressionNo
     → expression_of e ≡ Composite (name_of name) (expressions_in (map expression_of values.items)) trailing
 composite_is e name values trailing is = ap expression_of (is ∙ sym (expressions.rolls-Composite name values trailing)) ∙ fold-roll-ExpressionNode _ _ _
 
+pub call_is : (e : ExpressionNode) (function : Name) (values : Vec ExpressionNode Global) (trailing : Bool) → e ≡ expressions.Call function values trailing
+    → expression_of e ≡ Call (name_of function) (expressions_in (map expression_of values.items)) trailing
+call_is e function values trailing is = ap expression_of (is ∙ sym (expressions.rolls-Call function values trailing)) ∙ fold-roll-ExpressionNode _ _ _
+
+pub receive_is : (e : ExpressionNode) (channel : Box ExpressionNode Global) → e ≡ expressions.Receive channel → expression_of e ≡ Receive (expression_of channel.value)
+receive_is e channel is = ap expression_of (is ∙ sym (expressions.rolls-Receive channel)) ∙ fold-roll-ExpressionNode _ _ _
+
+pub make_is : (e : ExpressionNode) (channel : Box TypeNode Global) → e ≡ expressions.Make channel → expression_of e ≡ Make (type_of channel.value)
+make_is e channel is = ap expression_of (is ∙ sym (expressions.rolls-Make channel)) ∙ fold-roll-ExpressionNode _ _ _
+
+pub make_sized_is : (e : ExpressionNode) (channel : Box TypeNode Global) (size : Box ExpressionNode Global) → e ≡ expressions.MakeSized channel size → expression_of e ≡ MakeSized (type_of channel.value) (expression_of size.value)
+make_sized_is e channel size is = ap expression_of (is ∙ sym (expressions.rolls-MakeSized channel size)) ∙ fold-roll-ExpressionNode _ _ _
+
+pub length_is : (e : ExpressionNode) (channel : Box ExpressionNode Global) → e ≡ expressions.Length channel → expression_of e ≡ Length (expression_of channel.value)
+length_is e channel is = ap expression_of (is ∙ sym (expressions.rolls-Length channel)) ∙ fold-roll-ExpressionNode _ _ _
+
+pub capacity_is : (e : ExpressionNode) (channel : Box ExpressionNode Global) → e ≡ expressions.Capacity channel → expression_of e ≡ Capacity (expression_of channel.value)
+capacity_is e channel is = ap expression_of (is ∙ sym (expressions.rolls-Capacity channel)) ∙ fold-roll-ExpressionNode _ _ _
+
 -- ---- statements
 
 pub empty_is : (s : StatementNode) → s ≡ nodes.Empty → statement_of s ≡ Empty
@@ -55,11 +73,11 @@ empty_is s is = ap statement_of (is ∙ sym nodes.rolls-Empty) ∙ fold-roll-Sta
 pub simple_is : (s : StatementNode) (simple : SimpleNode) → s ≡ nodes.Simple simple → statement_of s ≡ Alone (simple_of simple)
 simple_is s simple is = ap statement_of (is ∙ sym (nodes.rolls-Simple simple)) ∙ fold-roll-StatementNode _ _ _ _ _ _ _ _ _
 
-pub typed_is : (s : StatementNode) (names : Vec Name Global) (kind : TypeNode) (right : Option RightNode) → s ≡ nodes.Typed names kind right
+pub typed_is : (s : StatementNode) (names : Vec Name Global) (kind : TypeNode) (right : Option (Vec ExpressionNode Global)) → s ≡ nodes.Typed names kind right
     → statement_of s ≡ VarTyped (map name_of names.items) (type_of kind) (option_map right_of right)
 typed_is s names kind right is = ap statement_of (is ∙ sym (nodes.rolls-Typed names kind right)) ∙ fold-roll-StatementNode _ _ _ _ _ _ _ _ _
 
-pub untyped_is : (s : StatementNode) (names : Vec Name Global) (right : RightNode) → s ≡ nodes.Untyped names right → statement_of s ≡ VarUntyped (map name_of names.items) (right_of right)
+pub untyped_is : (s : StatementNode) (names : Vec Name Global) (right : Vec ExpressionNode Global) → s ≡ nodes.Untyped names right → statement_of s ≡ VarUntyped (map name_of names.items) (right_of right)
 untyped_is s names right is = ap statement_of (is ∙ sym (nodes.rolls-Untyped names right)) ∙ fold-roll-StatementNode _ _ _ _ _ _ _ _ _
 
 pub block_is : (s : StatementNode) (body : Vec StatementNode Global) → s ≡ nodes.Block body → statement_of s ≡ Block (body_of body.items)

@@ -1,6 +1,7 @@
 -- What is in memory, as a tree.
 use Rattle.std.specs.Prelude.{ℕ, Option, option_map, List, [], ◌∷◌, map}
-use Rattle.syntax.specs.Tree.{TypeExpression, NamedType, ParenthesizedType, Channel, Expression, Integer, Named, Parenthesized, Selection, Composite, Unary, Binary, expressions, Arguments, Operation, Call, Receive, Make, Length, Capacity, Right, RightOperation, Values, Place, Part, Value, Text, Simple, CallAlone, Close, Print, ReceiveAlone, Send, Increment, Decrement, Assign, Define, Update, IfHead, Bare, Semicolon, First, Target, NoTarget, DefineTarget, AssignTarget, ForHead, Forever, While, ForClauses, Range, Comm, CommSend, CommReceive, CommDefine, CommAssign, Returned, NoValue, ReturnedOperation, ReturnedValue, Statement, Empty, Alone, VarTyped, VarUntyped, Block, If, For, Select, Go, Return, Break, Continue, Statements, statements, Branch, Conditional, Otherwise, NoElse, ElseBlock, ElseIf, Clauses, NoClause, Clause, Declared, Struct, Function, Top, StructTop, FunctionTop, File}
+use Rattle.std.specs.Global.{Vec}
+use Rattle.syntax.specs.Tree.{TypeExpression, NamedType, ParenthesizedType, Channel, Expression, Integer, Named, Parenthesized, Selection, Composite, Unary, Binary, Call, Receive, Make, MakeSized, Length, Capacity, expressions, Arguments, Place, Part, Value, Text, Simple, CallAlone, Close, Print, ReceiveAlone, Send, Increment, Decrement, Assign, Define, Update, IfHead, Bare, Semicolon, First, Target, NoTarget, DefineTarget, AssignTarget, ForHead, Forever, While, ForClauses, Range, Comm, CommSend, CommReceive, CommDefine, CommAssign, Returned, NoValue, ReturnedValue, Statement, Empty, Alone, VarTyped, VarUntyped, Block, If, For, Select, Go, Return, Break, Continue, Statements, statements, Branch, Conditional, Otherwise, NoElse, ElseBlock, ElseIf, Clauses, NoClause, Clause, Declared, Struct, Function, Top, StructTop, FunctionTop, File}
 use Rattle.syntax.specs.declared.node.Name.{Name}
 use Rattle.syntax.specs.declared.node.TypeNode.{TypeNode}
 use Rattle.syntax.specs.declared.node.TypeNode.TheOpen as types
@@ -9,10 +10,6 @@ use Rattle.syntax.specs.declared.node.ExpressionNode.{ExpressionNode}
 use Rattle.syntax.specs.declared.node.ExpressionNode.TheOpen as layers
 use Rattle.syntax.specs.declared.node.ExpressionNode.TheFolds.{fold-ExpressionNode}
 use Rattle.syntax.specs.declared.node.ArgumentsNode.{ArgumentsNode}
-use Rattle.syntax.specs.declared.node.OperationNode.{OperationNode}
-use Rattle.syntax.specs.declared.node.OperationNode.TheVariants as operations
-use Rattle.syntax.specs.declared.node.RightNode.{RightNode}
-use Rattle.syntax.specs.declared.node.RightNode.TheVariants as rights
 use Rattle.syntax.specs.declared.node.PlaceNode.{PlaceNode}
 use Rattle.syntax.specs.declared.node.PartNode.{PartNode}
 use Rattle.syntax.specs.declared.node.PartNode.TheVariants as parts
@@ -64,6 +61,12 @@ expression_layer (layers.Selection whole field) = Selection whole.value (name_of
 expression_layer (layers.Composite name values trailing) = Composite (name_of name) (expressions values.items) trailing
 expression_layer (layers.Unary operator operand) = Unary operator operand.value
 expression_layer (layers.Binary operator left right) = Binary operator left.value right.value
+expression_layer (layers.Call function values trailing) = Call (name_of function) (expressions values.items) trailing
+expression_layer (layers.Receive channel) = Receive channel.value
+expression_layer (layers.Make channel) = Make (type_of channel.value)
+expression_layer (layers.MakeSized channel size) = MakeSized (type_of channel.value) size.value
+expression_layer (layers.Length channel) = Length channel.value
+expression_layer (layers.Capacity channel) = Capacity channel.value
 
 abbrev pub expression_of : ExpressionNode → Expression
 expression_of = fold-ExpressionNode Expression expression_layer
@@ -73,16 +76,9 @@ arguments_of arguments = record { values = map expression_of arguments.values.it
 
 -- ---- simple statements
 
-abbrev pub operation_of : OperationNode → Operation
-operation_of (operations.Call function arguments) = Call (name_of function) (arguments_of arguments)
-operation_of (operations.Receive channel) = Receive (expression_of channel)
-operation_of (operations.Make channel size) = Make (type_of channel) (option_map expression_of size)
-operation_of (operations.Length channel) = Length (expression_of channel)
-operation_of (operations.Capacity channel) = Capacity (expression_of channel)
-
-abbrev pub right_of : RightNode → Right
-right_of (rights.Operation operation) = RightOperation (operation_of operation.value)
-right_of (rights.Values values) = Values (map expression_of values.items)
+-- the values of a right side
+abbrev pub right_of : Vec ExpressionNode → List Expression
+right_of values = map expression_of values.items
 
 abbrev pub place_of : PlaceNode → Place
 place_of place = record { name = name_of place.name; fields = map name_of place.fields.items }
@@ -129,7 +125,6 @@ comm_of (comms.Assign item ok channel) = CommAssign (place_of item) (option_map 
 
 abbrev pub returned_of : ReturnNode → Returned
 returned_of returns.Nothing = NoValue
-returned_of (returns.Operation operation) = ReturnedOperation (operation_of operation.value)
 returned_of (returns.Value value) = ReturnedValue (expression_of value)
 
 -- a clause of a select, of which the others are still to come

@@ -8,8 +8,8 @@ pub mod tree;
 
 pub use node::{
     ArgumentsNode, BinaryOperator, ClauseNode, CommNode, DeclaredNode, Direction, ElseNode,
-    ExpressionNode, FileNode, ForHeader, FunctionNode, IfHeader, IfNode, Name, OperationNode,
-    PartNode, PlaceNode, RangeTarget, ReturnNode, RightNode, SimpleNode, StatementNode, StructNode,
-    TopNode, TypeNode, UnaryOperator,
+    ExpressionNode, FileNode, ForHeader, FunctionNode, IfHeader, IfNode, Name, PartNode, PlaceNode,
+    RangeTarget, ReturnNode, SimpleNode, StatementNode, StructNode, TopNode, TypeNode,
+    UnaryOperator,
 };
 pub use tree::{NodeId, Tree};

@@ -111,6 +111,18 @@ pub enum ExpressionNode {
     Composite(Name, Vec<ExpressionNode>, bool),
     Unary(UnaryOperator, Box<ExpressionNode>),
     Binary(BinaryOperator, Box<ExpressionNode>, Box<ExpressionNode>),
+    /// A call of a function: its arguments in order, and whether a comma follows the last one.
+    Call(Name, Vec<ExpressionNode>, bool),
+    /// A receive from a channel.
+    Receive(Box<ExpressionNode>),
+    /// A new channel of a type, without a buffer.
+    Make(Box<TypeNode>),
+    /// A new channel of a type, and the size of its buffer.
+    MakeSized(Box<TypeNode>, Box<ExpressionNode>),
+    /// The number of items in a channel's buffer.
+    Length(Box<ExpressionNode>),
+    /// The size of a channel's buffer.
+    Capacity(Box<ExpressionNode>),
 }
 
 impl Drop for ExpressionNode {
@@ -131,6 +143,18 @@ impl Drop for ExpressionNode {
                 drop(left);
                 drop(right);
             }
+            ExpressionNode::Call(name, expressions, _) => {
+                drop(name);
+                drop(expressions);
+            }
+            ExpressionNode::Receive(expression) => drop(expression),
+            ExpressionNode::Make(type_node) => drop(type_node),
+            ExpressionNode::MakeSized(type_node, expression) => {
+                drop(type_node);
+                drop(expression);
+            }
+            ExpressionNode::Length(expression) => drop(expression),
+            ExpressionNode::Capacity(expression) => drop(expression),
             ExpressionNode::Integer(_) => {}
         }
     }
@@ -168,51 +192,6 @@ impl Drop for ArgumentsNode {
     }
 }
 
-/// What stands alone on the right of an assignment, or behind `return`, with at most one request.
-pub enum OperationNode {
-    /// A call of a function.
-    Call(Name, ArgumentsNode),
-    /// A receive from a channel.
-    Receive(ExpressionNode),
-    /// A channel of a type, and the size of its buffer.
-    Make(TypeNode, Option<ExpressionNode>),
-    Length(ExpressionNode),
-    Capacity(ExpressionNode),
-}
-
-impl Drop for OperationNode {
-    fn drop(self) {
-        match self {
-            OperationNode::Call(name, arguments) => {
-                drop(name);
-                drop(arguments);
-            }
-            OperationNode::Receive(expression) => drop(expression),
-            OperationNode::Make(type_node, expression) => {
-                drop(type_node);
-                drop(expression);
-            }
-            OperationNode::Length(expression) => drop(expression),
-            OperationNode::Capacity(expression) => drop(expression),
-        }
-    }
-}
-
-/// The right side of an assignment.
-pub enum RightNode {
-    Operation(Box<OperationNode>),
-    Values(Vec<ExpressionNode>),
-}
-
-impl Drop for RightNode {
-    fn drop(self) {
-        match self {
-            RightNode::Operation(operation) => drop(operation),
-            RightNode::Values(expressions) => drop(expressions),
-        }
-    }
-}
-
 /// What is assigned to: a variable or `_`, or a field of a variable, by its path of names.
 pub struct PlaceNode {
     pub name: Name,
@@ -240,9 +219,9 @@ pub enum SimpleNode {
     Send(ExpressionNode, ExpressionNode),
     Increment(PlaceNode),
     Decrement(PlaceNode),
-    Assign(Vec<PlaceNode>, RightNode),
+    Assign(Vec<PlaceNode>, Vec<ExpressionNode>),
     /// A `:=`.
-    Define(Vec<Name>, RightNode),
+    Define(Vec<Name>, Vec<ExpressionNode>),
     /// An assignment with an operator, as `+=`.
     Update(PlaceNode, BinaryOperator, ExpressionNode),
 }
@@ -379,14 +358,12 @@ impl Drop for CommNode {
 /// What follows a `return`.
 pub enum ReturnNode {
     Nothing,
-    Operation(Box<OperationNode>),
     Value(ExpressionNode),
 }
 
 impl Drop for ReturnNode {
     fn drop(self) {
         match self {
-            ReturnNode::Operation(operation) => drop(operation),
             ReturnNode::Value(expression) => drop(expression),
             ReturnNode::Nothing => {}
         }
@@ -399,9 +376,9 @@ pub enum StatementNode {
     Empty,
     Simple(SimpleNode),
     /// A `var` with a type, and values if there are any.
-    Typed(Vec<Name>, TypeNode, Option<RightNode>),
+    Typed(Vec<Name>, TypeNode, Option<Vec<ExpressionNode>>),
     /// A `var` with values alone.
-    Untyped(Vec<Name>, RightNode),
+    Untyped(Vec<Name>, Vec<ExpressionNode>),
     /// The statements of a block, in order.
     Block(Vec<StatementNode>),
     If(Box<IfNode>),

@@ -2,13 +2,13 @@
 
 ghost use Rattle.std.specs.Prelude.{◌≡◌, ◌+◌, ◌^◌, ◌<◌, option_map, map, sum_by};
 ghost use Rattle.syntax.specs.Tree.{expressions};
-ghost use Rattle.syntax.specs.Measures.{type_size, expression_size, expressions_size, operation_size, right_size, part_size, simple_size, if_head_size, target_size, for_head_size, comm_size, if_any, returned_size, statement_size, statements_size, branch_size, otherwise_size, clauses_size, declared_size, function_size, top_size};
-ghost use Rattle.syntax.specs.View.{type_of, expression_of, operation_of, right_of, part_of, simple_of, if_head_of, target_of, for_head_of, comm_of, returned_of, statement_of, body_of, branch_of, otherwise_of, clause_of, clauses, declared_of, function_of, top_of};
+ghost use Rattle.syntax.specs.Measures.{type_size, expression_size, expressions_size, part_size, simple_size, if_head_size, target_size, for_head_size, comm_size, if_any, returned_size, statement_size, statements_size, branch_size, otherwise_size, clauses_size, declared_size, function_size, top_size};
+ghost use Rattle.syntax.specs.View.{type_of, expression_of, right_of, part_of, simple_of, if_head_of, target_of, for_head_of, comm_of, returned_of, statement_of, body_of, branch_of, otherwise_of, clause_of, clauses, declared_of, function_of, top_of};
 
 use crate::node::{
     ClauseNode, CommNode, DeclaredNode, ElseNode, ExpressionNode, ForHeader, FunctionNode,
-    IfHeader, IfNode, OperationNode, PartNode, RangeTarget, ReturnNode, RightNode, SimpleNode,
-    StatementNode, TopNode, TypeNode,
+    IfHeader, IfNode, PartNode, RangeTarget, ReturnNode, SimpleNode, StatementNode, TopNode,
+    TypeNode,
 };
 
 /// How many nodes a type has.
@@ -38,10 +38,18 @@ pub fn expression_size(expression: &ExpressionNode) -> u32
         ExpressionNode::Binary(_, left, right) => {
             expression_size(left) + expression_size(right) + 1
         }
+        ExpressionNode::Call(_, values, _) => values_size(values.as_slice()) + 1,
+        ExpressionNode::Receive(channel)
+        | ExpressionNode::Length(channel)
+        | ExpressionNode::Capacity(channel) => expression_size(channel) + 1,
+        ExpressionNode::Make(channel) => type_size(channel) + 1,
+        ExpressionNode::MakeSized(channel, size) => {
+            type_size(channel) + expression_size(size) + 1
+        }
     }
 }
 
-/// How many nodes the values of a composite literal have.
+/// How many nodes the values of a literal or a call have.
 #[cycle(expression_size)]
 fn values_size(values: &[ExpressionNode]) -> u32
     requires { expressions_size (expressions (map expression_of values.now)) < 2 ^ 32 }
@@ -74,31 +82,6 @@ fn optional_size(expression: &Option<ExpressionNode>) -> u32
     match expression {
         None => 0,
         Some(expression) => expression_size(expression),
-    }
-}
-
-/// How many nodes an operation has.
-fn operation_size(operation: &OperationNode) -> u32
-    requires { operation_size (operation_of operation.now) < 2 ^ 32 }
-    ensures { result ≡ operation_size (operation_of operation.now) }
-{
-    match operation {
-        OperationNode::Call(_, arguments) => arguments_size(arguments.values.as_slice()) + 1,
-        OperationNode::Receive(channel)
-        | OperationNode::Length(channel)
-        | OperationNode::Capacity(channel) => expression_size(channel) + 1,
-        OperationNode::Make(channel, size) => type_size(channel) + optional_size(size) + 1,
-    }
-}
-
-/// How many nodes the right side of an assignment has.
-fn right_size(right: &RightNode) -> u32
-    requires { right_size (right_of right.now) < 2 ^ 32 }
-    ensures { result ≡ right_size (right_of right.now) }
-{
-    match right {
-        RightNode::Operation(operation) => operation_size(operation),
-        RightNode::Values(values) => arguments_size(values.as_slice()),
     }
 }
 
@@ -136,8 +119,10 @@ fn simple_size(simple: &SimpleNode) -> u32
         SimpleNode::Print(_, parts, _) => parts_size(parts.as_slice()) + 1,
         SimpleNode::Send(channel, value) => expression_size(channel) + expression_size(value) + 1,
         SimpleNode::Increment(_) | SimpleNode::Decrement(_) => 2,
-        SimpleNode::Assign(places, right) => places.len() as u32 + right_size(right) + 1,
-        SimpleNode::Define(_, right) => right_size(right) + 1,
+        SimpleNode::Assign(places, right) => places.len() as u32
+            + arguments_size(right.as_slice())
+            + 1,
+        SimpleNode::Define(_, right) => arguments_size(right.as_slice()) + 1,
         SimpleNode::Update(_, _, value) => expression_size(value) + 2,
     }
 }
@@ -210,19 +195,18 @@ fn return_size(returned: &ReturnNode) -> u32
 {
     match returned {
         ReturnNode::Nothing => 0,
-        ReturnNode::Operation(operation) => operation_size(operation),
         ReturnNode::Value(value) => expression_size(value),
     }
 }
 
 /// How many nodes the values of a `var` with a type have.
-fn optional_right_size(right: &Option<RightNode>) -> u32
-    requires { if_any right_size (option_map right_of right.now) < 2 ^ 32 }
-    ensures { result ≡ if_any right_size (option_map right_of right.now) }
+fn optional_right_size(right: &Option<Vec<ExpressionNode>>) -> u32
+    requires { if_any (sum_by expression_size) (option_map right_of right.now) < 2 ^ 32 }
+    ensures { result ≡ if_any (sum_by expression_size) (option_map right_of right.now) }
 {
     match right {
         None => 0,
-        Some(right) => right_size(right),
+        Some(right) => arguments_size(right.as_slice()),
     }
 }
 
@@ -236,7 +220,7 @@ pub fn statement_size(statement: &StatementNode) -> u32
         StatementNode::Empty | StatementNode::Break | StatementNode::Continue => 1,
         StatementNode::Simple(simple) => simple_size(simple),
         StatementNode::Typed(_, kind, right) => type_size(kind) + optional_right_size(right) + 1,
-        StatementNode::Untyped(_, right) => right_size(right) + 1,
+        StatementNode::Untyped(_, right) => arguments_size(right.as_slice()) + 1,
         StatementNode::Block(body) => body_size(body.as_slice()) + 2,
         StatementNode::If(branch) => branch_size(branch),
         StatementNode::For(header, body) => {

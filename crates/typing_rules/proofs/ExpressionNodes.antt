@@ -5,18 +5,19 @@ use Rattle.go_text.specs.declared.rule.Rule.{Rule}
 use Rattle.go_text.specs.declared.rule.LimitKind.{LimitKind}
 use Rattle.syntax.specs.declared.node.UnaryOperator.{UnaryOperator}
 use Rattle.syntax.specs.declared.node.BinaryOperator.{BinaryOperator}
-use Rattle.syntax.specs.Tree.{Expression, Integer, Named, Parenthesized, Selection, Composite, Unary, Binary, Expressions, NoMore, Behind, expressions_in, TypeExpression, NamedType, ParenthesizedType, Channel}
+use Rattle.syntax.specs.Tree.{Expression, Integer, Named, Parenthesized, Selection, Composite, Unary, Binary, Call, Receive, Make, MakeSized, Length, Capacity, Expressions, NoMore, Behind, expressions_in, TypeExpression, NamedType, ParenthesizedType, Channel}
 use Rattle.syntax.specs.Measures.{type_size, expression_size, expressions_size}
 use Rattle.type_table.specs.Types.{ValueType}
 use Rattle.type_table.specs.Containment.{fields_of}
-use Rattle.type_table.specs.Scopes.{Globals, Scope}
+use Rattle.type_table.specs.Scopes.{Globals, Scope, Yield, NoResult, Yields, type_in}
+use Rattle.typing_rules.specs.Calls.{Callee, NotDeclared, NoFunction, IsFunction, callee, parameters_of, result_of}
 use Rattle.typing_rules.specs.declared.flaw.Flaw.{Flaw}
 use Rattle.typing_rules.specs.declared.flaw.Flaw.TheVariants.{Broken, Exceeded}
 use Rattle.typing_rules.specs.declared.flaw.Misuse.{Misuse}
 use Rattle.typing_rules.specs.declared.flaw.Misuse.TheVariants as misuses
 use Rattle.typing_rules.specs.Flaws.{Nodes, IsBroken, IsExceeded, IsMisuse}
 use Rattle.typing_rules.specs.Worths.{Worth, Typed, Constant, Nil, unary_worth, binary_worth, literal_struct, worth}
-use Rattle.typing_rules.specs.Expressions.{nodes_of, FitHas, ValueHas, DefaultHas, Fails, UnaryHas, BinaryHas, SelectionHas, NumbersHave, ValuesFail, PassedHave, field_kinds, FieldsHave, LiteralHas, ExpressionHas, ExpressionsHave, ConditionHas, TestHas, ChannelHas, ReceivedHas, SentHas}
+use Rattle.typing_rules.specs.Expressions.{nodes_of, FitHas, ValueHas, DefaultHas, Fails, UnaryHas, BinaryHas, SelectionHas, NumbersHave, ValuesFail, PassedHave, field_kinds, FieldsHave, LiteralHas, ExpressionHas, ExpressionsHave, ConditionHas, TestHas, TypeHas, CalleeHas, YieldHas, ResultHas, MadeHas, SizeHas, ChannelHas, ReceivedHas, SentHas}
 use Rattle.typing_rules.specs.Nodes.{node_of}
 
 pub broken : (rule : Rule) (end : ℕ) (flaw : Flaw) → IsBroken rule end flaw → node_of flaw + 1 ≡ end
@@ -35,6 +36,12 @@ expression_positive (Selection whole field) = omega arith
 expression_positive (Composite name vs trailing) = omega arith
 expression_positive (Unary operator operand) = omega arith
 expression_positive (Binary operator left right) = omega arith
+expression_positive (Call function vs trailing) = omega arith
+expression_positive (Receive channel) = omega arith
+expression_positive (Make kind) = omega arith
+expression_positive (MakeSized kind size) = omega arith
+expression_positive (Length channel) = omega arith
+expression_positive (Capacity channel) = omega arith
 
 pub type_positive : (t : TypeExpression) → 1 ≤ type_size t
 type_positive (NamedType name) = omega arith
@@ -121,6 +128,47 @@ size_in : (vs : Expressions) → sum_by expression_size (expressions_in vs) ≡ 
 size_in NoMore = refl
 size_in (Behind v rest) = omega (arith, size_in rest, sum_by-cons expression_size v (expressions_in rest))
 
+-- ---- operations
+
+pub type_within : (t : Option ValueType) (first : ℕ) (flaw : Flaw) → TypeHas t first flaw → node_of flaw < first + 1
+type_within None first flaw has = omega (arith, broken _ (first + 1) flaw has)
+type_within (Some t) first flaw has = absurd has
+
+pub callee_within : (globals : Globals) (scope : Scope) (c : Callee) (vs : List Expression) (first end : ℕ) (flaw : Flaw) → first + sum_by expression_size vs ≤ end → CalleeHas globals scope c first vs end flaw → node_of flaw < end
+callee_within globals scope NotDeclared vs first end flaw le has = omega (arith, broken _ end flaw has)
+callee_within globals scope NoFunction vs first end flaw le has = omega (arith, broken _ end flaw has)
+callee_within globals scope (IsFunction number) vs first end flaw le has = passed_within globals scope vs (parameters_of globals number) first end flaw le has
+
+yield_within : (y : Yield) (end : ℕ) (flaw : Flaw) → YieldHas y end flaw → node_of flaw < end
+yield_within NoResult end flaw has = omega (arith, broken _ end flaw has)
+yield_within (Yields kind) end flaw has = absurd has
+
+result_within : (globals : Globals) (c : Callee) (end : ℕ) (flaw : Flaw) → ResultHas globals c end flaw → node_of flaw < end
+result_within globals NotDeclared end flaw has = absurd has
+result_within globals NoFunction end flaw has = absurd has
+result_within globals (IsFunction number) end flaw has = yield_within (result_of globals number) end flaw has
+
+made_within : (t : Option ValueType) (end : ℕ) (flaw : Flaw) → MadeHas t end flaw → node_of flaw < end
+made_within None end flaw has = absurd has
+made_within (Some t) end flaw has = omega (arith, broken _ end flaw has.1)
+
+size_within : (w : Option Worth) (nodes : Nodes) (flaw : Flaw) → nodes.first < nodes.end → SizeHas w nodes flaw → node_of flaw < nodes.end
+size_within None nodes flaw le has = absurd has
+size_within (Some (Typed kind)) nodes flaw le has = omega (arith, broken _ nodes.end flaw has.1)
+size_within (Some (Constant value)) nodes flaw le (inl has) = omega (arith, broken _ nodes.end flaw has.1)
+size_within (Some (Constant value)) nodes flaw le (inr has) = omega (arith, broken _ nodes.end flaw has.1)
+size_within (Some Nil) nodes flaw le has = omega (arith, broken _ (nodes.first + 1) flaw has, le)
+
+pub channel_within : (w : Option Worth) (nodes : Nodes) (flaw : Flaw) → ChannelHas w nodes flaw → node_of flaw < nodes.end
+channel_within None nodes flaw has = absurd has
+channel_within (Some w) nodes flaw has = omega (arith, broken _ nodes.end flaw has.1)
+
+pub received_within : (w : Option Worth) (end : ℕ) (flaw : Flaw) → ReceivedHas w end flaw → node_of flaw < end
+received_within None end flaw has = absurd has
+received_within (Some (Typed kind)) end flaw has = omega (arith, broken _ end flaw has.1)
+received_within (Some (Constant value)) end flaw has = absurd has
+received_within (Some Nil) end flaw has = absurd has
+
 -- ---- expressions
 
 mutual
@@ -141,6 +189,24 @@ mutual
   expression_within globals scope (Binary operator left right) first flaw (inr (inr has)) =
       binary_within operator (worth globals scope left) (worth globals scope right) (nodes_of first left) (nodes_of (first + expression_size left) right) (first + expression_size (Binary operator left right)) flaw
       (omega arith) (omega arith) (omega arith) (omega arith) has
+  expression_within globals scope (Call function vs trailing) first flaw (inl (inl has)) = omega (arith, expressions_within globals scope vs first flaw has)
+  expression_within globals scope (Call function vs trailing) first flaw (inl (inr has)) =
+      callee_within globals scope (callee globals scope function) (expressions_in vs) first (first + expression_size (Call function vs trailing)) flaw (omega (arith, size_in vs)) has
+  expression_within globals scope (Call function vs trailing) first flaw (inr has) = result_within globals (callee globals scope function) (first + expression_size (Call function vs trailing)) flaw has
+  expression_within globals scope (Receive channel) first flaw (inl has) = omega (arith, expression_within globals scope channel first flaw has)
+  expression_within globals scope (Receive channel) first flaw (inr (inl has)) = let small = channel_within (worth globals scope channel) (nodes_of first channel) flaw has in omega (arith, small)
+  expression_within globals scope (Receive channel) first flaw (inr (inr has)) = omega (arith, received_within (worth globals scope channel) (first + expression_size channel + 1) flaw has)
+  expression_within globals scope (Make kind) first flaw (inl has) = omega (arith, type_within (type_in globals.types scope kind) first flaw has, type_positive kind)
+  expression_within globals scope (Make kind) first flaw (inr has) = made_within (type_in globals.types scope kind) (first + expression_size (Make kind)) flaw has
+  expression_within globals scope (MakeSized kind size) first flaw (inl has) = omega (arith, type_within (type_in globals.types scope kind) first flaw has, type_positive kind)
+  expression_within globals scope (MakeSized kind size) first flaw (inr (inl has)) = omega (arith, expression_within globals scope size (first + type_size kind) flaw has)
+  expression_within globals scope (MakeSized kind size) first flaw (inr (inr (inl has))) =
+      let small = size_within (worth globals scope size) (nodes_of (first + type_size kind) size) flaw (omega (arith, expression_positive size)) has in omega (arith, small)
+  expression_within globals scope (MakeSized kind size) first flaw (inr (inr (inr has))) = made_within (type_in globals.types scope kind) (first + expression_size (MakeSized kind size)) flaw has
+  expression_within globals scope (Length channel) first flaw (inl has) = omega (arith, expression_within globals scope channel first flaw has)
+  expression_within globals scope (Length channel) first flaw (inr has) = let small = channel_within (worth globals scope channel) (nodes_of first channel) flaw has in omega (arith, small)
+  expression_within globals scope (Capacity channel) first flaw (inl has) = omega (arith, expression_within globals scope channel first flaw has)
+  expression_within globals scope (Capacity channel) first flaw (inr has) = let small = channel_within (worth globals scope channel) (nodes_of first channel) flaw has in omega (arith, small)
 
   pub expressions_within : (globals : Globals) (scope : Scope) (vs : Expressions) (first : ℕ) (flaw : Flaw) → ExpressionsHave globals scope first vs flaw → node_of flaw < first + expressions_size vs
   expressions_within globals scope NoMore first flaw has = absurd has
@@ -158,16 +224,6 @@ condition_within (Some Nil) nodes flaw le has = omega (arith, broken _ (nodes.fi
 pub test_within : (globals : Globals) (scope : Scope) (e : Expression) (first : ℕ) (flaw : Flaw) → TestHas globals scope first e flaw → node_of flaw < first + expression_size e
 test_within globals scope e first flaw (inl has) = expression_within globals scope e first flaw has
 test_within globals scope e first flaw (inr has) = condition_within (worth globals scope e) (nodes_of first e) flaw (omega (arith, expression_positive e)) has
-
-pub channel_within : (w : Option Worth) (nodes : Nodes) (flaw : Flaw) → ChannelHas w nodes flaw → node_of flaw < nodes.end
-channel_within None nodes flaw has = absurd has
-channel_within (Some w) nodes flaw has = omega (arith, broken _ nodes.end flaw has.1)
-
-pub received_within : (w : Option Worth) (end : ℕ) (flaw : Flaw) → ReceivedHas w end flaw → node_of flaw < end
-received_within None end flaw has = absurd has
-received_within (Some (Typed kind)) end flaw has = omega (arith, broken _ end flaw has.1)
-received_within (Some (Constant value)) end flaw has = absurd has
-received_within (Some Nil) end flaw has = absurd has
 
 pub sent_within : (w : Option Worth) (end : ℕ) (flaw : Flaw) → SentHas w end flaw → node_of flaw < end
 sent_within None end flaw has = absurd has

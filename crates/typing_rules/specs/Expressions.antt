@@ -4,15 +4,17 @@ use Rattle.go_text.specs.declared.rule.Rule.TheVariants as rules
 use Rattle.go_text.specs.declared.rule.LimitKind.TheVariants as limits
 use Rattle.syntax.specs.declared.node.UnaryOperator.{UnaryOperator}
 use Rattle.syntax.specs.declared.node.BinaryOperator.{BinaryOperator}
-use Rattle.syntax.specs.Tree.{Expression, Integer, Named, Parenthesized, Selection, Composite, Unary, Binary, Expressions, NoMore, Behind, expressions_in}
-use Rattle.syntax.specs.Measures.{expression_size}
+use Rattle.syntax.specs.Tree.{Expression, Integer, Named, Parenthesized, Selection, Composite, Unary, Binary, Call, Receive, Make, MakeSized, Length, Capacity, Expressions, NoMore, Behind, expressions_in}
+use Rattle.syntax.specs.Measures.{type_size, expression_size}
 use Rattle.typing_rules.specs.declared.flaw.Flaw.{Flaw}
 use Rattle.typing_rules.specs.declared.flaw.Misuse.{Misuse}
 use Rattle.typing_rules.specs.Flaws.{Nodes, IsBroken, IsExceeded, IsNilAt, IsMisuse}
-use Rattle.type_table.specs.Types.{ValueType, IntType, BoolType, StructType, ChannelType, is_int_type, is_bool_type, is_channel_type, assignable, element_type, only_receives, only_sends}
+use Rattle.type_table.specs.Types.{ValueType, IntType, BoolType, StructType, ChannelType, is_int_type, is_bool_type, is_channel_type, assignable, only_receives, only_sends}
 use Rattle.type_table.specs.Containment.{Field, fields_of, field_of}
-use Rattle.type_table.specs.Scopes.{Globals, Scope}
-use Rattle.typing_rules.specs.Worths.{Worth, Typed, Constant, Nil, is_int, literal, unary_worth, binary_worth, is_operand, literal_struct, worth}
+use Rattle.type_table.specs.Scopes.{Globals, Scope, Yield, NoResult, Yields, type_in}
+use Rattle.typing_rules.specs.Calls.{Callee, NotDeclared, NoFunction, IsFunction, callee, parameters_of, result_of}
+pub use Rattle.typing_rules.specs.Worths.{element_of}
+use Rattle.typing_rules.specs.Worths.{Worth, Typed, Constant, Nil, is_int, is_negative, literal, unary_worth, binary_worth, is_operand, literal_struct, worth}
 
 -- the nodes of an expression, by how many there are before it
 abbrev pub nodes_of : ℕ → Expression → Nodes
@@ -94,6 +96,51 @@ LiteralHas globals scope None first values end flaw = IsBroken rules.Visible end
 LiteralHas globals scope (Some number) first values end flaw =
     FieldsHave globals scope first values (field_kinds (fields_of globals.structs number)) end flaw
 
+-- ---- operations
+
+-- a name in a type, which is its first node, is no type's
+abbrev pub TypeHas : Option ValueType → ℕ → Flaw → Type 0
+TypeHas None first flaw = IsBroken rules.Visible (first + 1) flaw
+TypeHas (Some t) first flaw = ⊥
+
+-- the call is the last node before a number
+abbrev pub CalleeHas : Globals → Scope → Callee → ℕ → List Expression → ℕ → Flaw → Type 0
+CalleeHas globals scope NotDeclared first values end flaw = IsBroken rules.Visible end flaw
+CalleeHas globals scope NoFunction first values end flaw = IsBroken rules.Called end flaw
+CalleeHas globals scope (IsFunction number) first values end flaw = PassedHave globals scope first values (parameters_of globals number) end flaw
+
+-- a call that is used as a value, and the last node before a number, has no result
+abbrev pub YieldHas : Yield → ℕ → Flaw → Type 0
+YieldHas NoResult end flaw = IsBroken rules.Called end flaw
+YieldHas (Yields kind) end flaw = ⊥
+
+abbrev pub ResultHas : Globals → Callee → ℕ → Flaw → Type 0
+ResultHas globals (IsFunction number) end flaw = YieldHas (result_of globals number) end flaw
+ResultHas globals callee end flaw = ⊥
+
+abbrev pub MadeHas : Option ValueType → ℕ → Flaw → Type 0
+MadeHas None end flaw = ⊥
+MadeHas (Some t) end flaw = (is_channel_type t ≡ false) × IsBroken rules.Made end flaw
+
+-- the size of a channel's buffer
+abbrev pub SizeHas : Option Worth → Nodes → Flaw → Type 0
+SizeHas None nodes flaw = ⊥
+SizeHas (Some (Typed kind)) nodes flaw = (is_int_type kind ≡ false) × IsBroken rules.Made nodes.end flaw
+SizeHas (Some (Constant value)) nodes flaw =
+    ((is_int value ≡ false) × IsBroken rules.Constant nodes.end flaw)
+    ⊎ (((is_int value && is_negative value) ≡ true) × IsBroken rules.Made nodes.end flaw)
+SizeHas (Some Nil) nodes flaw = IsNilAt nodes flaw
+
+-- the operand of an operation on channels is no channel
+abbrev pub ChannelHas : Option Worth → Nodes → Flaw → Type 0
+ChannelHas None nodes flaw = ⊥
+ChannelHas (Some w) nodes flaw = (element_of (Some w) ≡ None) × IsBroken rules.Channel nodes.end flaw
+
+-- one may not receive from the channel, or neither send on it nor close it
+abbrev pub ReceivedHas : Option Worth → ℕ → Flaw → Type 0
+ReceivedHas (Some (Typed kind)) end flaw = (only_sends kind ≡ true) × IsBroken rules.Direction end flaw
+ReceivedHas worth end flaw = ⊥
+
 -- ---- expressions
 
 abbrev mutual
@@ -114,6 +161,25 @@ abbrev mutual
       ExpressionHas globals scope first left flaw
       ⊎ (ExpressionHas globals scope (first + expression_size left) right flaw
       ⊎ BinaryHas operator (worth globals scope left) (worth globals scope right) (nodes_of first left) (nodes_of (first + expression_size left) right) (first + expression_size (Binary operator left right)) flaw)
+  ExpressionHas globals scope first (Call function values trailing) flaw =
+      (ExpressionsHave globals scope first values flaw
+      ⊎ CalleeHas globals scope (callee globals scope function) first (expressions_in values) (first + expression_size (Call function values trailing)) flaw)
+      ⊎ ResultHas globals (callee globals scope function) (first + expression_size (Call function values trailing)) flaw
+  ExpressionHas globals scope first (Receive channel) flaw =
+      ExpressionHas globals scope first channel flaw
+      ⊎ (ChannelHas (worth globals scope channel) (nodes_of first channel) flaw
+      ⊎ ReceivedHas (worth globals scope channel) (first + expression_size channel + 1) flaw)
+  ExpressionHas globals scope first (Make kind) flaw =
+      TypeHas (type_in globals.types scope kind) first flaw ⊎ MadeHas (type_in globals.types scope kind) (first + expression_size (Make kind)) flaw
+  ExpressionHas globals scope first (MakeSized kind size) flaw =
+      TypeHas (type_in globals.types scope kind) first flaw
+      ⊎ (ExpressionHas globals scope (first + type_size kind) size flaw
+      ⊎ (SizeHas (worth globals scope size) (nodes_of (first + type_size kind) size) flaw
+      ⊎ MadeHas (type_in globals.types scope kind) (first + expression_size (MakeSized kind size)) flaw))
+  ExpressionHas globals scope first (Length channel) flaw =
+      ExpressionHas globals scope first channel flaw ⊎ ChannelHas (worth globals scope channel) (nodes_of first channel) flaw
+  ExpressionHas globals scope first (Capacity channel) flaw =
+      ExpressionHas globals scope first channel flaw ⊎ ChannelHas (worth globals scope channel) (nodes_of first channel) flaw
 
   -- something is wrong with one of them
   pub ExpressionsHave : Globals → Scope → ℕ → Expressions → Flaw → Type 0
@@ -133,21 +199,6 @@ ConditionHas (Some Nil) nodes flaw = IsNilAt nodes flaw
 abbrev pub TestHas : Globals → Scope → ℕ → Expression → Flaw → Type 0
 TestHas globals scope first condition flaw =
     ExpressionHas globals scope first condition flaw ⊎ ConditionHas (worth globals scope condition) (nodes_of first condition) flaw
-
--- the type of a channel's elements
-abbrev pub element_of : Option Worth → Option ValueType
-element_of (Some (Typed kind)) = element_type kind
-element_of worth = None
-
--- the operand of an operation on channels is no channel
-abbrev pub ChannelHas : Option Worth → Nodes → Flaw → Type 0
-ChannelHas None nodes flaw = ⊥
-ChannelHas (Some w) nodes flaw = (element_of (Some w) ≡ None) × IsBroken rules.Channel nodes.end flaw
-
--- one may not receive from the channel, or neither send on it nor close it
-abbrev pub ReceivedHas : Option Worth → ℕ → Flaw → Type 0
-ReceivedHas (Some (Typed kind)) end flaw = (only_sends kind ≡ true) × IsBroken rules.Direction end flaw
-ReceivedHas worth end flaw = ⊥
 
 abbrev pub SentHas : Option Worth → ℕ → Flaw → Type 0
 SentHas (Some (Typed kind)) end flaw = (only_receives kind ≡ true) × IsBroken rules.Direction end flaw

@@ -1,109 +1,23 @@
 -- What is wrong with the right side of an assignment, and with the places on its left.
-use Rattle.std.specs.Prelude.{◌≡◌, ℕ, ◌+◌, ◌==◌, ◌⊎◌, Bool, true, false, not, ◌&&◌, ◌||◌, if◌then◌else◌, List, [], ◌∷◌, Option, Some, None, option_map, option_and_then, slice_get, bytes_eq, codes}
-use Rattle.std.specs.Option.{is_some, is_none}
+use Rattle.std.specs.Prelude.{◌≡◌, ℕ, ◌+◌, ◌==◌, ◌⊎◌, Bool, true, false, not, ◌&&◌, if◌then◌else◌, List, [], ◌∷◌, ◌++◌, Option, Some, None, option_map, option_and_then}
+use Rattle.std.specs.Option.{is_none}
 use Rattle.go_text.specs.declared.rule.Rule.TheVariants as rules
-use Rattle.syntax.specs.Tree.{Expression, expressions, Arguments, Operation, Call, Receive, Make, Length, Capacity, Right, RightOperation, Values, Place}
-use Rattle.syntax.specs.Measures.{type_size, expression_size, arguments_size, operation_size}
+use Rattle.syntax.specs.Tree.{Expression, Receive, expressions, Arguments, Place}
+use Rattle.syntax.specs.Measures.{expression_size, arguments_size}
 use Rattle.typing_rules.specs.declared.flaw.Flaw.{Flaw}
-use Rattle.typing_rules.specs.Flaws.{Nodes, IsBroken, IsNilAt}
-use Rattle.type_table.specs.Types.{ValueType, IntType, BoolType, is_int_type, is_channel_type}
+use Rattle.typing_rules.specs.Flaws.{Nodes, IsBroken}
+use Rattle.type_table.specs.Types.{ValueType, BoolType}
 use Rattle.type_table.specs.Containment.{Structs, Selected, behind, field_of}
-use Rattle.type_table.specs.Scopes.{Variable, Scope, Globals, Signature, Yield, NoResult, Yields, is_blank, is_reserved, variable_named, number_of, function_number, type_in}
-use Rattle.typing_rules.specs.Worths.{Worth, Typed, Constant, Nil, is_int, is_negative, kind_of, type_of_field, worth}
-use Rattle.typing_rules.specs.Expressions.{nodes_of, ValueHas, DefaultHas, PassedHave, ExpressionHas, ExpressionsHave, element_of, ChannelHas, ReceivedHas}
-
--- a name in a type, which is its first node, is no type's
-abbrev pub TypeHas : Option ValueType → ℕ → Flaw → Type 0
-TypeHas None first flaw = IsBroken rules.Visible (first + 1) flaw
-TypeHas (Some t) first flaw = ⊥
-
--- ---- calls
-
--- what a name in a call stands for
-pub data Callee : Type 0 where
-  NotDeclared : Callee
-  NoFunction : Callee
-  IsFunction : (number : ℕ) → Callee
-
-abbrev pub function_of : Option ℕ → Callee
-function_of None = NotDeclared
-function_of (Some number) = IsFunction number
-
--- a name of a variable, a type or a value
-abbrev pub is_other : Globals → Scope → List ℕ → Bool
-is_other globals scope name =
-    is_some (variable_named scope name) || is_some (number_of globals.types name)
-    || (is_reserved name && not (bytes_eq name (codes "init")))
-
-abbrev pub callee : Globals → Scope → List ℕ → Callee
-callee globals scope name =
-    if is_other globals scope name then NoFunction else function_of (function_number globals.functions name)
-
-abbrev pub parameters_in : Option Signature → List (Option ValueType)
-parameters_in None = []
-parameters_in (Some f) = f.parameters
-
-abbrev pub parameters_of : Globals → ℕ → List (Option ValueType)
-parameters_of globals number = parameters_in (slice_get globals.functions number)
-
-abbrev pub result_in : Option Signature → Yield
-result_in None = NoResult
-result_in (Some f) = f.result
-
-abbrev pub result_of : Globals → ℕ → Yield
-result_of globals number = result_in (slice_get globals.functions number)
-
--- the call is the last node before a number
-abbrev pub CalleeHas : Globals → Scope → Callee → ℕ → List Expression → ℕ → Flaw → Type 0
-CalleeHas globals scope NotDeclared first values end flaw = IsBroken rules.Visible end flaw
-CalleeHas globals scope NoFunction first values end flaw = IsBroken rules.Called end flaw
-CalleeHas globals scope (IsFunction number) first values end flaw = PassedHave globals scope first values (parameters_of globals number) end flaw
+use Rattle.type_table.specs.Scopes.{Variable, Scope, Globals, is_blank, variable_named}
+pub use Rattle.typing_rules.specs.Calls.{Callee, NotDeclared, NoFunction, IsFunction, callee, parameters_in, parameters_of, result_of}
+pub use Rattle.typing_rules.specs.Expressions.{TypeHas, MadeHas, SizeHas, CalleeHas, ResultHas}
+use Rattle.typing_rules.specs.Worths.{Worth, Typed, kind_of, type_of_field, worth}
+use Rattle.typing_rules.specs.Expressions.{nodes_of, ValueHas, DefaultHas, ExpressionHas, ExpressionsHave, ChannelHas, ReceivedHas}
 
 abbrev pub CallHas : Globals → Scope → ℕ → List ℕ → Arguments → Flaw → Type 0
 CallHas globals scope first function arguments flaw =
     ExpressionsHave globals scope first (expressions arguments.values) flaw
     ⊎ CalleeHas globals scope (callee globals scope function) first arguments.values (first + arguments_size arguments + 1) flaw
-
--- a call that is used as a value, and the last node before a number, has no result
-abbrev pub YieldHas : Yield → ℕ → Flaw → Type 0
-YieldHas NoResult end flaw = IsBroken rules.Called end flaw
-YieldHas (Yields kind) end flaw = ⊥
-
-abbrev pub ResultHas : Globals → Callee → ℕ → Flaw → Type 0
-ResultHas globals (IsFunction number) end flaw = YieldHas (result_of globals number) end flaw
-ResultHas globals callee end flaw = ⊥
-
-abbrev pub yielded : Yield → Option ValueType
-yielded NoResult = None
-yielded (Yields kind) = kind
-
-abbrev pub result_type : Globals → Callee → Option ValueType
-result_type globals (IsFunction number) = yielded (result_of globals number)
-result_type globals callee = None
-
--- ---- make
-
-abbrev pub MadeHas : Option ValueType → ℕ → Flaw → Type 0
-MadeHas None end flaw = ⊥
-MadeHas (Some t) end flaw = (is_channel_type t ≡ false) × IsBroken rules.Made end flaw
-
-abbrev pub made_of : Option ValueType → Option ValueType
-made_of None = None
-made_of (Some t) = if is_channel_type t then Some t else None
-
--- the size of a channel's buffer
-abbrev pub SizeHas : Option Worth → Nodes → Flaw → Type 0
-SizeHas None nodes flaw = ⊥
-SizeHas (Some (Typed kind)) nodes flaw = (is_int_type kind ≡ false) × IsBroken rules.Made nodes.end flaw
-SizeHas (Some (Constant value)) nodes flaw =
-    ((is_int value ≡ false) × IsBroken rules.Constant nodes.end flaw)
-    ⊎ (((is_int value && is_negative value) ≡ true) × IsBroken rules.Made nodes.end flaw)
-SizeHas (Some Nil) nodes flaw = IsNilAt nodes flaw
-
-abbrev pub IfSizeHas : Globals → Scope → ℕ → Option Expression → Flaw → Type 0
-IfSizeHas globals scope first None flaw = ⊥
-IfSizeHas globals scope first (Some size) flaw =
-    ExpressionHas globals scope first size flaw ⊎ SizeHas (worth globals scope size) (nodes_of first size) flaw
 
 -- ---- operations
 
@@ -118,28 +32,9 @@ abbrev pub MeasuredHas : Globals → Scope → ℕ → Expression → Flaw → T
 MeasuredHas globals scope first channel flaw =
     ExpressionHas globals scope first channel flaw ⊎ ChannelHas (worth globals scope channel) (nodes_of first channel) flaw
 
-abbrev pub OperationHas : Globals → Scope → ℕ → Operation → Flaw → Type 0
-OperationHas globals scope first (Call function arguments) flaw =
-    CallHas globals scope first function arguments flaw
-    ⊎ ResultHas globals (callee globals scope function) (first + arguments_size arguments + 1) flaw
-OperationHas globals scope first (Receive channel) flaw = ReceiveHas globals scope first channel flaw
-OperationHas globals scope first (Make kind size) flaw =
-    TypeHas (type_in globals.types scope kind) first flaw
-    ⊎ (IfSizeHas globals scope (first + type_size kind) size flaw
-    ⊎ MadeHas (type_in globals.types scope kind) (first + operation_size (Make kind size)) flaw)
-OperationHas globals scope first (Length channel) flaw = MeasuredHas globals scope first channel flaw
-OperationHas globals scope first (Capacity channel) flaw = MeasuredHas globals scope first channel flaw
-
-abbrev pub operation_type : Globals → Scope → Operation → Option ValueType
-operation_type globals scope (Call function arguments) = result_type globals (callee globals scope function)
-operation_type globals scope (Receive channel) = element_of (worth globals scope channel)
-operation_type globals scope (Make kind size) = made_of (type_in globals.types scope kind)
-operation_type globals scope (Length channel) = Some IntType
-operation_type globals scope (Capacity channel) = Some IntType
-
-abbrev pub is_receive : Operation → Bool
+abbrev pub is_receive : Expression → Bool
 is_receive (Receive channel) = true
-is_receive operation = false
+is_receive expression = false
 
 -- ---- right sides
 
@@ -153,20 +48,18 @@ given_values globals scope first [] = []
 given_values globals scope first (value ∷ rest) =
     record { worth = worth globals scope value; nodes = nodes_of first value } ∷ given_values globals scope (first + expression_size value) rest
 
-abbrev pub given_by : ℕ → Operation → Option ValueType → Given
-given_by first operation kind =
-    record { worth = option_map Typed kind; nodes = record { first = first; end = first + operation_size operation } }
+-- whether an item was sent, where one receive stands for two places
+abbrev pub also_given : ℕ → ℕ → List Expression → List Given
+also_given places first (value ∷ []) =
+    if (places == 2) && is_receive value then record { worth = Some (Typed BoolType); nodes = nodes_of first value } ∷ [] else []
+also_given places first values = []
 
 -- what a right side gives to so many places: a receive gives two of them the item and whether it was sent
-abbrev pub given : Globals → Scope → ℕ → ℕ → Right → List Given
-given globals scope places first (Values values) = given_values globals scope first values
-given globals scope places first (RightOperation operation) =
-    given_by first operation (operation_type globals scope operation)
-    ∷ (if (places == 2) && is_receive operation then given_by first operation (Some BoolType) ∷ [] else [])
+abbrev pub given : Globals → Scope → ℕ → ℕ → List Expression → List Given
+given globals scope places first values = given_values globals scope first values ++ also_given places first values
 
-abbrev pub RightHas : Globals → Scope → ℕ → Right → Flaw → Type 0
-RightHas globals scope first (RightOperation operation) flaw = OperationHas globals scope first operation flaw
-RightHas globals scope first (Values values) flaw = ExpressionsHave globals scope first (expressions values) flaw
+abbrev pub RightHas : Globals → Scope → ℕ → List Expression → Flaw → Type 0
+RightHas globals scope first values flaw = ExpressionsHave globals scope first (expressions values) flaw
 
 -- ---- places, each of which is one node
 
