@@ -12,8 +12,8 @@ ghost use Rattle.checker_simple.specs.Names.{names_at, names_in};
 ghost use Rattle.typing_rules.specs.Simples.{NamesHave, with_defined, SimpleHas, after_simple};
 
 use crate::names::{Names, may_define, references, take_names};
-use checker_base::refusal::Refusal;
 use checker_base::given::{Given, Source, given_by, numbers_agree};
+use checker_base::refusal::Refusal;
 use std::alloc::Global;
 use syntax::{Name, NodeId};
 use type_table::scope::Visible;

@@ -15,9 +15,9 @@ ghost use Rattle.checker_base.specs.Views.{Refuses, worth_of};
 ghost use Rattle.checker_base.specs.Givens.{given_of};
 ghost use Rattle.checker_simple.specs.Names.{names_at, names_in};
 
+use checker_base::given::{fits, fits_any};
 use checker_base::operand::Operand;
 use checker_base::refusal::Refusal;
-use checker_base::given::{fits, fits_any};
 use go_text::Rule;
 use std::alloc::{AllocError, Global};
 use syntax::{Name, NodeId};

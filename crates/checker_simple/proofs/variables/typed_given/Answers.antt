@@ -1,4 +1,4 @@
-use Rattle.std.proofs.Common.{◌≡◌, ◌+◌, length, map, Some, arith}
+use Rattle.std.proofs.Common.{◌≡◌, length, map, Some, arith}
 use Rattle.std.proofs.lemmas.List.{length-map}
 use Rattle.std.proofs.lemmas.Result.{IfOk-weaker, IfErr-weaker}
 use Rattle.type_table.specs.Views.{kind_of}
