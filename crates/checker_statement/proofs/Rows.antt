@@ -2,7 +2,7 @@
 use Rattle.std.proofs.Common.{◌≡◌, true, false, [], ◌∷◌, Some, None, codes, refl, inl, inr}
 use Rattle.go_text.specs.declared.rule.Rule.TheVariants as rules
 use Rattle.syntax.specs.declared.node.Direction.TheVariants as directions
-use Rattle.syntax.specs.Tree.{NamedType, Expression, Integer, Named, Values, Place, Simple, Define, Assign, Bare, First, NoTarget, DefineTarget, Forever, While, ForClauses, Range, CommReceive, CommDefine, NoValue, ReturnedValue, Statement, Empty, Alone, VarTyped, Block, If, For, Select, Return, Break, Continue, Statements, NoStatement, Then, Conditional, NoElse, ElseBlock, NoClause, Clause}
+use Rattle.syntax.specs.Tree.{NamedType, Expression, Integer, Named, Place, Simple, Define, Assign, Bare, First, NoTarget, DefineTarget, Forever, While, ForClauses, Range, CommReceive, CommDefine, NoValue, ReturnedValue, Statement, Empty, Alone, VarTyped, Block, If, For, Select, Return, Break, Continue, Statements, NoStatement, Then, Conditional, NoElse, ElseBlock, NoClause, Clause}
 use Rattle.typing_rules.specs.declared.flaw.Flaw.{Flaw}
 use Rattle.typing_rules.specs.declared.flaw.Flaw.TheVariants.{Broken}
 use Rattle.type_table.specs.Types.{IntType, ChannelType}
@@ -36,17 +36,17 @@ abbrev at_x : Place
 at_x = record { name = codes "x"; fields = [] }
 
 abbrev set_x : Simple
-set_x = Define (codes "x" ∷ []) (Values (one ∷ []))
+set_x = Define (codes "x" ∷ []) (one ∷ [])
 
 abbrev new_x : Statement
 new_x = Alone set_x
 
 abbrev new_y : Statement
-new_y = Alone (Define (codes "y" ∷ []) (Values (one ∷ [])))
+new_y = Alone (Define (codes "y" ∷ []) (one ∷ []))
 
 -- x = 1
 abbrev to_x : Statement
-to_x = Alone (Assign (at_x ∷ []) (Values (one ∷ [])))
+to_x = Alone (Assign (at_x ∷ []) (one ∷ []))
 
 abbrev alone : Statement → Statements
 alone statement = Then statement NoStatement
