@@ -166,6 +166,14 @@ fn is_function(at: &Setting<'_, '_>, name: &Name) -> bool {
         && function_number(at.table, bytes).is_some()
 }
 
+/// Whether the function of this name has a result.
+fn has_result(at: &Setting<'_, '_>, name: &Name) -> bool {
+    match function_named(at.table, name) {
+        Some(entry) => entry.result.is_some(),
+        None => false,
+    }
+}
+
 /// Reports a value that can't be printed.
 fn push_unprinted(said: &mut Words, at: &Setting<'_, '_>) {
     let Some(value) = at.value() else {
@@ -183,6 +191,9 @@ pub fn push_called(said: &mut Words, at: &Setting<'_, '_>) {
     };
     if !is_function(at, called.function) {
         return push_no_function(said, at, called.function);
+    }
+    if has_result(at, called.function) {
+        return push_unprinted(said, at);
     }
     push_call(said, called.function, called.arguments);
     said.text(" (no value) used as value");
