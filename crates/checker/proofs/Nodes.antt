@@ -15,8 +15,7 @@ use Rattle.typing_rules.specs.Kinds.{type_names, function_names, structs, global
 use Rattle.typing_rules.specs.Declarations.{broken_by, NameHas, NamesHave, GroupHas, GroupsHave, StructHas, counting_struct, StructsHave, WidthHas, struct_node, ContentsHave, IfTypeHas, HeadHas, HeaderHas, counting_function, HeadersHave}
 use Rattle.typing_rules.specs.Files.{setting_of, BodyHas, BodiesHave, FileHas}
 use Rattle.typing_rules.specs.Nodes.{node_of}
-use Rattle.typing_rules.proofs.ExpressionNodes.{broken, exceeded, type_positive}
-use Rattle.typing_rules.proofs.OperationNodes.{type_within}
+use Rattle.typing_rules.proofs.ExpressionNodes.{broken, exceeded, type_positive, type_within}
 use Rattle.checker.proofs.StatementNodes.{statements_within}
 
 -- ---- fields and parameters

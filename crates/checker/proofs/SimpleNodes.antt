@@ -5,8 +5,8 @@ use Rattle.std.specs.Result.{result_ok}
 use Rattle.std.proofs.lemmas.List.Sums.{sum_by-cons}
 use Rattle.syntax.specs.declared.node.BinaryOperator.{BinaryOperator}
 use Rattle.syntax.specs.declared.node.BinaryOperator.TheVariants as ops
-use Rattle.syntax.specs.Tree.{TypeExpression, Part, Value, Text, Right, Place, Simple, CallAlone, Close, Print, ReceiveAlone, Send, Increment, Decrement, Assign, Define, Update, Comm, CommSend, CommReceive, CommDefine, CommAssign}
-use Rattle.syntax.specs.Measures.{if_any, type_size, expression_size, right_size, part_size, simple_size, comm_size}
+use Rattle.syntax.specs.Tree.{TypeExpression, Expression, Receive, Part, Value, Text, Place, Simple, CallAlone, Close, Print, ReceiveAlone, Send, Increment, Decrement, Assign, Define, Update, Comm, CommSend, CommReceive, CommDefine, CommAssign}
+use Rattle.syntax.specs.Measures.{if_any, type_size, expression_size, part_size, simple_size, comm_size}
 use Rattle.type_table.specs.Types.{ValueType}
 use Rattle.type_table.specs.Scopes.{Scope, Globals, own_variable, type_in}
 use Rattle.typing_rules.specs.declared.flaw.Flaw.{Flaw}
@@ -17,8 +17,8 @@ use Rattle.typing_rules.specs.Expressions.{PrintedHas, nodes_of, element_of}
 use Rattle.typing_rules.specs.Operations.{Given, given, place_type}
 use Rattle.typing_rules.specs.Simples.{PartHas, PartsHave, UpdatedHas, StepHas, NamesFail, DefaultsFail, DefinedHave, VariablesHave, AllFail, IfRightHas, SimpleHas, comm_simple, TypedVariablesHave, UntypedVariablesHave}
 use Rattle.typing_rules.specs.Nodes.{node_of}
-use Rattle.typing_rules.proofs.ExpressionNodes.{broken, expression_positive, type_positive, value_within, fails_within, numbers_within, expression_within, channel_within, sent_within}
-use Rattle.typing_rules.proofs.OperationNodes.{type_within, call_within, receive_within, measured_within, AreWithin, given_are, right_within, read_place_within, goes_within, places_fail_within, places_within}
+use Rattle.typing_rules.proofs.ExpressionNodes.{broken, expression_positive, type_positive, value_within, fails_within, numbers_within, expression_within, channel_within, sent_within, type_within}
+use Rattle.typing_rules.proofs.OperationNodes.{call_within, receive_within, measured_within, AreWithin, given_are, right_within, read_place_within, goes_within, places_fail_within, places_within}
 
 printed_within : (w : Option Worth) (nodes : Nodes) (flaw : Flaw) → nodes.first < nodes.end → PrintedHas w nodes flaw → node_of flaw < nodes.end
 printed_within None nodes flaw le has = absurd has
@@ -81,22 +81,22 @@ all_fail_within kind (suc n) (g ∷ gs) end flaw all (inl has) =
     let small = value_within g.worth kind g.nodes flaw all.0.0 has in omega (arith, small, all.0.1)
 all_fail_within kind (suc n) (g ∷ gs) end flaw all (inr has) = all_fail_within kind n gs end flaw all.1 has
 
-if_right_within : (globals : Globals) (scope : Scope) (names : ℕ) (kind : Option ValueType) (r : Option Right) (first : ℕ) (flaw : Flaw) → IfRightHas globals scope names kind first r flaw → node_of flaw < first + if_any right_size r + 1
+if_right_within : (globals : Globals) (scope : Scope) (names : ℕ) (kind : Option ValueType) (r : Option (List Expression)) (first : ℕ) (flaw : Flaw) → IfRightHas globals scope names kind first r flaw → node_of flaw < first + if_any (sum_by expression_size) r + 1
 if_right_within globals scope names kind None first flaw has = absurd has
 if_right_within globals scope names kind (Some r) first flaw (inl has) = omega (arith, right_within globals scope r first flaw has)
-if_right_within globals scope names kind (Some r) first flaw (inr (inl has)) = omega (arith, numbers_within (length (given globals scope names first r)) names (first + right_size r + 1) flaw has)
-if_right_within globals scope names kind (Some r) first flaw (inr (inr has)) = omega (arith, all_fail_within kind names (given globals scope names first r) (first + right_size r) flaw (given_are globals scope names r first) has)
+if_right_within globals scope names kind (Some r) first flaw (inr (inl has)) = omega (arith, numbers_within (length (given globals scope names first r)) names (first + sum_by expression_size r + 1) flaw has)
+if_right_within globals scope names kind (Some r) first flaw (inr (inr has)) = omega (arith, all_fail_within kind names (given globals scope names first r) (first + sum_by expression_size r) flaw (given_are globals scope names r first) has)
 
-pub typed_within : (globals : Globals) (scope : Scope) (names : List (List ℕ)) (kind : TypeExpression) (r : Option Right) (first : ℕ) (flaw : Flaw) → TypedVariablesHave globals scope first names kind r flaw → node_of flaw < first + (type_size kind + if_any right_size r + 1)
+pub typed_within : (globals : Globals) (scope : Scope) (names : List (List ℕ)) (kind : TypeExpression) (r : Option (List Expression)) (first : ℕ) (flaw : Flaw) → TypedVariablesHave globals scope first names kind r flaw → node_of flaw < first + (type_size kind + if_any (sum_by expression_size) r + 1)
 typed_within globals scope names kind r first flaw (inl has) = omega (arith, type_within (type_in globals.types scope kind) first flaw has, type_positive kind)
 typed_within globals scope names kind r first flaw (inr (inl has)) = omega (arith, if_right_within globals scope (length names) (type_in globals.types scope kind) r (first + type_size kind) flaw has)
-typed_within globals scope names kind r first flaw (inr (inr has)) = omega (arith, variables_within scope names (first + type_size kind + if_any right_size r + 1) flaw has)
+typed_within globals scope names kind r first flaw (inr (inr has)) = omega (arith, variables_within scope names (first + type_size kind + if_any (sum_by expression_size) r + 1) flaw has)
 
-pub untyped_within : (globals : Globals) (scope : Scope) (names : List (List ℕ)) (r : Right) (first : ℕ) (flaw : Flaw) → UntypedVariablesHave globals scope first names r flaw → node_of flaw < first + (right_size r + 1)
+pub untyped_within : (globals : Globals) (scope : Scope) (names : List (List ℕ)) (r : List Expression) (first : ℕ) (flaw : Flaw) → UntypedVariablesHave globals scope first names r flaw → node_of flaw < first + (sum_by expression_size r + 1)
 untyped_within globals scope names r first flaw (inl has) = omega (arith, right_within globals scope r first flaw has)
-untyped_within globals scope names r first flaw (inr (inl has)) = omega (arith, numbers_within (length (given globals scope (length names) first r)) (length names) (first + right_size r + 1) flaw has)
-untyped_within globals scope names r first flaw (inr (inr (inl has))) = omega (arith, variables_within scope names (first + right_size r + 1) flaw has)
-untyped_within globals scope names r first flaw (inr (inr (inr has))) = omega (arith, defaults_within names (given globals scope (length names) first r) (first + right_size r) flaw (given_are globals scope (length names) r first) has)
+untyped_within globals scope names r first flaw (inr (inl has)) = omega (arith, numbers_within (length (given globals scope (length names) first r)) (length names) (first + sum_by expression_size r + 1) flaw has)
+untyped_within globals scope names r first flaw (inr (inr (inl has))) = omega (arith, variables_within scope names (first + sum_by expression_size r + 1) flaw has)
+untyped_within globals scope names r first flaw (inr (inr (inr has))) = omega (arith, defaults_within names (given globals scope (length names) first r) (first + sum_by expression_size r) flaw (given_are globals scope (length names) r first) has)
 
 -- ---- simple statements
 
@@ -118,11 +118,11 @@ simple_within globals scope (Decrement place) first flaw has = step_within globa
 simple_within globals scope (Assign places r) first flaw (inl has) = omega (arith, places_within globals scope places first flaw has)
 simple_within globals scope (Assign places r) first flaw (inr (inl has)) = omega (arith, right_within globals scope r (first + length places) flaw has)
 simple_within globals scope (Assign places r) first flaw (inr (inr (inl has))) = numbers_within (length (given globals scope (length places) (first + length places) r)) (length places) (first + simple_size (Assign places r)) flaw has
-simple_within globals scope (Assign places r) first flaw (inr (inr (inr has))) = omega (arith, places_fail_within globals scope places (given globals scope (length places) (first + length places) r) (first + length places + right_size r) flaw (given_are globals scope (length places) r (first + length places)) has)
+simple_within globals scope (Assign places r) first flaw (inr (inr (inr has))) = omega (arith, places_fail_within globals scope places (given globals scope (length places) (first + length places) r) (first + length places + sum_by expression_size r) flaw (given_are globals scope (length places) r (first + length places)) has)
 simple_within globals scope (Define names r) first flaw (inl has) = omega (arith, right_within globals scope r first flaw has)
-simple_within globals scope (Define names r) first flaw (inr (inl has)) = omega (arith, numbers_within (length (given globals scope (length names) first r)) (length names) (first + right_size r + 1) flaw has)
-simple_within globals scope (Define names r) first flaw (inr (inr (inl has))) = omega (arith, defined_within scope names (first + right_size r + 1) flaw has)
-simple_within globals scope (Define names r) first flaw (inr (inr (inr has))) = omega (arith, names_fail_within scope names (given globals scope (length names) first r) (first + right_size r) flaw (given_are globals scope (length names) r first) has)
+simple_within globals scope (Define names r) first flaw (inr (inl has)) = omega (arith, numbers_within (length (given globals scope (length names) first r)) (length names) (first + sum_by expression_size r + 1) flaw has)
+simple_within globals scope (Define names r) first flaw (inr (inr (inl has))) = omega (arith, defined_within scope names (first + sum_by expression_size r + 1) flaw has)
+simple_within globals scope (Define names r) first flaw (inr (inr (inr has))) = omega (arith, names_fail_within scope names (given globals scope (length names) first r) (first + sum_by expression_size r) flaw (given_are globals scope (length names) r first) has)
 simple_within globals scope (Update place operator value) first flaw (inl has) = omega (arith, read_place_within globals scope place first flaw has)
 simple_within globals scope (Update place operator value) first flaw (inr (inl has)) = omega (arith, expression_within globals scope value (first + 1) flaw has)
 simple_within globals scope (Update place operator value) first flaw (inr (inr has)) =
@@ -132,7 +132,7 @@ simple_within globals scope (Update place operator value) first flaw (inr (inr h
 pub comm_sized : (c : Comm) → simple_size (comm_simple c) ≤ comm_size c
 comm_sized (CommSend channel value) = omega arith
 comm_sized (CommReceive channel) = omega arith
-comm_sized (CommDefine item None channel) = omega arith
-comm_sized (CommDefine item (Some ok) channel) = omega arith
-comm_sized (CommAssign item None channel) = omega arith
-comm_sized (CommAssign item (Some ok) channel) = omega arith
+comm_sized (CommDefine item None channel) = omega (arith, sum_by-cons expression_size (Receive channel) [])
+comm_sized (CommDefine item (Some ok) channel) = omega (arith, sum_by-cons expression_size (Receive channel) [])
+comm_sized (CommAssign item None channel) = omega (arith, sum_by-cons expression_size (Receive channel) [])
+comm_sized (CommAssign item (Some ok) channel) = omega (arith, sum_by-cons expression_size (Receive channel) [])

@@ -1,17 +1,17 @@
 -- A flaw's node is one of the statement's.
 use Rattle.std.proofs.Common.{◌≡◌, ℕ, ◌+◌, ◌<◌, ◌≤◌, inl, inr, ◌∷◌, [], Option, Some, None, option_map, refl, arith}
-use Rattle.syntax.specs.Tree.{Expression, Simple, IfHead, Bare, Semicolon, First, Target, NoTarget, DefineTarget, AssignTarget, ForHead, Forever, While, ForClauses, Range, Comm, Returned, NoValue, ReturnedOperation, ReturnedValue, Statement, Empty, Alone, VarTyped, VarUntyped, Block, If, For, Select, Go, Return, Break, Continue, Statements, NoStatement, Then, Branch, Conditional, Otherwise, NoElse, ElseBlock, ElseIf, Clauses, NoClause, Clause}
+use Rattle.syntax.specs.Tree.{Expression, Simple, IfHead, Bare, Semicolon, First, Target, NoTarget, DefineTarget, AssignTarget, ForHead, Forever, While, ForClauses, Range, Comm, Returned, NoValue, ReturnedValue, Statement, Empty, Alone, VarTyped, VarUntyped, Block, If, For, Select, Go, Return, Break, Continue, Statements, NoStatement, Then, Branch, Conditional, Otherwise, NoElse, ElseBlock, ElseIf, Clauses, NoClause, Clause}
 use Rattle.syntax.specs.Measures.{if_any, expression_size, simple_size, if_head_size, target_size, for_head_size, comm_size, returned_size, statement_size, statements_size, branch_size, otherwise_size, clauses_size}
 use Rattle.type_table.specs.Scopes.{Scope, Globals, Yield, NoResult, Yields, is_blank, entered, left}
 use Rattle.typing_rules.specs.declared.flaw.Flaw.{Flaw}
 use Rattle.typing_rules.specs.Worths.{worth}
 use Rattle.typing_rules.specs.Expressions.{nodes_of}
-use Rattle.typing_rules.specs.Operations.{Given, operation_type, given_by, place_type}
+use Rattle.typing_rules.specs.Operations.{Given, place_type}
 use Rattle.typing_rules.specs.Simples.{comm_simple}
 use Rattle.typing_rules.specs.Statements.{Setting, in_for, in_select, IfSimpleHas, after_any, head_simple, IfTestHas, GuardHas, item_given, TargetHas, TakenHas, RangedHas, ForHeadHas, after_for_head, after, after_all, ReturnHas, returned_given, ReturnedHas, StatementHas, StatementsHave, BranchHas, OtherwiseHas, ClausesHave}
 use Rattle.typing_rules.specs.Nodes.{node_of}
 use Rattle.typing_rules.proofs.ExpressionNodes.{broken, expression_positive, value_within, expression_within, test_within, channel_within, received_within}
-use Rattle.typing_rules.proofs.OperationNodes.{call_within, operation_within, operation_positive, place_within, goes_within}
+use Rattle.typing_rules.proofs.OperationNodes.{call_within, place_within, goes_within}
 use Rattle.checker.proofs.SimpleNodes.{defined_within, typed_within, untyped_within, simple_within, comm_sized}
 
 -- ---- headers
@@ -69,18 +69,13 @@ for_head_within globals scope (Range t channel) first end flaw le (inr (inr has)
 
 returned_there : (y : Yield) (globals : Globals) (scope : Scope) (r : Returned) (first : ℕ) (flaw : Flaw) → ReturnHas y (returned_given globals scope first r) (first + statement_size (Return r)) flaw → node_of flaw < first + statement_size (Return r)
 returned_there NoResult globals scope NoValue first flaw has = absurd has
-returned_there NoResult globals scope (ReturnedOperation o) first flaw has = omega (arith, broken _ (first + statement_size (Return (ReturnedOperation o))) flaw has)
 returned_there NoResult globals scope (ReturnedValue v) first flaw has = omega (arith, broken _ (first + statement_size (Return (ReturnedValue v))) flaw has)
 returned_there (Yields kind) globals scope NoValue first flaw has = omega (arith, broken _ (first + statement_size (Return NoValue)) flaw has)
-returned_there (Yields kind) globals scope (ReturnedOperation o) first flaw has =
-    let g : Given = given_by first o (operation_type globals scope o) in
-    let small = value_within g.worth kind g.nodes flaw (omega (arith, operation_positive o)) has in omega (arith, small)
 returned_there (Yields kind) globals scope (ReturnedValue v) first flaw has =
     let small = value_within (worth globals scope v) kind (nodes_of first v) flaw (omega (arith, expression_positive v)) has in omega (arith, small)
 
 returned_within : (globals : Globals) (scope : Scope) (r : Returned) (first : ℕ) (flaw : Flaw) → ReturnedHas globals scope first r flaw → node_of flaw < first + returned_size r
 returned_within globals scope NoValue first flaw has = absurd has
-returned_within globals scope (ReturnedOperation o) first flaw has = operation_within globals scope o first flaw has
 returned_within globals scope (ReturnedValue v) first flaw has = expression_within globals scope v first flaw has
 
 -- ---- statements

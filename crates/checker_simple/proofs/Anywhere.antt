@@ -1,39 +1,53 @@
 -- The types of what is given don't depend on where it stands.
-use Rattle.std.proofs.Common.{◌≡◌, ℕ, ◌+◌, ◌==◌, Bool, true, false, ◌&&◌, refl, List, [], ◌∷◌, Some}
+use Rattle.std.proofs.Common.{◌≡◌, ℕ, ◌+◌, ◌==◌, Bool, true, false, ◌&&◌, refl, List, [], ◌∷◌, ◌++◌, Some}
 use Rattle.std.specs.Prelude.{if◌then◌else◌}
-use Rattle.syntax.specs.Tree.{Expression, Operation, Right, RightOperation, Values}
+use Rattle.syntax.specs.Tree.{Expression}
 use Rattle.syntax.specs.Measures.{expression_size}
 use Rattle.type_table.specs.Types.{BoolType}
 use Rattle.type_table.specs.Scopes.{Globals, Scope}
-use Rattle.typing_rules.specs.Operations.{Given, is_receive, operation_type, given_by, given_values, given}
+use Rattle.typing_rules.specs.Worths.{Typed}
+use Rattle.typing_rules.specs.Expressions.{nodes_of}
+use Rattle.typing_rules.specs.Operations.{Given, is_receive, given_values, also_given, given}
 use Rattle.typing_rules.specs.Simples.{first_type, after_name, with_defined}
 
-values-anywhere : (g : Globals) (s t : Scope) (names : List (List ℕ)) (m n : ℕ) (values : List Expression)
-    → with_defined g t names (given_values g s m values) ≡ with_defined g t names (given_values g s n values)
-values-anywhere g s t [] m n values = refl
-values-anywhere g s t (name ∷ names) m n [] = refl
-values-anywhere g s t (name ∷ names) m n (v ∷ values) =
-    values-anywhere g s (after_name g t name (first_type (given_values g s m (v ∷ values)))) names (m + expression_size v) (n + expression_size v) values
+-- the same is given, maybe elsewhere
+abbrev AreAlike : List Given → List Given → Type 0
+AreAlike [] [] = Unit {0}
+AreAlike [] (y ∷ ys) = ⊥
+AreAlike (x ∷ xs) [] = ⊥
+AreAlike (x ∷ xs) (y ∷ ys) = (x.worth ≡ y.worth) × AreAlike xs ys
 
-one-anywhere : (g : Globals) (t : Scope) (names : List (List ℕ)) (x y : Given) → x.worth ≡ y.worth
-    → with_defined g t names (x ∷ []) ≡ with_defined g t names (y ∷ [])
-one-anywhere g t [] x y e = refl
-one-anywhere g t (name ∷ names) x y e = rw e refl
+both-alike : (xs ys vs ws : List Given) → AreAlike xs ys → AreAlike vs ws → AreAlike (xs ++ vs) (ys ++ ws)
+both-alike [] [] vs ws a b = b
+both-alike [] (y ∷ ys) vs ws a b = absurd a
+both-alike (x ∷ xs) [] vs ws a b = absurd a
+both-alike (x ∷ xs) (y ∷ ys) vs ws a b = (a.0, both-alike xs ys vs ws a.1 b)
 
-two-anywhere : (g : Globals) (t : Scope) (names : List (List ℕ)) (x y v w : Given) → x.worth ≡ y.worth → v.worth ≡ w.worth
-    → with_defined g t names (x ∷ v ∷ []) ≡ with_defined g t names (y ∷ w ∷ [])
-two-anywhere g t [] x y v w e h = refl
-two-anywhere g t (name ∷ names) x y v w e h = rw e (one-anywhere g _ names v w h)
+values-alike : (g : Globals) (s : Scope) (m n : ℕ) (values : List Expression) → AreAlike (given_values g s m values) (given_values g s n values)
+values-alike g s m n [] = tt
+values-alike g s m n (v ∷ values) = (refl, values-alike g s (m + expression_size v) (n + expression_size v) values)
 
-made-anywhere : (two : Bool) (g : Globals) (s t : Scope) (names : List (List ℕ)) (m n : ℕ) (op : Operation)
-    → with_defined g t names (given_by m op (operation_type g s op) ∷ (if two then given_by m op (Some BoolType) ∷ [] else []))
-    ≡ with_defined g t names (given_by n op (operation_type g s op) ∷ (if two then given_by n op (Some BoolType) ∷ [] else []))
-made-anywhere true g s t names m n op = two-anywhere g t names _ _ _ _ refl refl
-made-anywhere false g s t names m n op = one-anywhere g t names _ _ refl
+also-alike : (places m n : ℕ) (values : List Expression) → AreAlike (also_given places m values) (also_given places n values)
+also-alike places m n [] = tt
+also-alike places m n (v ∷ []) = second ((places == 2) && is_receive v) where
+  second : (two : Bool)
+      → AreAlike (if two then record { worth = Some (Typed BoolType); nodes = nodes_of m v } ∷ [] else []) (if two then record { worth = Some (Typed BoolType); nodes = nodes_of n v } ∷ [] else [])
+  second true = (refl, tt)
+  second false = tt
+also-alike places m n (v ∷ (w ∷ values)) = tt
 
-pub defined-anywhere : (g : Globals) (s : Scope) (names : List (List ℕ)) (places m n : ℕ) (right : Right)
+defined-alike : (g : Globals) (t : Scope) (names : List (List ℕ)) (xs ys : List Given) → AreAlike xs ys → with_defined g t names xs ≡ with_defined g t names ys
+defined-alike g t [] xs ys a = refl
+defined-alike g t (name ∷ names) [] [] a = refl
+defined-alike g t (name ∷ names) [] (y ∷ ys) a = absurd a
+defined-alike g t (name ∷ names) (x ∷ xs) [] a = absurd a
+defined-alike g t (name ∷ names) (x ∷ xs) (y ∷ ys) a =
+    rw a.0 (defined-alike g (after_name g t name (first_type (y ∷ ys))) names xs ys a.1)
+
+pub defined-anywhere : (g : Globals) (s : Scope) (names : List (List ℕ)) (places m n : ℕ) (right : List Expression)
     → with_defined g s names (given g s places m right) ≡ with_defined g s names (given g s places n right)
-defined-anywhere g s names places m n (Values values) = values-anywhere g s s names m n values
-defined-anywhere g s names places m n (RightOperation op) = made-anywhere ((places == 2) && is_receive op) g s s names m n op
+defined-anywhere g s names places m n right =
+    defined-alike g s names (given g s places m right) (given g s places n right)
+    (both-alike (given_values g s m right) (given_values g s n right) (also_given places m right) (also_given places n right) (values-alike g s m n right) (also-alike places m n right))
 
 pub ruleset given_anywhere = (defined-anywhere)

@@ -8,8 +8,8 @@ ghost use Rattle.checker_base.specs.Views.{Refuses};
 ghost use Rattle.typing_rules.specs.Operations.{CallHas};
 ghost use Rattle.type_table.specs.Visible.{globals_in, scope_of};
 
+use checker_base::operand::call;
 use checker_base::refusal::Refusal;
-use checker_operation::operation::call;
 use syntax::{ArgumentsNode, Name, NodeId};
 use type_table::scope::Visible;
 use type_table::table::TypeTable;
@@ -27,6 +27,6 @@ pub fn call_alone(
     ensures none { IfOk result (λ _. (flaw : OneFlaw) → ¬ (CallHas (globals_in table.now) (scope_of table.now visible.now) first (name_of function.now) (arguments_of arguments.now) flaw)) }
     ensures one { IfErr result (Refuses (CallHas (globals_in table.now) (scope_of table.now visible.now) first (name_of function.now) (arguments_of arguments.now))) }
 {
-    let called = call(table, visible, first, function, arguments)?;
+    let called = call(table, visible, first, function, arguments.values.as_slice())?;
     Ok(called.node + 1)
 }

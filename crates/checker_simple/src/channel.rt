@@ -9,10 +9,9 @@ ghost use Rattle.checker_base.specs.Views.{Refuses};
 ghost use Rattle.typing_rules.specs.Simples.{SimpleHas};
 ghost use Rattle.type_table.specs.Visible.{globals_in, scope_of};
 
-use checker_base::operand::checked;
+use checker_base::operand::{checked, measured, receive};
 use checker_base::refusal::Refusal;
 use checker_base::value::{channel, sent, value};
-use checker_operation::operation::{measured, receive};
 use syntax::{ExpressionNode, NodeId};
 use type_table::scope::Visible;
 use type_table::table::TypeTable;
@@ -35,12 +34,12 @@ pub(crate) fn close(
 }
 
 /// Checks a send, whose nodes have numbers from `first` on, and answers the number behind them.
-pub(crate) fn send(
-    table: &TypeTable<'_>,
-    visible: &Visible<'_>,
+pub(crate) fn send<'a>(
+    table: &TypeTable<'a>,
+    visible: &Visible<'a>,
     first: NodeId,
-    to: &ExpressionNode,
-    item: &ExpressionNode,
+    to: &'a ExpressionNode,
+    item: &'a ExpressionNode,
 ) -> Result<NodeId, Refusal>
     requires small { first + simple_size (Send (expression_of to.now) (expression_of item.now)) < 2 ^ 32 }
     ensures end { IfOk result (λ end. end ≡ first + simple_size (Send (expression_of to.now) (expression_of item.now))) }

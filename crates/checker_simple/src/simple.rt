@@ -15,9 +15,9 @@ use crate::define::define;
 use crate::names::Names;
 use crate::print::parts;
 use crate::update::{step, update};
+use checker_base::given::Source;
+use checker_base::place::Targets;
 use checker_base::refusal::Refusal;
-use checker_operation::given::Source;
-use checker_operation::place::Targets;
 use std::alloc::Global;
 use syntax::{CommNode, NodeId, SimpleNode};
 use type_table::scope::Visible;
@@ -42,11 +42,25 @@ pub fn simple<'a>(
     match simple {
         SimpleNode::Define(names, right) => {
             let names = Names::All(names.as_slice());
-            define(alloc, table, visible, first, names, Source::Right(right))
+            define(
+                alloc,
+                table,
+                visible,
+                first,
+                names,
+                Source::Right(right.as_slice()),
+            )
         }
         SimpleNode::Assign(places, right) => {
             let places = Targets::All(places.as_slice());
-            assign(alloc, table, visible, first, places, Source::Right(right))
+            assign(
+                alloc,
+                table,
+                visible,
+                first,
+                places,
+                Source::Right(right.as_slice()),
+            )
         }
         SimpleNode::Call(function, arguments) => {
             call_alone(table, visible, first, function, arguments)

@@ -1,7 +1,7 @@
 //! Declarations of variables ("Variable declarations" of the Go specification).
 
-ghost use Rattle.std.specs.Prelude.{◌≡◌, ℕ, ◌+◌, ◌^◌, ◌<◌, List, Some, length, map, option_map, IfOk, IfErr};
-ghost use Rattle.syntax.specs.Measures.{if_any, type_size, right_size};
+ghost use Rattle.std.specs.Prelude.{◌≡◌, ℕ, ◌+◌, ◌^◌, ◌<◌, List, Some, length, map, sum_by, option_map, IfOk, IfErr};
+ghost use Rattle.syntax.specs.Measures.{if_any, type_size, expression_size};
 ghost use Rattle.syntax.specs.View.{name_of, type_of, right_of};
 ghost use Rattle.typing_rules.specs.declared.flaw.Flaw.{Flaw as OneFlaw};
 ghost use Rattle.type_table.specs.Scopes.{type_in, declared_unless_blank};
@@ -10,17 +10,17 @@ ghost use Rattle.typing_rules.specs.Simples.{AllFail, TypedHave, UntypedHave, If
 ghost use Rattle.type_table.specs.Views.{kind_of};
 ghost use Rattle.type_table.specs.Visible.{types_of, globals_in, scope_of, Keeps};
 ghost use Rattle.checker_base.specs.Views.{Refuses};
-ghost use Rattle.checker_operation.specs.Givens.{given_of};
+ghost use Rattle.checker_base.specs.Givens.{given_of};
 ghost use Rattle.checker_simple.specs.Names.{names_at};
 
 use crate::names::{Names, may_declare, references, take_names};
+use checker_base::given::{Given, Source, fits, given_by, numbers_agree};
 use checker_base::operand::Operand;
 use checker_base::refusal::Refusal;
-use checker_operation::given::{Given, Source, fits, given_by, numbers_agree};
 use go_text::Rule;
 use std::alloc::{AllocError, Global};
 use syntax::size::type_size;
-use syntax::{Name, NodeId, RightNode, TypeNode};
+use syntax::{ExpressionNode, Name, NodeId, TypeNode};
 use type_table::scope::{Visible, declare, is_blank};
 use type_table::table::TypeTable;
 use type_table::value_type::{ValueType, type_in};
@@ -65,17 +65,24 @@ fn typed_right<'a>(
     names: usize,
     kind: ValueType<'a>,
     first: NodeId,
-    right: &'a Option<RightNode>,
+    right: &'a Option<Vec<ExpressionNode>>,
 ) -> Result<NodeId, Refusal>
-    requires small { first + if_any right_size (option_map right_of right.now) < 2 ^ 32 }
-    ensures end { IfOk result (λ end. end ≡ first + if_any right_size (option_map right_of right.now)) }
+    requires small { first + if_any (sum_by expression_size) (option_map right_of right.now) < 2 ^ 32 }
+    ensures end { IfOk result (λ end. end ≡ first + if_any (sum_by expression_size) (option_map right_of right.now)) }
     ensures none { IfOk result (λ _. (flaw : OneFlaw) → ¬ (IfRightHas (globals_in table.now) (scope_of table.now visible.now) names (Some (kind_of (types_of table.now) kind.entry)) first (option_map right_of right.now) flaw)) }
     ensures one { IfErr result (Refuses (IfRightHas (globals_in table.now) (scope_of table.now visible.now) names (Some (kind_of (types_of table.now) kind.entry)) first (option_map right_of right.now))) }
 {
     match right {
         None => Ok(first),
         Some(right) => {
-            let given = given_by(alloc, table, visible, names, first, Source::Right(right))?;
+            let given = given_by(
+                alloc,
+                table,
+                visible,
+                names,
+                first,
+                Source::Right(right.as_slice()),
+            )?;
             typed_given(table, kind, names, &given)?;
             Ok(given.end)
         }
@@ -142,10 +149,10 @@ pub fn typed_variables<'a>(
     first: NodeId,
     names: &'a [Name],
     kind: &'a TypeNode,
-    right: &'a Option<RightNode>,
+    right: &'a Option<Vec<ExpressionNode>>,
 ) -> Result<NodeId, Refusal>
-    requires small { first + type_size (type_of kind.now) + if_any right_size (option_map right_of right.now) + 1 < 2 ^ 32 }
-    ensures end { IfOk result (λ end. end ≡ first + type_size (type_of kind.now) + if_any right_size (option_map right_of right.now) + 1) }
+    requires small { first + type_size (type_of kind.now) + if_any (sum_by expression_size) (option_map right_of right.now) + 1 < 2 ^ 32 }
+    ensures end { IfOk result (λ end. end ≡ first + type_size (type_of kind.now) + if_any (sum_by expression_size) (option_map right_of right.now) + 1) }
     ensures after { IfOk result (λ _. scope_of table.now visible.new ≡ with_variables (globals_in table.now) (scope_of table.now visible.old) (type_in (globals_in table.now).types (scope_of table.now visible.old) (type_of kind.now)) (map name_of names.now)) }
     ensures kept { IfOk result (λ _. Keeps visible.old visible.new) }
     ensures none { IfOk result (λ _. (flaw : OneFlaw) → ¬ (TypedVariablesHave (globals_in table.now) (scope_of table.now visible.old) first (map name_of names.now) (type_of kind.now) (option_map right_of right.now) flaw)) }
@@ -170,10 +177,10 @@ pub fn untyped_variables<'a>(
     visible: &mut Visible<'a>,
     first: NodeId,
     names: &'a [Name],
-    right: &'a RightNode,
+    right: &'a Vec<ExpressionNode>,
 ) -> Result<NodeId, Refusal>
-    requires small { first + right_size (right_of right.now) + 1 < 2 ^ 32 }
-    ensures end { IfOk result (λ end. end ≡ first + right_size (right_of right.now) + 1) }
+    requires small { first + sum_by expression_size (right_of right.now) + 1 < 2 ^ 32 }
+    ensures end { IfOk result (λ end. end ≡ first + sum_by expression_size (right_of right.now) + 1) }
     ensures after { IfOk result (λ _. scope_of table.now visible.new ≡ with_defined (globals_in table.now) (scope_of table.now visible.old) (map name_of names.now) (given (globals_in table.now) (scope_of table.now visible.old) (length (map name_of names.now)) 0 (right_of right.now))) }
     ensures kept { IfOk result (λ _. Keeps visible.old visible.new) }
     ensures none { IfOk result (λ _. (flaw : OneFlaw) → ¬ (UntypedVariablesHave (globals_in table.now) (scope_of table.now visible.old) first (map name_of names.now) (right_of right.now) flaw)) }
@@ -186,7 +193,7 @@ pub fn untyped_variables<'a>(
         visible,
         all.len(),
         first,
-        Source::Right(right),
+        Source::Right(right.as_slice()),
     )?;
     declare_given(table, visible, all.as_slice(), &given)?;
     Ok(given.end + 1)

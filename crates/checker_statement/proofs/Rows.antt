@@ -1,11 +1,12 @@
 -- Small statements, by computation.
-use Rattle.std.proofs.Common.{◌≡◌, true, false, [], ◌∷◌, Some, None, codes, refl, inl, inr}
+use Rattle.std.proofs.Common.{◌≡◌, ℕ, List, true, false, [], ◌∷◌, Some, None, codes, refl, inl, inr}
 use Rattle.go_text.specs.declared.rule.Rule.TheVariants as rules
 use Rattle.syntax.specs.declared.node.Direction.TheVariants as directions
-use Rattle.syntax.specs.Tree.{NamedType, Expression, Integer, Named, Values, Place, Simple, Define, Assign, Bare, First, NoTarget, DefineTarget, Forever, While, ForClauses, Range, CommReceive, CommDefine, NoValue, ReturnedValue, Statement, Empty, Alone, VarTyped, Block, If, For, Select, Return, Break, Continue, Statements, NoStatement, Then, Conditional, NoElse, ElseBlock, NoClause, Clause}
+use Rattle.syntax.specs.declared.node.BinaryOperator.TheVariants as ops
+use Rattle.syntax.specs.Tree.{NamedType, Expression, Integer, Named, Parenthesized, Binary, Receive, Length, Place, Simple, Define, Assign, Bare, First, NoTarget, DefineTarget, Forever, While, ForClauses, Range, CommReceive, CommDefine, NoValue, ReturnedValue, Statement, Empty, Alone, VarTyped, Block, If, For, Select, Return, Break, Continue, Statements, NoStatement, Then, Conditional, NoElse, ElseBlock, NoClause, Clause}
 use Rattle.typing_rules.specs.declared.flaw.Flaw.{Flaw}
 use Rattle.typing_rules.specs.declared.flaw.Flaw.TheVariants.{Broken}
-use Rattle.type_table.specs.Types.{IntType, ChannelType}
+use Rattle.type_table.specs.Types.{IntType, BoolType, ChannelType}
 use Rattle.type_table.specs.Scopes.{nothing_declared, Globals, Scope, Variable, NoResult, Yields}
 use Rattle.typing_rules.specs.Statements.{Setting, in_for, in_select, after_all, StatementHas, StatementsHave}
 use Rattle.typing_rules.specs.Terminating.{terminates, last_terminates}
@@ -36,17 +37,17 @@ abbrev at_x : Place
 at_x = record { name = codes "x"; fields = [] }
 
 abbrev set_x : Simple
-set_x = Define (codes "x" ∷ []) (Values (one ∷ []))
+set_x = Define (codes "x" ∷ []) (one ∷ [])
 
 abbrev new_x : Statement
 new_x = Alone set_x
 
 abbrev new_y : Statement
-new_y = Alone (Define (codes "y" ∷ []) (Values (one ∷ [])))
+new_y = Alone (Define (codes "y" ∷ []) (one ∷ []))
 
 -- x = 1
 abbrev to_x : Statement
-to_x = Alone (Assign (at_x ∷ []) (Values (one ∷ [])))
+to_x = Alone (Assign (at_x ∷ []) (one ∷ []))
 
 abbrev alone : Statement → Statements
 alone statement = Then statement NoStatement
@@ -98,6 +99,19 @@ words-select = refl
 -- var x, _ int
 words-var : after_all none nothing_declared (alone (VarTyped (codes "x" ∷ codes "_" ∷ []) (NamedType (codes "int")) None)) ≡ record { variables = record { name = codes "x"; kind = Some IntType; place = 0 } ∷ []; outer = 0; words = 1 }
 words-var = refl
+
+-- x, y := <-c: an int, and whether it was sent
+abbrev pair : List (List ℕ)
+pair = codes "x" ∷ codes "y" ∷ []
+
+types-pair : after_all none with_c (alone (Alone (Define pair (Receive c ∷ []))))
+    ≡ record { variables = both ∷ record { name = codes "x"; kind = Some IntType; place = 1 } ∷ record { name = codes "y"; kind = Some BoolType; place = 2 } ∷ []; outer = 0; words = 3 }
+types-pair = refl
+
+-- x := <-c + len(c)
+types-inner : after_all none with_c (alone (Alone (Define (codes "x" ∷ []) (Binary ops.Add (Receive c) (Length c) ∷ []))))
+    ≡ record { variables = both ∷ record { name = codes "x"; kind = Some IntType; place = 1 } ∷ []; outer = 0; words = 2 }
+types-inner = refl
 
 -- ---- terminating statements
 
@@ -205,3 +219,18 @@ too_little = inr (refl, refl)
 
 other_type : StatementHas counting nothing_declared 0 (Return (ReturnedValue truth)) (Broken rules.Assignable 0)
 other_type = inr (refl, (refl, refl))
+
+-- x, y := (<-c) breaks rule 8 at the `:=`, behind the parentheses
+in_parentheses : StatementHas plain with_c 0 (Alone (Define pair (Parenthesized (Receive c) ∷ []))) (Broken rules.Numbers 3)
+in_parentheses = inr (inl (refl, (refl, refl)))
+
+-- x := <-c + 1 breaks rule 11 at the receive, where c is there to send on, and x := len(1) + 1 breaks rule 12 at the operand
+inner_sender : StatementHas plain with_sender 0 (Alone (Define (codes "x" ∷ []) (Binary ops.Add (Receive c) one ∷ []))) (Broken rules.Direction 1)
+inner_sender = inl (inl (inl (inr (inr (refl, (refl, refl))))))
+
+inner_length : StatementHas plain nothing_declared 0 (Alone (Define (codes "x" ∷ []) (Binary ops.Add (Length one) one ∷ []))) (Broken rules.Channel 0)
+inner_length = inl (inl (inl (inr (refl, (refl, refl)))))
+
+-- if <-c {} breaks rule 14 at the receive, of an int
+tested_item : StatementHas plain with_c 0 (If (Conditional Bare (Receive c) NoStatement NoElse)) (Broken rules.Condition 1)
+tested_item = inl (inr (inr (refl, (refl, refl))))

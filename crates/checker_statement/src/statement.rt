@@ -19,8 +19,6 @@ use crate::header::{broken_at, for_header, guard};
 use checker_base::operand::{Operand, checked};
 use checker_base::refusal::Refusal;
 use checker_base::value::value;
-use checker_base::worth::Worth;
-use checker_operation::operation::operation;
 use checker_simple::call::call_alone;
 use checker_simple::simple::{comm, simple};
 use checker_simple::variables::{typed_variables, untyped_variables};
@@ -85,15 +83,6 @@ fn return_statement<'a>(
             None => Ok(first + 1),
             Some(_) => Err(Flaw::Broken(Rule::Returned, first)),
         },
-        ReturnNode::Operation(one) => {
-            let made = operation(table, visible, first, one)?;
-            let operand = Operand {
-                first,
-                node: made.node,
-                worth: Worth::Typed(made.kind),
-            };
-            returns(table, result_type, operand)
-        }
         ReturnNode::Value(one) => {
             let operand = checked(table, visible, first, one)?;
             returns(table, result_type, operand)

@@ -1,15 +1,15 @@
 //! The values of a unit, and what each is for.
 
-use crate::number::{after, expression_end, operation_end, type_end};
+use crate::number::{after, expression_end, type_end};
 use crate::scene::Scene;
 use crate::unit::{Found, Unit};
 use checker_base::operand::worth;
+use checker_base::place::place;
 use checker_base::worth::Worth;
-use checker_operation::place::place;
 use std::alloc::Global;
 use syntax::{
-    ArgumentsNode, BinaryOperator, CommNode, ExpressionNode, Name, NodeId, OperationNode, PartNode,
-    PlaceNode, RangeTarget, ReturnNode, RightNode, SimpleNode, StatementNode, TypeNode,
+    BinaryOperator, CommNode, ExpressionNode, Name, NodeId, PartNode, PlaceNode, RangeTarget,
+    ReturnNode, SimpleNode, StatementNode, TypeNode,
 };
 use type_table::entry::{FunctionEntry, StructEntry};
 use type_table::layout::{function_number, number_of};
@@ -55,21 +55,12 @@ pub struct Given<'a> {
     pub wanted: Option<ValueType<'a>>,
 }
 
-/// An operation, its own node, what its value is for, and the type that is wanted there, if that is known.
-#[derive(Clone, Copy)]
-pub struct Made<'a> {
-    pub node: NodeId,
-    pub operation: &'a OperationNode,
-    pub role: Role<'a>,
-    pub wanted: Option<ValueType<'a>>,
-}
-
 /// A call, and its own node.
 #[derive(Clone, Copy)]
 pub struct Called<'a> {
     pub node: NodeId,
     pub function: &'a Name,
-    pub arguments: &'a ArgumentsNode,
+    pub arguments: &'a [ExpressionNode],
 }
 
 /// A type as it is written, and the numbers of its nodes.
@@ -90,8 +81,10 @@ pub struct Parts<'a> {
     pub names: Vec<&'a Name>,
     /// The types that are written in it.
     pub types: Vec<Written<'a>>,
+    /// The values that it takes itself.
     pub values: Vec<Given<'a>>,
-    pub operations: Vec<Made<'a>>,
+    /// The values that operations within these take, each before those within it.
+    pub operands: Vec<Given<'a>>,
     pub calls: Vec<Called<'a>>,
     /// What it does to its place, if it counts: `++` or `--`.
     pub step: &'static str,
@@ -109,7 +102,7 @@ impl Drop for Parts<'_> {
             names,
             types,
             values,
-            operations,
+            operands,
             calls,
             step: _,
             is_cut: _,
@@ -119,7 +112,7 @@ impl Drop for Parts<'_> {
         drop(names);
         drop(types);
         drop(values);
-        drop(operations);
+        drop(operands);
         drop(calls);
     }
 }
@@ -156,7 +149,7 @@ impl<'a> Parts<'a> {
             names: Vec::new(alloc),
             types: Vec::new(alloc),
             values: Vec::new(alloc),
-            operations: Vec::new(alloc),
+            operands: Vec::new(alloc),
             calls: Vec::new(alloc),
             step: "",
             is_cut: false,
@@ -202,64 +195,40 @@ impl<'a> Parts<'a> {
         self.is_cut |= self.types.push(one).is_err();
     }
 
-    /// Takes a value.
-    fn take(
-        &mut self,
+    /// A value that begins at the next node.
+    fn next_value(
+        &self,
         expression: &'a ExpressionNode,
         role: Role<'a>,
         wanted: Option<ValueType<'a>>,
-    ) {
-        let first = self.end;
-        let end = expression_end(first, expression);
-        self.end = end;
-        let value = Given {
-            first,
-            end,
+    ) -> Given<'a> {
+        Given {
+            first: self.end,
+            end: expression_end(self.end, expression),
             expression,
             role,
             wanted,
-        };
+        }
+    }
+
+    /// Keeps a value that the unit takes itself.
+    fn keep_value(&mut self, value: Given<'a>) {
         self.is_cut |= self.values.push(value).is_err();
     }
 
-    /// Takes a channel from which one receives.
-    fn take_channel(&mut self, channel: &'a ExpressionNode) {
-        self.take(channel, Role::ReceivedFrom, None);
+    /// Keeps a value that an operation takes.
+    fn keep_operand(&mut self, value: Given<'a>) {
+        self.is_cut |= self.operands.push(value).is_err();
     }
 
-    /// Keeps a call, and passes its node.
-    fn keep_call(&mut self, function: &'a Name, arguments: &'a ArgumentsNode) {
-        let node = self.end;
-        self.end = after(node);
+    /// Keeps a call, whose own node is the next one.
+    fn keep_call(&mut self, function: &'a Name, arguments: &'a [ExpressionNode]) {
         let called = Called {
-            node,
+            node: self.end,
             function,
             arguments,
         };
         self.is_cut |= self.calls.push(called).is_err();
-    }
-
-    /// Takes a `make`.
-    fn take_make(&mut self, written: &'a TypeNode, size: &'a Option<ExpressionNode>) {
-        self.take_type(written);
-        if let Some(size) = size {
-            self.take(size, Role::Size, Some(ValueType::Int));
-        }
-    }
-
-    /// Keeps an operation.
-    fn keep_operation(&mut self, made: Made<'a>) {
-        self.is_cut |= self.operations.push(made).is_err();
-    }
-
-    /// Takes arguments of a print.
-    fn take_printed(&mut self, parts: &'a [PartNode]) {
-        for part in parts {
-            match part {
-                PartNode::Value(value) => self.take(value, Role::Printed, None),
-                PartNode::Text(_) => self.end = after(self.end),
-            }
-        }
     }
 
     /// Takes a `++` or a `--`.
@@ -268,58 +237,9 @@ impl<'a> Parts<'a> {
         self.take_place(place);
     }
 
-    /// Takes an assignment with an operator.
-    fn take_update(
-        &mut self,
-        place: &'a PlaceNode,
-        operator: BinaryOperator,
-        value: &'a ExpressionNode,
-    ) {
-        self.take_place(place);
-        self.take(value, Role::Operand(operator), None);
-    }
-
-    /// Takes a clause of a `select` that assigns what it receives to one place, or to two.
-    fn take_received(
-        &mut self,
-        place: &'a PlaceNode,
-        other: &'a Option<PlaceNode>,
-        channel: &'a ExpressionNode,
-    ) {
-        self.take_place(place);
-        if let Some(other) = other {
-            self.take_place(other);
-        }
-        self.take_channel(channel);
-    }
-
-    /// Takes a clause of a `select` that declares one name, or two, with what it receives.
-    fn take_declared(
-        &mut self,
-        name: &'a Name,
-        other: &'a Option<Name>,
-        channel: &'a ExpressionNode,
-    ) {
-        self.take_name(name);
-        if let Some(other) = other {
-            self.take_name(other);
-        }
-        self.take_channel(channel);
-    }
-
-    /// Takes the head of a range.
-    fn take_range(&mut self, target: &'a RangeTarget, source: &'a ExpressionNode) {
-        match target {
-            RangeTarget::Nothing => {}
-            RangeTarget::Define(name) => self.take_name(name),
-            RangeTarget::Assign(place) => self.take_place(place),
-        }
-        self.take(source, Role::Ranged, None);
-    }
-
-    /// Takes a condition; `in_for` says whether it is that of a `for`.
-    fn take_condition(&mut self, in_for: bool, condition: &'a ExpressionNode) {
-        self.take(condition, Role::Condition(in_for), Some(ValueType::Bool));
+    /// Passes a node.
+    fn pass(&mut self) {
+        self.end = after(self.end);
     }
 }
 
@@ -343,93 +263,204 @@ impl<'a> Taking<'_, 'a> {
         }
     }
 
+    /// Takes a value of the unit.
+    fn take(
+        &mut self,
+        expression: &'a ExpressionNode,
+        role: Role<'a>,
+        wanted: Option<ValueType<'a>>,
+    ) {
+        let value = self.parts.next_value(expression, role, wanted);
+        self.parts.keep_value(value);
+        self.pass(expression);
+    }
+
     /// Takes values that go there.
     fn take_all(&mut self, values: &'a [ExpressionNode], target: Target<'a>) {
         for (index, value) in values.iter().enumerate() {
             let wanted = self.wanted_at(target, index);
-            self.parts.take(value, role_at(target), wanted);
+            self.take(value, role_at(target), wanted);
         }
     }
 
-    /// Takes a call.
-    fn take_call(&mut self, function: &'a Name, arguments: &'a ArgumentsNode) {
-        self.take_all(arguments.values.as_slice(), Target::Parameters(function));
-        self.parts.keep_call(function, arguments);
+    /// Passes an expression, and takes what the operations in it take.
+    #[cycle(taking)]
+    fn pass(&mut self, expression: &'a ExpressionNode) {
+        match expression {
+            ExpressionNode::Integer(_) | ExpressionNode::Named(_) => {}
+            ExpressionNode::Parenthesized(inner)
+            | ExpressionNode::Selection(inner, _)
+            | ExpressionNode::Unary(_, inner) => self.pass(inner),
+            ExpressionNode::Composite(_, values, _) => self.pass_all(values.as_slice()),
+            ExpressionNode::Binary(_, left, right) => {
+                self.pass(left);
+                self.pass(right);
+            }
+            ExpressionNode::Call(function, values, _) => {
+                self.take_arguments(values.as_slice(), function);
+                self.parts.keep_call(function, values.as_slice());
+            }
+            ExpressionNode::Receive(channel) => {
+                self.take_operand(channel, Role::ReceivedFrom, None);
+            }
+            ExpressionNode::Make(written) => self.parts.take_type(written),
+            ExpressionNode::MakeSized(written, size) => {
+                self.parts.take_type(written);
+                self.take_operand(size, Role::Size, Some(ValueType::Int));
+            }
+            ExpressionNode::Length(of) => self.take_operand(of, Role::Measured("len"), None),
+            ExpressionNode::Capacity(of) => self.take_operand(of, Role::Measured("cap"), None),
+        }
+        self.parts.pass();
     }
 
-    /// Takes the values in an operation.
-    fn take_operands(&mut self, operation: &'a OperationNode) {
-        match operation {
-            OperationNode::Call(function, arguments) => self.take_call(function, arguments),
-            OperationNode::Receive(channel) => self.parts.take_channel(channel),
-            OperationNode::Make(written, size) => self.parts.take_make(written, size),
-            OperationNode::Length(of) => self.parts.take(of, Role::Measured("len"), None),
-            OperationNode::Capacity(of) => self.parts.take(of, Role::Measured("cap"), None),
+    /// Passes the values of a literal.
+    #[cycle(taking)]
+    fn pass_all(&mut self, values: &'a [ExpressionNode]) {
+        for value in values {
+            self.pass(value);
         }
     }
 
-    /// Takes an operation, whose value is for this.
-    fn take_operation(
+    /// Takes a value that an operation takes.
+    #[cycle(taking)]
+    fn take_operand(
         &mut self,
-        operation: &'a OperationNode,
+        expression: &'a ExpressionNode,
         role: Role<'a>,
         wanted: Option<ValueType<'a>>,
     ) {
-        let end = operation_end(self.parts.end, operation);
-        self.take_operands(operation);
-        self.parts.end = end;
-        self.parts.keep_operation(Made {
-            node: end.saturating_sub(1),
-            operation,
-            role,
-            wanted,
-        });
+        let value = self.parts.next_value(expression, role, wanted);
+        self.parts.keep_operand(value);
+        self.pass(expression);
     }
 
-    /// Takes a right side, whose values go there.
-    fn take_right(&mut self, right: &'a RightNode, target: Target<'a>) {
-        match right {
-            RightNode::Operation(operation) => {
-                let wanted = self.wanted_at(target, 0);
-                self.take_operation(operation, role_at(target), wanted);
-            }
-            RightNode::Values(values) => self.take_all(values.as_slice(), target),
+    /// Takes the arguments of a call within an expression.
+    #[cycle(taking)]
+    fn take_arguments(&mut self, values: &'a [ExpressionNode], function: &'a Name) {
+        for (index, value) in values.iter().enumerate() {
+            let wanted = parameter_type(self.table, function, index);
+            self.take_operand(value, Role::Argument(function), wanted);
         }
+    }
+
+    /// Takes a call that is a statement, or stands in a `go`.
+    fn take_call(&mut self, function: &'a Name, arguments: &'a [ExpressionNode]) {
+        self.take_all(arguments, Target::Parameters(function));
+        self.parts.keep_call(function, arguments);
+        self.parts.pass();
+    }
+
+    /// Takes a channel from which the unit receives.
+    fn take_channel(&mut self, channel: &'a ExpressionNode) {
+        self.take(channel, Role::ReceivedFrom, None);
+    }
+
+    /// Takes arguments of a print.
+    fn take_printed(&mut self, parts: &'a [PartNode]) {
+        for part in parts {
+            match part {
+                PartNode::Value(value) => self.take(value, Role::Printed, None),
+                PartNode::Text(_) => self.parts.pass(),
+            }
+        }
+    }
+
+    /// Takes an assignment with an operator.
+    fn take_update(
+        &mut self,
+        place: &'a PlaceNode,
+        operator: BinaryOperator,
+        value: &'a ExpressionNode,
+    ) {
+        self.parts.take_place(place);
+        self.take(value, Role::Operand(operator), None);
+    }
+
+    /// Takes a clause of a `select` that assigns what it receives to one place, or to two.
+    fn take_received(
+        &mut self,
+        place: &'a PlaceNode,
+        other: &'a Option<PlaceNode>,
+        channel: &'a ExpressionNode,
+    ) {
+        self.parts.take_place(place);
+        if let Some(other) = other {
+            self.parts.take_place(other);
+        }
+        self.take_channel(channel);
+    }
+
+    /// Takes a clause of a `select` that declares one name, or two, with what it receives.
+    fn take_declared(
+        &mut self,
+        name: &'a Name,
+        other: &'a Option<Name>,
+        channel: &'a ExpressionNode,
+    ) {
+        self.parts.take_name(name);
+        if let Some(other) = other {
+            self.parts.take_name(other);
+        }
+        self.take_channel(channel);
+    }
+
+    /// Takes the head of a range.
+    fn take_range(&mut self, target: &'a RangeTarget, source: &'a ExpressionNode) {
+        match target {
+            RangeTarget::Nothing => {}
+            RangeTarget::Define(name) => self.parts.take_name(name),
+            RangeTarget::Assign(place) => self.parts.take_place(place),
+        }
+        self.take(source, Role::Ranged, None);
+    }
+
+    /// Takes a condition; `in_for` says whether it is that of a `for`.
+    fn take_condition(&mut self, in_for: bool, condition: &'a ExpressionNode) {
+        self.take(condition, Role::Condition(in_for), Some(ValueType::Bool));
     }
 
     /// Takes a send.
     fn take_send(&mut self, channel: &'a ExpressionNode, value: &'a ExpressionNode) {
         let wanted = element_of(self.table, &self.scene.visible, channel);
-        self.parts.take(channel, Role::SentTo, None);
-        self.parts.take(value, Role::Sent, wanted);
+        self.take(channel, Role::SentTo, None);
+        self.take(value, Role::Sent, wanted);
     }
 
     /// Takes an assignment.
-    fn take_assigned(&mut self, places: &'a [PlaceNode], right: &'a RightNode) {
+    fn take_assigned(&mut self, places: &'a [PlaceNode], right: &'a [ExpressionNode]) {
         self.parts.take_places(places);
-        self.take_right(right, Target::Places(places));
+        self.take_all(right, Target::Places(places));
     }
 
     /// Takes a `:=`.
-    fn take_defined(&mut self, names: &'a [Name], right: &'a RightNode) {
+    fn take_defined(&mut self, names: &'a [Name], right: &'a [ExpressionNode]) {
         self.parts.take_names(names);
-        self.take_right(right, Target::Names(names));
+        self.take_all(right, Target::Names(names));
     }
 
     /// Takes a simple statement.
     fn take_simple(&mut self, simple: &'a SimpleNode) {
         match simple {
-            SimpleNode::Call(function, arguments) => self.take_call(function, arguments),
-            SimpleNode::Close(channel) => self.parts.take(channel, Role::Closed, None),
-            SimpleNode::Print(_, parts, _) => self.parts.take_printed(parts.as_slice()),
-            SimpleNode::Receive(channel) => self.parts.take_channel(channel),
+            SimpleNode::Call(function, arguments) => {
+                self.take_call(function, arguments.values.as_slice());
+            }
+            SimpleNode::Close(channel) => self.take(channel, Role::Closed, None),
+            SimpleNode::Print(_, parts, _) => self.take_printed(parts.as_slice()),
+            SimpleNode::Receive(channel) => self.take_channel(channel),
             SimpleNode::Send(channel, value) => self.take_send(channel, value),
             SimpleNode::Increment(place) => self.parts.take_step(place, "++"),
             SimpleNode::Decrement(place) => self.parts.take_step(place, "--"),
-            SimpleNode::Assign(places, right) => self.take_assigned(places.as_slice(), right),
-            SimpleNode::Define(names, right) => self.take_defined(names.as_slice(), right),
+            SimpleNode::Assign(places, right) => self.take_assigned(
+                places.as_slice(),
+                right.as_slice(),
+            ),
+            SimpleNode::Define(names, right) => self.take_defined(
+                names.as_slice(),
+                right.as_slice(),
+            ),
             SimpleNode::Update(place, operator, value) => {
-                self.parts.take_update(place, *operator, value);
+                self.take_update(place, *operator, value);
             }
         }
     }
@@ -438,12 +469,12 @@ impl<'a> Taking<'_, 'a> {
     fn take_comm(&mut self, comm: &'a CommNode) {
         match comm {
             CommNode::Send(channel, value) => self.take_send(channel, value),
-            CommNode::Receive(channel) => self.parts.take_channel(channel),
+            CommNode::Receive(channel) => self.take_channel(channel),
             CommNode::Define(name, other, channel) => {
-                self.parts.take_declared(name, other, channel);
+                self.take_declared(name, other, channel);
             }
             CommNode::Assign(place, other, channel) => {
-                self.parts.take_received(place, other, channel);
+                self.take_received(place, other, channel);
             }
         }
     }
@@ -453,20 +484,20 @@ impl<'a> Taking<'_, 'a> {
         &mut self,
         names: &'a [Name],
         written: &'a TypeNode,
-        right: &'a Option<RightNode>,
+        right: &'a Option<Vec<ExpressionNode>>,
     ) {
         self.parts.take_names(names);
         self.parts.take_type(written);
         if let Some(right) = right {
             let kind = type_in(self.table, &self.scene.visible, written);
-            self.take_right(right, Target::Variables(kind, names.len()));
+            self.take_all(right.as_slice(), Target::Variables(kind, names.len()));
         }
     }
 
     /// Takes a `var` with values alone.
-    fn take_untyped(&mut self, names: &'a [Name], right: &'a RightNode) {
+    fn take_untyped(&mut self, names: &'a [Name], right: &'a [ExpressionNode]) {
         self.parts.take_names(names);
-        self.take_right(right, Target::Untyped);
+        self.take_all(right, Target::Untyped);
     }
 
     /// Takes what a `return` gives.
@@ -474,10 +505,7 @@ impl<'a> Taking<'_, 'a> {
         let wanted = self.scene.result;
         match returned {
             ReturnNode::Nothing => {}
-            ReturnNode::Value(value) => self.parts.take(value, Role::Returned, wanted),
-            ReturnNode::Operation(operation) => {
-                self.take_operation(operation, Role::Returned, wanted);
-            }
+            ReturnNode::Value(value) => self.take(value, Role::Returned, wanted),
         }
     }
 
@@ -488,8 +516,13 @@ impl<'a> Taking<'_, 'a> {
             StatementNode::Typed(names, written, right) => {
                 self.take_typed(names.as_slice(), written, right);
             }
-            StatementNode::Untyped(names, right) => self.take_untyped(names.as_slice(), right),
-            StatementNode::Go(function, arguments) => self.take_call(function, arguments),
+            StatementNode::Untyped(names, right) => self.take_untyped(
+                names.as_slice(),
+                right.as_slice(),
+            ),
+            StatementNode::Go(function, arguments) => {
+                self.take_call(function, arguments.values.as_slice());
+            }
             StatementNode::Return(returned) => self.take_returned(returned),
             _ => {}
         }
@@ -500,8 +533,8 @@ impl<'a> Taking<'_, 'a> {
         match *unit {
             Unit::Simple(simple) => self.take_simple(simple),
             Unit::Leaf(statement) => self.take_leaf(statement),
-            Unit::Condition(in_for, condition) => self.parts.take_condition(in_for, condition),
-            Unit::Range(target, source) => self.parts.take_range(target, source),
+            Unit::Condition(in_for, condition) => self.take_condition(in_for, condition),
+            Unit::Range(target, source) => self.take_range(target, source),
             Unit::Comm(comm) => self.take_comm(comm),
             _ => {}
         }
@@ -564,7 +597,7 @@ fn parameter_type<'a>(
 pub fn element_of<'a>(
     table: &TypeTable<'a>,
     visible: &Visible<'a>,
-    channel: &ExpressionNode,
+    channel: &'a ExpressionNode,
 ) -> Option<ValueType<'a>> {
     match worth(table, visible, channel) {
         Some(Worth::Typed(ValueType::Channel(_, element))) => Some(element_in(table, element)),

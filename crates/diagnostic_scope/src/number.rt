@@ -1,8 +1,7 @@
 //! The numbers of a tree's nodes, which are counted in postorder. A number that would be too large is the largest one.
 
 use syntax::{
-    CommNode, ExpressionNode, NodeId, OperationNode, PartNode, ReturnNode, RightNode, SimpleNode,
-    StatementNode, TypeNode,
+    CommNode, ExpressionNode, NodeId, PartNode, ReturnNode, SimpleNode, StatementNode, TypeNode,
 };
 
 /// The number behind a node.
@@ -27,10 +26,19 @@ pub(crate) fn expression_end(first: NodeId, expression: &ExpressionNode) -> Node
         ExpressionNode::Integer(_) | ExpressionNode::Named(_) => after(first),
         ExpressionNode::Parenthesized(inner)
         | ExpressionNode::Selection(inner, _)
-        | ExpressionNode::Unary(_, inner) => after(expression_end(first, inner)),
-        ExpressionNode::Composite(_, values, _) => after(values_end(first, values.as_slice())),
+        | ExpressionNode::Unary(_, inner)
+        | ExpressionNode::Receive(inner)
+        | ExpressionNode::Length(inner)
+        | ExpressionNode::Capacity(inner) => after(expression_end(first, inner)),
+        ExpressionNode::Composite(_, values, _) | ExpressionNode::Call(_, values, _) => {
+            after(values_end(first, values.as_slice()))
+        }
         ExpressionNode::Binary(_, left, right) => {
             after(expression_end(expression_end(first, left), right))
+        }
+        ExpressionNode::Make(written) => after(type_end(first, written)),
+        ExpressionNode::MakeSized(written, size) => {
+            after(expression_end(type_end(first, written), size))
         }
     }
 }
@@ -50,25 +58,6 @@ pub(crate) fn optional_end(first: NodeId, expression: &Option<ExpressionNode>) -
     match expression {
         None => first,
         Some(expression) => expression_end(first, expression),
-    }
-}
-
-/// The number behind the nodes of an operation.
-pub(crate) fn operation_end(first: NodeId, operation: &OperationNode) -> NodeId {
-    match operation {
-        OperationNode::Call(_, arguments) => after(values_end(first, arguments.values.as_slice())),
-        OperationNode::Receive(channel)
-        | OperationNode::Length(channel)
-        | OperationNode::Capacity(channel) => after(expression_end(first, channel)),
-        OperationNode::Make(written, size) => after(optional_end(type_end(first, written), size)),
-    }
-}
-
-/// The number behind the nodes of a right side.
-fn right_end(first: NodeId, right: &RightNode) -> NodeId {
-    match right {
-        RightNode::Operation(operation) => operation_end(first, operation),
-        RightNode::Values(values) => values_end(first, values.as_slice()),
     }
 }
 
@@ -102,8 +91,11 @@ pub(crate) fn simple_end(first: NodeId, simple: &SimpleNode) -> NodeId {
         SimpleNode::Print(_, parts, _) => parts_end(first, parts.as_slice()),
         SimpleNode::Send(channel, value) => expression_end(expression_end(first, channel), value),
         SimpleNode::Increment(_) | SimpleNode::Decrement(_) => after(first),
-        SimpleNode::Assign(places, right) => right_end(places_end(first, places.len()), right),
-        SimpleNode::Define(_, right) => right_end(first, right),
+        SimpleNode::Assign(places, right) => values_end(
+            places_end(first, places.len()),
+            right.as_slice(),
+        ),
+        SimpleNode::Define(_, right) => values_end(first, right.as_slice()),
         SimpleNode::Update(_, _, value) => expression_end(after(first), value),
     };
     after(last)
@@ -124,11 +116,11 @@ pub(crate) fn comm_end(first: NodeId, comm: &CommNode) -> NodeId {
 }
 
 /// The number behind the nodes of a `var` with a type, but for its own.
-fn typed_end(first: NodeId, written: &TypeNode, right: &Option<RightNode>) -> NodeId {
+fn typed_end(first: NodeId, written: &TypeNode, right: &Option<Vec<ExpressionNode>>) -> NodeId {
     let start = type_end(first, written);
     match right {
         None => start,
-        Some(right) => right_end(start, right),
+        Some(right) => values_end(start, right.as_slice()),
     }
 }
 
@@ -136,7 +128,6 @@ fn typed_end(first: NodeId, written: &TypeNode, right: &Option<RightNode>) -> No
 fn returned_end(first: NodeId, returned: &ReturnNode) -> NodeId {
     match returned {
         ReturnNode::Nothing => first,
-        ReturnNode::Operation(operation) => operation_end(first, operation),
         ReturnNode::Value(value) => expression_end(first, value),
     }
 }
@@ -146,7 +137,7 @@ pub(crate) fn leaf_end(first: NodeId, statement: &StatementNode) -> NodeId {
     match statement {
         StatementNode::Simple(simple) => simple_end(first, simple),
         StatementNode::Typed(_, written, right) => after(typed_end(first, written, right)),
-        StatementNode::Untyped(_, right) => after(right_end(first, right)),
+        StatementNode::Untyped(_, right) => after(values_end(first, right.as_slice())),
         StatementNode::Go(_, arguments) => after(values_end(first, arguments.values.as_slice())),
         StatementNode::Return(returned) => after(returned_end(first, returned)),
         _ => after(first),

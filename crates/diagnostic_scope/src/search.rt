@@ -1,7 +1,7 @@
 //! Parts of expressions, by their nodes.
 
-use crate::number::after;
-use syntax::{ExpressionNode, Name, NodeId};
+use crate::number::{after, type_end};
+use syntax::{ExpressionNode, Name, NodeId, TypeNode};
 
 /// A value that a literal gives a field.
 #[derive(Clone, Copy)]
@@ -45,11 +45,20 @@ impl<'a> Search<'a> {
             ExpressionNode::Integer(_) | ExpressionNode::Named(_) => {}
             ExpressionNode::Parenthesized(inner)
             | ExpressionNode::Selection(inner, _)
-            | ExpressionNode::Unary(_, inner) => self.pass(inner),
+            | ExpressionNode::Unary(_, inner)
+            | ExpressionNode::Receive(inner)
+            | ExpressionNode::Length(inner)
+            | ExpressionNode::Capacity(inner) => self.pass(inner),
             ExpressionNode::Composite(name, values, _) => self.pass_all(name, values.as_slice()),
+            ExpressionNode::Call(_, values, _) => self.pass_arguments(values.as_slice()),
             ExpressionNode::Binary(_, left, right) => {
                 self.pass(left);
                 self.pass(right);
+            }
+            ExpressionNode::Make(written) => self.pass_type(written),
+            ExpressionNode::MakeSized(written, size) => {
+                self.pass_type(written);
+                self.pass(size);
             }
         }
         self.pass_own(expression);
@@ -62,6 +71,19 @@ impl<'a> Search<'a> {
             self.pass(value);
             self.fill(literal, index, value);
         }
+    }
+
+    /// Passes the arguments of a call.
+    #[cycle(search)]
+    fn pass_arguments(&mut self, values: &'a [ExpressionNode]) {
+        for value in values {
+            self.pass(value);
+        }
+    }
+
+    /// Passes a type.
+    fn pass_type(&mut self, written: &TypeNode) {
+        self.end = type_end(self.end, written);
     }
 
     /// Passes the own node of an expression, whose other nodes were passed.

@@ -2,13 +2,12 @@
 
 use crate::place::Setting;
 use checker_base::worth::Worth;
-use diagnostic_scope::given::{Given, Made, Role, element_of, function_named, struct_named};
+use diagnostic_scope::given::{Given, Role, struct_named};
 use diagnostic_scope::search::Filled;
-use diagnostic_words::operand::push_made;
 use diagnostic_words::words::{Words, push_expression, push_type};
-use syntax::{ExpressionNode, OperationNode, PlaceNode};
+use syntax::{ExpressionNode, PlaceNode};
 use type_table::table::TypeTable;
-use type_table::value_type::{ValueType, type_in};
+use type_table::value_type::ValueType;
 
 /// What a value is for, but for an argument of a function.
 fn role_text(role: &Role<'_>) -> &'static str {
@@ -58,27 +57,6 @@ fn push_value(said: &mut Words, at: &Setting<'_, '_>, value: &Given<'_>) {
     said.text("cannot use ");
     at.push_operand(said, value.expression);
     push_wanted(said, at.table, value.wanted, &value.role);
-}
-
-/// The type of the value of an operation.
-pub(crate) fn kind_made<'a>(
-    at: &Setting<'_, 'a>,
-    operation: &'a OperationNode,
-) -> Option<ValueType<'a>> {
-    match operation {
-        OperationNode::Call(function, _) => function_named(at.table, function)?.result,
-        OperationNode::Receive(channel) => element_of(at.table, &at.scene.visible, channel),
-        OperationNode::Make(written, _) => type_in(at.table, &at.scene.visible, written),
-        OperationNode::Length(_) | OperationNode::Capacity(_) => Some(ValueType::Int),
-    }
-}
-
-/// Reports that the value of an operation does not fit.
-fn push_operation_value(said: &mut Words, at: &Setting<'_, '_>, made: &Made<'_>) {
-    said.text("cannot use ");
-    let kind = kind_made(at, made.operation);
-    push_made(said, at.table, made.operation, kind);
-    push_wanted(said, at.table, made.wanted, &made.role);
 }
 
 /// The type of the field that a literal's value is for.
@@ -134,9 +112,6 @@ fn push_unfit_value(said: &mut Words, at: &Setting<'_, '_>) {
 
 /// Reports the value at the node of the fault, which does not fit.
 pub fn push_unfit(said: &mut Words, at: &Setting<'_, '_>) {
-    if let Some(made) = at.made() {
-        return push_operation_value(said, at, made);
-    }
     match at.filled() {
         Some(filled) => push_filled(said, at, &filled),
         None => push_unfit_value(said, at),

@@ -3,7 +3,8 @@
 use crate::place::Setting;
 use diagnostic_scope::given::Role;
 use diagnostic_words::words::{Words, push_written};
-use syntax::{OperationNode, TypeNode};
+use syntax::{ExpressionNode, TypeNode};
+use type_table::value_type::{ValueType, type_in};
 
 /// What is said before an operand that is no channel.
 fn before_no_channel(role: &Role<'_>) -> Option<&'static str> {
@@ -44,8 +45,8 @@ fn before_direction(role: &Role<'_>) -> Option<&'static str> {
     }
 }
 
-/// Reports an operation that the direction of its channel does not allow.
-pub fn push_direction(said: &mut Words, at: &Setting<'_, '_>) {
+/// Reports an operation of the unit that the direction of its channel does not allow.
+fn push_direction_of(said: &mut Words, at: &Setting<'_, '_>) {
     let Some(value) = at.parts.values.first() else {
         return;
     };
@@ -59,6 +60,17 @@ pub fn push_direction(said: &mut Words, at: &Setting<'_, '_>) {
     }
 }
 
+/// Reports an operation that the direction of its channel does not allow.
+pub fn push_direction(said: &mut Words, at: &Setting<'_, '_>) {
+    match at.part() {
+        Some(ExpressionNode::Receive(channel)) => {
+            said.text("invalid operation: cannot receive from send-only channel ");
+            at.push_operand(said, channel);
+        }
+        _ => push_direction_of(said, at),
+    }
+}
+
 /// Reports a `make` of what is no channel.
 fn push_no_make(said: &mut Words, written: &TypeNode) {
     said.text("invalid argument: cannot make ");
@@ -66,21 +78,27 @@ fn push_no_make(said: &mut Words, written: &TypeNode) {
     said.text("; type must be channel");
 }
 
-/// Reports a `make` of what is no channel, if the operation is one.
-fn push_unmade_type(said: &mut Words, operation: &OperationNode) {
-    if let OperationNode::Make(written, _) = operation {
-        push_no_make(said, written);
+/// The type that a `make` at the node of the fault makes, if that is no channel's.
+fn no_channel_at<'a>(at: &Setting<'_, 'a>) -> Option<&'a TypeNode> {
+    match at.part() {
+        Some(ExpressionNode::Make(written) | ExpressionNode::MakeSized(written, _)) => {
+            match type_in(at.table, &at.scene.visible, written) {
+                Some(ValueType::Channel(_, _)) => None,
+                _ => Some(written),
+            }
+        }
+        _ => None,
     }
 }
 
 /// Reports a `make` of no channel, or of its size.
 pub fn push_unmade(said: &mut Words, at: &Setting<'_, '_>) {
+    if let Some(written) = no_channel_at(at) {
+        return push_no_make(said, written);
+    }
     if let Some(value) = at.value() {
         said.text("invalid argument: size ");
         at.push_operand(said, value.expression);
-        return said.text(" must be an int that is not negative");
-    }
-    if let Some(made) = at.made() {
-        push_unmade_type(said, made.operation);
+        said.text(" must be an int that is not negative");
     }
 }

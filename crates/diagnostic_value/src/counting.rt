@@ -1,11 +1,10 @@
 //! Values that are too many or too few, and calls of what is no function.
 
-use crate::assigning::kind_made;
 use crate::place::Setting;
 use checker_base::worth::Worth;
 use diagnostic_scope::given::{Called, function_named, struct_named};
-use diagnostic_words::words::{Words, push_call, push_operation, push_type};
-use syntax::{ExpressionNode, Name, OperationNode};
+use diagnostic_words::words::{Words, push_call, push_type};
+use syntax::{ExpressionNode, Name};
 use type_table::layout::{function_number, number_of};
 use type_table::value_type::ValueType;
 
@@ -17,16 +16,21 @@ fn push_count(said: &mut Words, count: usize, one: &str, many: &str) {
 
 /// Puts how many values there are after what is there.
 fn push_values(said: &mut Words, at: &Setting<'_, '_>) {
-    if let Some(called) = at.parts.calls.first() {
-        push_call(said, called.function, called.arguments);
-        return said.text(" returns 1 value");
+    match only_value(at) {
+        Some(ExpressionNode::Call(function, arguments, _)) => {
+            push_call(said, function, arguments.as_slice());
+            said.text(" returns 1 value");
+        }
+        _ => push_count(said, at.parts.values.len(), " value", " values"),
     }
-    let count = if at.parts.operations.is_empty() {
-        at.parts.values.len()
-    } else {
-        1
-    };
-    push_count(said, count, " value", " values");
+}
+
+/// The value of the unit, if it has one alone.
+fn only_value<'a>(at: &Setting<'_, 'a>) -> Option<&'a ExpressionNode> {
+    match at.parts.values.as_slice().split_first() {
+        Some((value, [])) => Some(value.expression),
+        _ => None,
+    }
 }
 
 /// Reports an assignment or a declaration with too many or too few values.
@@ -75,7 +79,7 @@ fn push_arguments(
     called: &Called<'_>,
     parameters: &[ValueType<'_>],
 ) {
-    let values = called.arguments.values.as_slice();
+    let values = called.arguments;
     let many = values.len() > parameters.len();
     said.text(if many { "too many" } else { "not enough" });
     said.around(" arguments in call to ", called.function, " (have ");
@@ -115,16 +119,6 @@ fn push_unwanted(said: &mut Words, at: &Setting<'_, '_>, value: &ExpressionNode)
     said.text("), want ())");
 }
 
-/// Reports an operation whose value is returned where there is no result.
-fn push_unwanted_operation(said: &mut Words, at: &Setting<'_, '_>, operation: &OperationNode) {
-    said.text("too many return values (have (");
-    match kind_made(at, operation) {
-        Some(kind) => push_type(said, at.table, kind),
-        None => push_operation(said, operation),
-    }
-    said.text("), want ())");
-}
-
 /// Reports a `return` without a value where there is a result of this type.
 fn push_nothing(said: &mut Words, at: &Setting<'_, '_>, kind: ValueType<'_>) {
     said.text("not enough return values (have (), want (");
@@ -136,9 +130,6 @@ fn push_nothing(said: &mut Words, at: &Setting<'_, '_>, kind: ValueType<'_>) {
 pub fn push_returned(said: &mut Words, at: &Setting<'_, '_>) {
     if let Some(kind) = at.scene.result {
         return push_nothing(said, at, kind);
-    }
-    if let Some(made) = at.parts.operations.first() {
-        return push_unwanted_operation(said, at, made.operation);
     }
     if let Some(value) = at.parts.values.first() {
         push_unwanted(said, at, value.expression);
@@ -175,6 +166,14 @@ fn is_function(at: &Setting<'_, '_>, name: &Name) -> bool {
         && function_number(at.table, bytes).is_some()
 }
 
+/// Whether the function of this name has a result.
+fn has_result(at: &Setting<'_, '_>, name: &Name) -> bool {
+    match function_named(at.table, name) {
+        Some(entry) => entry.result.is_some(),
+        None => false,
+    }
+}
+
 /// Reports a value that can't be printed.
 fn push_unprinted(said: &mut Words, at: &Setting<'_, '_>) {
     let Some(value) = at.value() else {
@@ -192,6 +191,9 @@ pub fn push_called(said: &mut Words, at: &Setting<'_, '_>) {
     };
     if !is_function(at, called.function) {
         return push_no_function(said, at, called.function);
+    }
+    if has_result(at, called.function) {
+        return push_unprinted(said, at);
     }
     push_call(said, called.function, called.arguments);
     said.text(" (no value) used as value");

@@ -2,7 +2,7 @@
 
 use checker_base::operand::worth;
 use checker_base::worth::Worth;
-use diagnostic_scope::given::{Called, Given, Made, Parts, place_type};
+use diagnostic_scope::given::{Called, Given, Parts, place_type};
 use diagnostic_scope::scene::Scene;
 use diagnostic_scope::search::{Filled, filled_at, part_at};
 use diagnostic_words::operand::{push_operand, push_worth};
@@ -21,15 +21,23 @@ pub struct Setting<'s, 'a> {
     pub node: NodeId,
 }
 
-impl<'s, 'a> Setting<'s, 'a> {
-    /// The value in which the node of the fault stands.
-    pub fn around(&self) -> Option<&'s Given<'a>> {
-        for value in self.parts.values.as_slice() {
-            if value.first <= self.node && self.node < value.end {
-                return Some(value);
-            }
+/// The last of these values in which a node stands.
+fn last_around<'s, 'a>(values: &'s [Given<'a>], node: NodeId) -> Option<&'s Given<'a>> {
+    for value in values.iter().rev() {
+        if value.first <= node && node < value.end {
+            return Some(value);
         }
-        None
+    }
+    None
+}
+
+impl<'s, 'a> Setting<'s, 'a> {
+    /// The innermost value in which the node of the fault stands.
+    pub fn around(&self) -> Option<&'s Given<'a>> {
+        match last_around(self.parts.operands.as_slice(), self.node) {
+            Some(operand) => Some(operand),
+            None => last_around(self.parts.values.as_slice(), self.node),
+        }
     }
 
     /// The value whose own node is that of the fault.
@@ -38,16 +46,6 @@ impl<'s, 'a> Setting<'s, 'a> {
             Some(value) if value.end == self.node.saturating_add(1) => Some(value),
             _ => None,
         }
-    }
-
-    /// The operation whose own node is that of the fault.
-    pub fn made(&self) -> Option<&'s Made<'a>> {
-        for made in self.parts.operations.as_slice() {
-            if made.node == self.node {
-                return Some(made);
-            }
-        }
-        None
     }
 
     /// The call whose own node is that of the fault.
@@ -89,7 +87,7 @@ impl<'s, 'a> Setting<'s, 'a> {
     }
 
     /// What an expression is worth there, if it is right.
-    pub fn worth(&self, expression: &ExpressionNode) -> Option<Worth<'a>> {
+    pub fn worth(&self, expression: &'a ExpressionNode) -> Option<Worth<'a>> {
         worth(self.table, &self.scene.visible, expression)
     }
 

@@ -1,9 +1,9 @@
 //! What is said of a value: its text, what kind of value it is, and its type.
 
-use crate::words::{Words, push_expression, push_operation, push_type};
+use crate::words::{Words, push_expression, push_type};
 use checker_base::operand::worth;
 use checker_base::worth::Worth;
-use syntax::{BinaryOperator, ExpressionNode, OperationNode, UnaryOperator};
+use syntax::{BinaryOperator, ExpressionNode, UnaryOperator};
 use type_table::scope::{Visible, is_truth};
 use type_table::table::TypeTable;
 use type_table::value_type::ValueType;
@@ -92,10 +92,21 @@ fn push_typed(
     }
 }
 
+/// Whether an expression is a receive.
+fn is_receive(expression: &ExpressionNode) -> bool {
+    match expression {
+        ExpressionNode::Receive(_) => true,
+        ExpressionNode::Parenthesized(inner) => is_receive(inner),
+        _ => false,
+    }
+}
+
 /// What stands before the type of a value.
 fn sort_text(expression: &ExpressionNode) -> &'static str {
     if is_variable(expression) {
         " (variable of type "
+    } else if is_receive(expression) {
+        " (comma, ok expression of type "
     } else {
         " (value of type "
     }
@@ -153,23 +164,4 @@ fn push_type_of(
     } else {
         push_type(said, table, kind);
     }
-}
-
-/// Puts an operation and the type of its value after what is there.
-pub fn push_made(
-    said: &mut Words,
-    table: &TypeTable<'_>,
-    operation: &OperationNode,
-    kind: Option<ValueType<'_>>,
-) {
-    push_operation(said, operation);
-    let Some(kind) = kind else {
-        return;
-    };
-    said.text(match operation {
-        OperationNode::Receive(_) => " (comma, ok expression of type ",
-        _ => " (value of type ",
-    });
-    push_type(said, table, kind);
-    said.text(")");
 }

@@ -1,10 +1,7 @@
 //! Expressions and types in the words of a Go programmer.
 
 use std::alloc::{AllocError, Global};
-use syntax::{
-    ArgumentsNode, BinaryOperator, Direction, ExpressionNode, Name, OperationNode, PlaceNode,
-    TypeNode, UnaryOperator,
-};
+use syntax::{BinaryOperator, Direction, ExpressionNode, Name, PlaceNode, TypeNode, UnaryOperator};
 use type_table::table::TypeTable;
 use type_table::value_type::ValueType;
 
@@ -137,6 +134,15 @@ pub fn push_expression(said: &mut Words, expression: &ExpressionNode) {
             said.text(operator_text(*operator));
             push_between(said, " ", right, "");
         }
+        ExpressionNode::Call(function, values, _) => push_call(said, function, values.as_slice()),
+        ExpressionNode::Receive(channel) => push_between(said, "<-", channel, ""),
+        ExpressionNode::Make(written) => push_make(said, written, ")"),
+        ExpressionNode::MakeSized(written, size) => {
+            push_make(said, written, ", ");
+            push_between(said, "", size, ")");
+        }
+        ExpressionNode::Length(of) => push_between(said, "len(", of, ")"),
+        ExpressionNode::Capacity(of) => push_between(said, "cap(", of, ")"),
     }
 }
 
@@ -170,45 +176,27 @@ fn push_integer(said: &mut Words, value: Option<u128>) {
 }
 
 /// Puts values after what is there, with commas.
+#[cycle(expression)]
 fn push_values(said: &mut Words, values: &[ExpressionNode]) {
     for (index, value) in values.iter().enumerate() {
         push_between(said, if index > 0 { ", " } else { "" }, value, "");
     }
 }
 
-/// Puts a call after what is there.
-pub fn push_call(said: &mut Words, function: &Name, arguments: &ArgumentsNode) {
+/// Puts a call with these arguments after what is there.
+#[cycle(expression)]
+pub fn push_call(said: &mut Words, function: &Name, arguments: &[ExpressionNode]) {
     said.name(function);
     said.text("(");
-    push_values(said, arguments.values.as_slice());
+    push_values(said, arguments);
     said.text(")");
 }
 
-/// Puts a built-in function's call with one argument after what is there.
-fn push_measured(said: &mut Words, function: &str, argument: &ExpressionNode) {
-    said.text(function);
-    push_between(said, "(", argument, ")");
-}
-
-/// Puts a `make` after what is there.
-fn push_make(said: &mut Words, written: &TypeNode, size: &Option<ExpressionNode>) {
+/// Puts a `make` of this type after what is there, up to the text behind the type.
+fn push_make(said: &mut Words, written: &TypeNode, behind: &str) {
     said.text("make(");
     push_written(said, written);
-    match size {
-        Some(size) => push_between(said, ", ", size, ")"),
-        None => said.text(")"),
-    }
-}
-
-/// Puts an operation after what is there.
-pub fn push_operation(said: &mut Words, operation: &OperationNode) {
-    match operation {
-        OperationNode::Call(function, arguments) => push_call(said, function, arguments),
-        OperationNode::Receive(channel) => push_between(said, "<-", channel, ""),
-        OperationNode::Make(written, size) => push_make(said, written, size),
-        OperationNode::Length(of) => push_measured(said, "len", of),
-        OperationNode::Capacity(of) => push_measured(said, "cap", of),
-    }
+    said.text(behind);
 }
 
 /// Puts a place after what is there.

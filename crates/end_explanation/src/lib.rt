@@ -5,6 +5,7 @@
 mod cycle;
 mod explanation;
 mod goroutine;
+mod named;
 mod notes;
 mod scene;
 mod second_run;

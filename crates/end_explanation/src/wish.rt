@@ -1,33 +1,23 @@
 //! What goroutines wait for.
 
 use crate::goroutine::Goroutine;
+use crate::named::{Way, clauses_of, named_by};
 use crate::scene::Report;
-use diagnostic_scope::unit::{Unit, units_at};
+use diagnostic_scope::unit::units_at;
 use diagnostic_words::words::{Words, push_expression};
-use syntax::{
-    ClauseNode, CommNode, ExpressionNode, NodeId, OperationNode, ReturnNode, RightNode, SimpleNode,
-    StatementNode,
-};
+use syntax::{ClauseNode, CommNode, ExpressionNode, NodeId};
 use word::request::{Case, Request};
-
-/// The channels that a statement names.
-#[derive(Clone, Copy)]
-enum Named<'a> {
-    Nothing,
-    One(&'a ExpressionNode),
-    Clauses(&'a [ClauseNode]),
-}
 
 /// Appends what a goroutine waits for; of a `select` how many clauses it has.
 pub(crate) fn push_wish(said: &mut Words, report: Report<'_>, goroutine: &Goroutine) {
     match &goroutine.wish {
         Some(Request::Send(channel, _)) => {
             said.text("sends to ");
-            push_asked(said, report, goroutine, *channel);
+            push_asked(said, report, goroutine, Way::Sends, *channel);
         }
         Some(Request::Receive(channel)) => {
             said.text("receives from ");
-            push_asked(said, report, goroutine, *channel);
+            push_asked(said, report, goroutine, Way::Receives, *channel);
         }
         Some(Request::Select(cases, _)) => {
             said.text("select of ");
@@ -49,7 +39,7 @@ pub(crate) fn push_clauses(said: &mut Words, report: Report<'_>, goroutine: &Gor
     };
     let found = units_at(report.scene.alloc, report.scene.tree.file(), call.node);
     let clauses = match found.found.first() {
-        Some(unit) => clauses_of(named_by(unit.unit)),
+        Some(unit) => clauses_of(unit.unit),
         None => &[],
     };
     let mut left = clauses.iter().filter(|clause| clause.comm.is_some());
@@ -74,14 +64,20 @@ fn push_clause(said: &mut Words, report: Report<'_>, case: &Case, clause: Option
 }
 
 /// Appends the channel that a goroutine's statement sends to or receives from.
-fn push_asked(said: &mut Words, report: Report<'_>, goroutine: &Goroutine, channel: Option<u32>) {
+fn push_asked(
+    said: &mut Words,
+    report: Report<'_>,
+    goroutine: &Goroutine,
+    way: Way,
+    channel: Option<u32>,
+) {
     let Some(call) = goroutine.last() else {
         push_channel(said, report, None, channel);
         return;
     };
     let found = units_at(report.scene.alloc, report.scene.tree.file(), call.node);
     let name = match found.found.first() {
-        Some(unit) => one_of(named_by(unit.unit)),
+        Some(unit) => named_by(unit.unit, way),
         None => None,
     };
     push_channel(said, report, name, channel);
@@ -121,22 +117,6 @@ fn push_number(said: &mut Words, report: Report<'_>, number: u32) {
     }
 }
 
-/// The one channel that a statement names.
-fn one_of(named: Named<'_>) -> Option<&ExpressionNode> {
-    match named {
-        Named::One(channel) => Some(channel),
-        Named::Nothing | Named::Clauses(_) => None,
-    }
-}
-
-/// The clauses of a `select`.
-fn clauses_of(named: Named<'_>) -> &[ClauseNode] {
-    match named {
-        Named::Clauses(clauses) => clauses,
-        Named::Nothing | Named::One(_) => &[],
-    }
-}
-
 /// The channel that a clause of a `select` sends to or receives from.
 fn channel_of(clause: &ClauseNode) -> Option<&ExpressionNode> {
     match &clause.comm {
@@ -147,53 +127,5 @@ fn channel_of(clause: &ClauseNode) -> Option<&ExpressionNode> {
             | CommNode::Assign(_, _, channel),
         ) => Some(channel),
         None => None,
-    }
-}
-
-/// The channels that a part of a file sends to or receives from.
-fn named_by(unit: Unit<'_>) -> Named<'_> {
-    match unit {
-        Unit::Simple(simple) => named_by_simple(simple),
-        Unit::Leaf(statement) => named_by_statement(statement),
-        Unit::Range(_, channel) => Named::One(channel),
-        Unit::Select(clauses) => Named::Clauses(clauses),
-        Unit::Condition(_, _) | Unit::Comm(_) | Unit::Struct(_) | Unit::Head(_) => Named::Nothing,
-    }
-}
-
-/// The channel that a statement sends to or receives from.
-fn named_by_statement(statement: &StatementNode) -> Named<'_> {
-    match statement {
-        StatementNode::Simple(simple) => named_by_simple(simple),
-        StatementNode::Typed(_, _, Some(right)) | StatementNode::Untyped(_, right) => {
-            named_by_right(right)
-        }
-        StatementNode::Return(ReturnNode::Operation(operation)) => named_by_operation(operation),
-        _ => Named::Nothing,
-    }
-}
-
-/// The channel that a simple statement sends to or receives from.
-fn named_by_simple(simple: &SimpleNode) -> Named<'_> {
-    match simple {
-        SimpleNode::Send(channel, _) | SimpleNode::Receive(channel) => Named::One(channel),
-        SimpleNode::Assign(_, right) | SimpleNode::Define(_, right) => named_by_right(right),
-        _ => Named::Nothing,
-    }
-}
-
-/// The channel that a right side receives from.
-fn named_by_right(right: &RightNode) -> Named<'_> {
-    match right {
-        RightNode::Operation(operation) => named_by_operation(operation),
-        RightNode::Values(_) => Named::Nothing,
-    }
-}
-
-/// The channel that an operation receives from.
-fn named_by_operation(operation: &OperationNode) -> Named<'_> {
-    match operation {
-        OperationNode::Receive(channel) => Named::One(channel),
-        _ => Named::Nothing,
     }
 }

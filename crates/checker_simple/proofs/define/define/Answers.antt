@@ -1,8 +1,8 @@
-use Rattle.std.proofs.Common.{rules, ◌≡◌, ◌+◌, sym, refl, arith, length}
-use Rattle.syntax.specs.Measures.{right_size}
+use Rattle.std.proofs.Common.{rules, ◌≡◌, ◌+◌, sym, refl, arith, length, sum_by}
+use Rattle.syntax.specs.Measures.{expression_size}
 use Rattle.type_table.specs.Visible.{globals_in, scope_of}
 use Rattle.typing_rules.specs.Operations.{given}
-use Rattle.checker_operation.specs.Givens.{source_of}
+use Rattle.checker_base.specs.Givens.{source_of}
 use Rattle.checker_simple.specs.Names.{names_at, names_in}
 use Rattle.checker_simple.proofs.Wholes.{define-none, define-one, defined-after, names-count}
 use Rattle.checker_simple.proofs.define.define.Goals as goal
@@ -18,10 +18,10 @@ returns-clause-none c = λ flaw.
     let all : names ≡ names_at c.as_slice.result.now = cc in
     let l : c.len.result ≡ length refs = omega arith in
     let n : c.len.result ≡ length names = names-count refs names c.len.result same l in
-    let e : c.args.first + right_size right + 1 ≡ c.in_ok-given.given.end + 1 = omega (arith, c.in_ok-given.ensures.end) in
-    define-none g s c.args.first c.len.result (c.args.first + right_size right + 1) names right flaw n refl
+    let e : c.args.first + sum_by expression_size right + 1 ≡ c.in_ok-given.given.end + 1 = omega (arith, c.in_ok-given.ensures.end) in
+    define-none g s c.args.first c.len.result (c.args.first + sum_by expression_size right + 1) names right flaw n refl
     (c.in_ok-given.ensures.none flaw)
-    (c.in_ok-define_given.ensures.none (c.args.first + right_size right + 1) e names all (given g s c.len.result c.args.first right) (sym c.in_ok-given.ensures.given) flaw)
+    (c.in_ok-define_given.ensures.none (c.args.first + sum_by expression_size right + 1) e names all (given g s c.len.result c.args.first right) (sym c.in_ok-given.ensures.given) flaw)
 
 pub returns-in_err-define_given-clause-one : goal.returns-in_err-define_given-clause-one
 returns-in_err-define_given-clause-one c =
@@ -34,9 +34,9 @@ returns-in_err-define_given-clause-one c =
     let all : names ≡ names_at c.as_slice.result.now = cc in
     let l : c.len.result ≡ length refs = omega arith in
     let n : c.len.result ≡ length names = names-count refs names c.len.result same l in
-    let e : c.args.first + right_size right + 1 ≡ c.in_ok-given.given.end + 1 = omega (arith, c.in_ok-given.ensures.end) in
-    let h = define-one g s c.args.first c.len.result (c.args.first + right_size right + 1) names right c.in_err-define_given.field-0.0 n refl
-    (c.in_err-define_given.ensures.one (c.args.first + right_size right + 1) e names all (given g s c.len.result c.args.first right) (sym c.in_ok-given.ensures.given)) in
+    let e : c.args.first + sum_by expression_size right + 1 ≡ c.in_ok-given.given.end + 1 = omega (arith, c.in_ok-given.ensures.end) in
+    let h = define-one g s c.args.first c.len.result (c.args.first + sum_by expression_size right + 1) names right c.in_err-define_given.field-0.0 n refl
+    (c.in_err-define_given.ensures.one (c.args.first + sum_by expression_size right + 1) e names all (given g s c.len.result c.args.first right) (sym c.in_ok-given.ensures.given)) in
     search (rules, h)
 
 pub returns-clause-after : goal.returns-clause-after

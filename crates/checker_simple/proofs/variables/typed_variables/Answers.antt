@@ -1,6 +1,6 @@
-use Rattle.std.proofs.Common.{◌≡◌, ◌+◌, sym, refl, arith, length, map, Some, option_map}
+use Rattle.std.proofs.Common.{◌≡◌, ◌+◌, sym, refl, arith, length, map, Some, option_map, sum_by}
 use Rattle.std.proofs.lemmas.List.{length-map}
-use Rattle.syntax.specs.Measures.{if_any, type_size, right_size}
+use Rattle.syntax.specs.Measures.{if_any, type_size, expression_size}
 use Rattle.syntax.specs.View.{name_of, type_of, right_of}
 use Rattle.type_table.specs.Scopes.{type_in}
 use Rattle.type_table.specs.Views.{kind_of}
@@ -17,7 +17,7 @@ returns-clause-none c = λ flaw.
     let names = map name_of c.args.names.now in
     let kind = type_of c.args.kind.now in
     let right = option_map right_of c.args.right.now in
-    let end = c.args.first + type_size kind + if_any right_size right + 1 in
+    let end = c.args.first + type_size kind + if_any (sum_by expression_size) right + 1 in
     let same : names_at c.in_ok-all.all.items ≡ names = c.in_ok-all.ensures in
     let these : names_at c.as_slice.result.now ≡ names = cc in
     let at = c.type_in.ensures in
