@@ -125,7 +125,7 @@ pub(crate) fn first_of(alloc: Global, mut values: Vec<Vec<Word>>) -> Vec<Word>
 /// The values that this gave, each like its zero.
 ///
 /// Errors: `Needs`; `Memory`.
-pub(crate) fn told<'g>(
+pub fn told<'g>(
     alloc: Global,
     zeros: &[Vec<Word>],
     need: Need,
