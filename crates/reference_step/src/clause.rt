@@ -74,9 +74,9 @@ pub(crate) fn case_of<'g, 't>(
 {
     match comm {
         CommNode::Send(to, item) => sent_case(alloc, table, scope, to, item, given),
-        CommNode::Receive(from) | CommNode::Define(_, _, from) | CommNode::Assign(_, _, from) => {
-            received_case(alloc, table, scope, from, given)
-        }
+        CommNode::Receive(from) => received_case(alloc, table, scope, from, given),
+        CommNode::Define(_, _, from) => received_case(alloc, table, scope, from, given),
+        CommNode::Assign(_, _, from) => received_case(alloc, table, scope, from, given),
     }
 }
 

@@ -360,10 +360,11 @@ pub(crate) fn again<'t>(
 {
     let _program = program;
     top.scope.leave();
-    if let Loop::Repeating(repeat) = at {
-        if let Some(post) = repeat.post {
-            return posts(alloc, top, repeat, post);
-        }
+    match at {
+        Loop::Ranging(_) => turns(alloc, top, at),
+        Loop::Repeating(repeat) => match repeat.post {
+            Some(post) => posts(alloc, top, repeat, post),
+            None => turns(alloc, top, at),
+        },
     }
-    turns(alloc, top, at)
 }
