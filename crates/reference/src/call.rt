@@ -171,10 +171,7 @@ fn function_in<'t>(tops: &'t [TopNode], number: usize) -> Option<&'t FunctionNod
 }
 
 /// The function with this number.
-pub(crate) fn function_of<'t>(
-    program: &Program<'t>,
-    number: usize,
-) -> Option<&'t FunctionNode>
+pub(crate) fn function_of<'t>(program: &Program<'t>, number: usize) -> Option<&'t FunctionNode>
     ensures { option_map (λ f. function_of f.now) result ≡ slice_get (functions (file_of program.now.file.now)) number }
 {
     function_in(program.file.tops.as_slice(), number)

@@ -2,27 +2,25 @@
 
 ghost use Rattle.std.specs.Prelude.{◌≡◌, ◌∷◌, ℕ, List, IfOk, OnOk, slice_get};
 ghost use Rattle.word.specs.Views.{reply_of};
-ghost use Rattle.syntax.specs.Tree.{File};
 ghost use Rattle.syntax.specs.View.{file_of};
-ghost use Rattle.type_table.specs.Visible.{globals_in, types_of};
-ghost use Rattle.meaning.specs.Source.{enters, functions, give_back, needed, source_answer, source_next, taken, task_work};
+ghost use Rattle.type_table.specs.Visible.{types_of};
+ghost use Rattle.meaning.specs.Source.{enters, functions, give_back, needed, source_answer, source_next, task_work};
 ghost use Rattle.one_thread.specs.Steps.{Moves};
-ghost use Rattle.reference_value.specs.Scopes.{blocks_of};
-ghost use Rattle.reference_value.specs.Stops.{all_given, need_of, values_of};
-ghost use Rattle.reference_step.specs.Steps.{course_of};
-ghost use Rattle.reference_step.specs.Tasks.{frame_of, frames_of, task_of, tasks_of};
-ghost use Rattle.reference.specs.Steps.{Steps};
+ghost use Rattle.reference_value.specs.Stops.{need_of, values_of};
+ghost use Rattle.reference_step.specs.Steps.{reached_at};
+ghost use Rattle.reference_step.specs.Tasks.{frame_of, frames_of, task_of};
+ghost use Rattle.reference.specs.Steps.{Steps, frame_before};
 
 use crate::call::{entered, function_of};
 use go_text::Memory;
 use one_thread::Step;
 use reference_step::outcome::{Course, Outcome};
 use reference_step::program::Program;
-use reference_step::task::{Frame, Task};
+use reference_step::task::{Frame, Position, Task};
 use reference_step::work::work;
 use reference_value::fault::Stop;
 use reference_value::given::{Given, Need};
-use std::alloc::Global;
+use std::alloc::{AllocError, Global};
 use word::limits::MAX_DEPTH;
 use word::panic::Panic;
 use word::request::{Reply, Request};
@@ -70,12 +68,14 @@ fn needed<'t>(
 /// A function returns these words to the one that called it, which waits last.
 #[tactic(auto, using(reference_value::proofs::Lasts::shown_last))]
 fn gives_back<'t>(
+    program: &Program<'t>,
     frames: &mut Vec<Frame<'t>>,
     top: Frame<'t>,
     words: Vec<Word>,
 ) -> Result<Step, Memory>
-    ensures { (types : List (List ℕ)) → IfOk result (λ step. Moves (give_back words.items (frames_of types frames.old.items)) step (frames_of types frames.new.items) (frame_of types top.entry ∷ frames_of types frames.old.items)) }
+    ensures { IfOk result (λ step. Moves (give_back words.items (frames_of (types_of program.now.table) frames.old.items)) step (frames_of (types_of program.now.table) frames.new.items) (frame_of (types_of program.now.table) top.entry ∷ frames_of (types_of program.now.table) frames.old.items)) }
 {
+    let _program = program;
     let Some(mut caller) = frames.pop() else {
         frames.push(top)?;
         return Ok(Step::Asks(Request::End));
@@ -85,50 +85,60 @@ fn gives_back<'t>(
     Ok(Step::Slides)
 }
 
-/// A task of the function that runs is done.
-#[tactic(auto, using(reference_value::proofs::Lasts::shown_last))]
-fn goes_on<'t>(
-    frames: &mut Vec<Frame<'t>>,
-    mut top: Frame<'t>,
-    course: Course,
-) -> Result<Step, Memory>
-    ensures { (file : File) → (types : List (List ℕ)) → IfOk result (λ step. Moves (taken file (frames_of types frames.old.items) (course_of types course top.entry.position)) step (frames_of types frames.new.items) (frames_of types frames.new.items)) }
+/// The frame as it was before this task was taken.
+fn restored<'t>(
+    program: &Program<'t>,
+    mut position: Position<'t>,
+    next: Task<'t>,
+    given: Vec<Given>,
+) -> Result<Frame<'t>, AllocError>
+    ensures { IfOk result (λ top. frame_of (types_of program.now.table) top ≡ frame_before (types_of program.now.table) position.entry next.entry given.items) }
 {
-    top.given.clear();
-    frames.push(top)?;
-    match course {
-        Course::Goes => Ok(Step::Slides),
-        Course::Moves => Ok(Step::Ticks),
-    }
+    let _program = program;
+    position.push(next)?;
+    Ok(Frame { position, given })
 }
 
-/// The function that runs does its next task, behind which the others of `top` are to be done.
+/// The function that runs does its next task, behind which the others at `position` are to be done.
 #[tactic(auto, using(reference_value::proofs::Lasts::shown_last))]
 fn does<'t>(
     alloc: Global,
     program: &Program<'t>,
     frames: &mut Vec<Frame<'t>>,
-    mut top: Frame<'t>,
+    mut position: Position<'t>,
     next: Task<'t>,
+    given: Vec<Given>,
 ) -> Result<Step, Memory>
-    ensures { IfOk result (λ step. Steps (file_of program.now.file.now) (record (frame_of (types_of program.now.table) top.entry) { tasks = task_of (types_of program.now.table) next.entry ∷ tasks_of (types_of program.now.table) top.entry.position.tasks.items }) (frames_of (types_of program.now.table) frames.old.items) (task_work (globals_in program.now.table) (blocks_of (types_of program.now.table) top.entry.position.scope) (tasks_of (types_of program.now.table) top.entry.position.tasks.items) (task_of (types_of program.now.table) next.entry) (all_given top.entry.given.items)) step (frames_of (types_of program.now.table) frames.new.items)) }
+    ensures { IfOk result (λ step. Steps (file_of program.now.file.now) (frame_before (types_of program.now.table) position.entry next.entry given.items) (frames_of (types_of program.now.table) frames.old.items) (reached_at (λ g b t. task_work g b t (task_of (types_of program.now.table) next.entry)) program.now.table given.items position.entry) step (frames_of (types_of program.now.table) frames.new.items)) }
 {
-    match work(alloc, program, &mut top.position, &next, top.given.as_slice()) {
-        Ok(Outcome::Leads(course)) => goes_on(frames, top, course),
-        Ok(Outcome::Returns(words)) => {
-            top.position.push(next)?;
-            gives_back(frames, top, words)
+    match work(alloc, program, &mut position, &next, given.as_slice()) {
+        Ok(Outcome::Leads(Course::Goes)) => {
+            drop(next);
+            let given = Vec::new(alloc);
+            frames.push(Frame { position, given })?;
+            Ok(Step::Slides)
         }
-        Err(Stop::Memory) => Err(Memory),
+        Ok(Outcome::Leads(Course::Moves)) => {
+            drop(next);
+            let given = Vec::new(alloc);
+            frames.push(Frame { position, given })?;
+            Ok(Step::Ticks)
+        }
+        Ok(Outcome::Returns(words)) => {
+            let top = restored(program, position, next, given)?;
+            gives_back(program, frames, top, words)
+        }
+        Err(Stop::Memory) => {
+            drop(next);
+            Err(Memory)
+        }
         Err(Stop::Panics(cause)) => {
-            top.position.push(next)?;
-            frames.push(top)?;
+            frames.push(restored(program, position, next, given)?)?;
             Ok(Step::Asks(Request::Panic(cause)))
         }
         Err(Stop::Needs(need)) => {
-            top.position.push(next)?;
-            frames.push(top)?;
-            needed(alloc, program, frames, *need)
+            frames.push(restored(program, position, next, given)?)?;
+            needed(alloc, program, frames, Box::into_inner(need))
         }
     }
 }
@@ -142,12 +152,13 @@ pub(crate) fn step<'t>(
 ) -> Result<Step, Memory>
     ensures { IfOk result (λ step. Moves (source_next (file_of program.now.file.now) (frames_of (types_of program.now.table) frames.old.items)) step (frames_of (types_of program.now.table) frames.new.items) (frames_of (types_of program.now.table) frames.old.items)) }
 {
-    let Some(mut top) = frames.pop() else {
+    let Some(top) = frames.pop() else {
         return Ok(Step::Asks(Request::End));
     };
-    match top.position.tasks.pop() {
-        None => gives_back(frames, top, Vec::new(alloc)),
-        Some(next) => does(alloc, program, frames, top, next),
+    let (mut position, given) = top.into_parts();
+    match position.tasks.pop() {
+        None => gives_back(program, frames, Frame { position, given }, Vec::new(alloc)),
+        Some(next) => does(alloc, program, frames, position, next, given),
     }
 }
 

@@ -51,7 +51,10 @@ fn cases_of<'a, 'g, 't>(
 }
 
 /// The statements of a select's default, if it has one.
-fn default_of<'a, 't>(table: &'a TypeTable<'t>, all: &'t [ClauseNode]) -> Option<&'t [StatementNode]>
+fn default_of<'a, 't>(
+    table: &'a TypeTable<'t>,
+    all: &'t [ClauseNode],
+) -> Option<&'t [StatementNode]>
     ensures { option_map (λ body. body_of body.now) result ≡ default_in (globals_in table.now) (clauses (map clause_of all.now)) }
 {
     let Some((first, rest)) = all.split_first() else {
@@ -79,7 +82,13 @@ fn at_comm<'t>(
     let values = parted(alloc, zeros.as_slice(), words)?;
     top.push(Task::EndSelect)?;
     top.push_all(alloc, body)?;
-    assigned(alloc, table, top, destinations.as_slice(), values.as_slice())
+    assigned(
+        alloc,
+        table,
+        top,
+        destinations.as_slice(),
+        values.as_slice(),
+    )
 }
 
 /// A select goes on at the clause of this number, which received these words.

@@ -28,7 +28,9 @@ use reference_value::place::{Destination, all_placed, placed, store, value_at};
 use reference_value::value::{beside, right_values, values};
 use reference_value::words::{between, settled, single, with_first, word_in};
 use std::alloc::{AllocError, Global};
-use syntax::{ArgumentsNode, BinaryOperator, ExpressionNode, Name, PartNode, PlaceNode, SimpleNode};
+use syntax::{
+    ArgumentsNode, BinaryOperator, ExpressionNode, Name, PartNode, PlaceNode, SimpleNode,
+};
 use word::panic::Panic;
 use word::request::Request;
 use word::value::Word;
@@ -216,7 +218,15 @@ fn update<'t>(
     ensures err { IfErr result (Stays (λ g b t. simple_work g b t (Update (place_of place.now) operator (expression_of operand.now))) program.now.table given.now top.old top.new) }
 {
     let a = held(alloc, program, top, place)?;
-    let (words, _) = beside(alloc, &program.table, &top.scope, operator, a, operand, given)?;
+    let (words, _) = beside(
+        alloc,
+        &program.table,
+        &top.scope,
+        operator,
+        a,
+        operand,
+        given,
+    )?;
     stores(alloc, program, top, place, words)?;
     Ok(Course::Moves)
 }
@@ -270,7 +280,15 @@ pub(crate) fn simple<'t>(
         SimpleNode::Call(name, arguments) => call(alloc, program, top, name, arguments, given),
         SimpleNode::Close(from) => close(alloc, program, top, from, given),
         SimpleNode::Print(line, parts, trailing) => {
-            print(alloc, program, top, *line, parts.as_slice(), *trailing, given)
+            print(
+                alloc,
+                program,
+                top,
+                *line,
+                parts.as_slice(),
+                *trailing,
+                given,
+            )
         }
         SimpleNode::Receive(from) => receive(alloc, program, top, from, given),
         SimpleNode::Send(to, item) => send(alloc, program, top, to, item, given),
@@ -284,10 +302,24 @@ pub(crate) fn simple<'t>(
             update(alloc, program, top, place, *operator, operand, given)
         }
         SimpleNode::Assign(places, right) => {
-            assign(alloc, program, top, places.as_slice(), right.as_slice(), given)
+            assign(
+                alloc,
+                program,
+                top,
+                places.as_slice(),
+                right.as_slice(),
+                given,
+            )
         }
         SimpleNode::Define(names, right) => {
-            define(alloc, program, top, names.as_slice(), right.as_slice(), given)
+            define(
+                alloc,
+                program,
+                top,
+                names.as_slice(),
+                right.as_slice(),
+                given,
+            )
         }
     }
 }

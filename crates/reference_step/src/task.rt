@@ -117,6 +117,17 @@ impl Drop for Frame<'_> {
     }
 }
 
+impl<'t> Frame<'t> {
+    /// Where the function is, and what was given.
+    pub fn into_parts(self) -> (Position<'t>, Vec<Given>)
+        ensures position { result.0 ≡ self.entry.position }
+        ensures given { result.1 ≡ self.entry.given }
+    {
+        let Frame { position, given } = self;
+        (position, given)
+    }
+}
+
 impl<'t> Position<'t> {
     /// A task is to be done first.
     #[tactic(auto, using(reference_value::proofs::Lasts::shown_last))]

@@ -77,7 +77,13 @@ pub(crate) fn typed_values<'t>(
         }
         None => {
             let all = zeros(alloc, table, kind, names)?;
-            store(alloc, table, &mut top.scope, destinations.as_slice(), all.as_slice())?;
+            store(
+                alloc,
+                table,
+                &mut top.scope,
+                destinations.as_slice(),
+                all.as_slice(),
+            )?;
             Ok(Course::Moves)
         }
     }

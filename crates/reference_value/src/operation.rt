@@ -58,11 +58,7 @@ pub fn item_zeros(
 }
 
 /// A zero like the result of the function with this number.
-fn zero_result(
-    alloc: Global,
-    table: &TypeTable<'_>,
-    number: usize,
-) -> Result<Vec<Word>, AllocError>
+fn zero_result(alloc: Global, table: &TypeTable<'_>, number: usize) -> Result<Vec<Word>, AllocError>
     ensures { IfOk result (λ v. v.items ≡ zero_result (globals_in table.now) (result_of (globals_in table.now) number)) }
 {
     match result_of(table, number) {
@@ -120,7 +116,12 @@ pub(crate) fn called<'g>(
     ensures err { IfErr result (Stops (called (globals_in table.now) number (values_of arguments.items)) given.now) }
 {
     let like = zero_result(alloc, table, number)?;
-    told_one(alloc, like.as_slice(), Need::Calling(number, arguments), given)
+    told_one(
+        alloc,
+        like.as_slice(),
+        Need::Calling(number, arguments),
+        given,
+    )
 }
 
 /// A new channel of this type, whose buffer has this size.

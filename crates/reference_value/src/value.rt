@@ -218,7 +218,10 @@ pub fn value<'a, 'g, 't>(
         ExpressionNode::Selection(whole, field) => {
             let (words, given) = value(alloc, table, scope, whole, given)?;
             let name = field.bytes.as_slice();
-            had(field_in(alloc, table, scope, whole, name, words.as_slice()), given)
+            had(
+                field_in(alloc, table, scope, whole, name, words.as_slice()),
+                given,
+            )
         }
         ExpressionNode::Composite(_, values, _) => {
             if values.is_empty() {
@@ -232,7 +235,15 @@ pub fn value<'a, 'g, 't>(
         }
         ExpressionNode::Binary(operator, left, right) => {
             let (a, given) = value(alloc, table, scope, left, given)?;
-            beside(alloc, table, scope, *operator, word_in(a.as_slice()), right, given)
+            beside(
+                alloc,
+                table,
+                scope,
+                *operator,
+                word_in(a.as_slice()),
+                right,
+                given,
+            )
         }
         ExpressionNode::Call(name, all, _) => {
             let (arguments, given) = values(alloc, table, scope, all.as_slice(), given)?;
@@ -251,11 +262,19 @@ pub fn value<'a, 'g, 't>(
         }
         ExpressionNode::Length(channel) => {
             let (c, given) = value(alloc, table, scope, channel, given)?;
-            measured(alloc, Request::Len(channel_in(word_in(c.as_slice()))), given)
+            measured(
+                alloc,
+                Request::Len(channel_in(word_in(c.as_slice()))),
+                given,
+            )
         }
         ExpressionNode::Capacity(channel) => {
             let (c, given) = value(alloc, table, scope, channel, given)?;
-            measured(alloc, Request::Cap(channel_in(word_in(c.as_slice()))), given)
+            measured(
+                alloc,
+                Request::Cap(channel_in(word_in(c.as_slice()))),
+                given,
+            )
         }
     }
 }

@@ -103,11 +103,7 @@ fn called_worth<'t>(table: &TypeTable<'t>, scope: &Scope<'t>, name: &[u8]) -> Op
 }
 
 /// What a new channel is worth: `None` where the type is no channel's.
-fn made_worth<'t>(
-    table: &TypeTable<'t>,
-    scope: &Scope<'t>,
-    kind: &'t TypeNode,
-) -> Option<Worth<'t>>
+fn made_worth<'t>(table: &TypeTable<'t>, scope: &Scope<'t>, kind: &'t TypeNode) -> Option<Worth<'t>>
     ensures worth { option_map (worth_of (types_of table.now)) result ≡ option_map Typed (made_of (type_in (types_of table.now) (scope_in (blocks_of (types_of table.now) scope.now)) (type_of kind.now))) }
     ensures small { IfSome result IsSmall }
 {
