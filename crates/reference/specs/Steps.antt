@@ -6,8 +6,11 @@ use Rattle.meaning.specs.Tasks.{Course, Frame, Frames}
 use Rattle.meaning.specs.Worked.{Reached}
 use Rattle.one_thread.specs.Steps.{Moves}
 use Rattle.one_thread.specs.declared.interpreter.Step.{Step}
+use Rattle.one_thread.specs.declared.interpreter.Step.TheVariants as steps
 use Rattle.reference_value.specs.declared.given.Given.{Given}
 use Rattle.reference_value.specs.Stops.{all_given}
+use Rattle.reference_step.specs.declared.outcome.Course.{Course as Led}
+use Rattle.reference_step.specs.declared.outcome.Course.TheVariants as courses
 use Rattle.reference_step.specs.declared.task.Position.{Position}
 use Rattle.reference_step.specs.declared.task.Task.{Task}
 use Rattle.reference_step.specs.Tasks.{position_of, task_of, tasks_of}
@@ -19,3 +22,8 @@ frame_before types at next given = record (position_of types at) { given = all_g
 -- a goroutine whose function that runs comes so far makes this step, to these frames
 abbrev pub Steps : File → Frame → Frames → Reached Course → Step → Frames → Type 0
 Steps file top callers come step new = Moves (reached file top callers come) step new (top ∷ callers)
+
+-- the step of a goroutine whose task is done
+abbrev pub step_to : Led → Step
+step_to courses.Goes = steps.Slides
+step_to courses.Moves = steps.Ticks

@@ -9,7 +9,7 @@ ghost use Rattle.one_thread.specs.Steps.{Moves};
 ghost use Rattle.reference_value.specs.Stops.{need_of, values_of};
 ghost use Rattle.reference_step.specs.Steps.{reached_at};
 ghost use Rattle.reference_step.specs.Tasks.{frame_of, frames_of, task_of};
-ghost use Rattle.reference.specs.Steps.{Steps, frame_before};
+ghost use Rattle.reference.specs.Steps.{Steps, frame_before, step_to};
 
 use crate::call::{entered, function_of};
 use go_text::Memory;
@@ -85,6 +85,16 @@ fn gives_back<'t>(
     Ok(Step::Slides)
 }
 
+/// The step of a goroutine whose task is done.
+fn step_to(course: Course) -> Step
+    ensures { result ≡ step_to course }
+{
+    match course {
+        Course::Goes => Step::Slides,
+        Course::Moves => Step::Ticks,
+    }
+}
+
 /// The frame as it was before this task was taken.
 fn restored<'t>(
     program: &Program<'t>,
@@ -107,22 +117,16 @@ fn does<'t>(
     frames: &mut Vec<Frame<'t>>,
     mut position: Position<'t>,
     next: Task<'t>,
-    given: Vec<Given>,
+    mut given: Vec<Given>,
 ) -> Result<Step, Memory>
     ensures { IfOk result (λ step. Steps (file_of program.now.file.now) (frame_before (types_of program.now.table) position.entry next.entry given.items) (frames_of (types_of program.now.table) frames.old.items) (reached_at (λ g b t. task_work g b t (task_of (types_of program.now.table) next.entry)) program.now.table given.items position.entry) step (frames_of (types_of program.now.table) frames.new.items)) }
 {
     match work(alloc, program, &mut position, &next, given.as_slice()) {
-        Ok(Outcome::Leads(Course::Goes)) => {
+        Ok(Outcome::Leads(course)) => {
             drop(next);
-            let given = Vec::new(alloc);
+            given.clear();
             frames.push(Frame { position, given })?;
-            Ok(Step::Slides)
-        }
-        Ok(Outcome::Leads(Course::Moves)) => {
-            drop(next);
-            let given = Vec::new(alloc);
-            frames.push(Frame { position, given })?;
-            Ok(Step::Ticks)
+            Ok(step_to(course))
         }
         Ok(Outcome::Returns(words)) => {
             let top = restored(program, position, next, given)?;

@@ -7,7 +7,7 @@ ghost use Rattle.meaning.specs.Source.{branch_work, decides, otherwise_work, tas
 ghost use Rattle.meaning.specs.Tasks.{Goes};
 ghost use Rattle.meaning.specs.Worked.{ready};
 ghost use Rattle.reference_value.specs.Scopes.{blocks_of};
-ghost use Rattle.reference_step.specs.Steps.{Leads, Stays};
+ghost use Rattle.reference_step.specs.Steps.{Leads, Stays, course_of};
 ghost use Rattle.reference_step.specs.Tasks.{decided, position_of, tasks_of};
 
 use crate::block::{block, opens, simply};
@@ -28,8 +28,8 @@ pub(crate) fn branch<'t>(
     program: &Program<'t>,
     top: &mut Position<'t>,
     branch: &'t IfNode,
-) -> Result<(), AllocError>
-    ensures { OnOk result (branch_work (globals_in program.now.table) (blocks_of (types_of program.now.table) top.old.scope) (tasks_of (types_of program.now.table) top.old.tasks.items) (branch_of branch.now) ≡ ready (Goes (position_of (types_of program.now.table) top.new))) }
+) -> Result<Course, AllocError>
+    ensures { IfOk result (λ course. branch_work (globals_in program.now.table) (blocks_of (types_of program.now.table) top.old.scope) (tasks_of (types_of program.now.table) top.old.tasks.items) (branch_of branch.now) ≡ ready (course_of (types_of program.now.table) course top.new)) }
 {
     let _program = program;
     opens(alloc, top)?;
@@ -39,7 +39,7 @@ pub(crate) fn branch<'t>(
         IfHeader::Bare => {}
         IfHeader::Semicolon => {}
     }
-    Ok(())
+    Ok(Course::Goes)
 }
 
 /// What stands behind the block of an if.

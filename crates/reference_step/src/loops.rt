@@ -120,8 +120,8 @@ fn ranges<'t>(
     from: &'t ExpressionNode,
     body: &'t [StatementNode],
     given: &[Given],
-) -> Result<(), Stop>
-    ensures ok { OnOk result (Leads (λ g b t. for_work g b t (RangeHead (target_of target.now) (expression_of from.now)) (body_of body.now)) program.now.table given.now top.old top.new Course.Goes) }
+) -> Result<Course, Stop>
+    ensures ok { IfOk result (Leads (λ g b t. for_work g b t (RangeHead (target_of target.now) (expression_of from.now)) (body_of body.now)) program.now.table given.now top.old top.new) }
     ensures err { IfErr result (Stays (λ g b t. for_work g b t (RangeHead (target_of target.now) (expression_of from.now)) (body_of body.now)) program.now.table given.now top.old top.new) }
 {
     let table = &program.table;
@@ -130,7 +130,7 @@ fn ranges<'t>(
     let kind = kind_in(table, &top.scope, from);
     keep_in(alloc, table, &mut top.scope, kind, c)?;
     heads(top, range)?;
-    Ok(())
+    Ok(Course::Goes)
 }
 
 /// A loop with a condition and a post statement is to be done first.
@@ -180,23 +180,23 @@ pub(crate) fn for_loop<'t>(
     header: &'t ForHeader,
     body: &'t [StatementNode],
     given: &[Given],
-) -> Result<(), Stop>
-    ensures ok { OnOk result (Leads (λ g b t. for_work g b t (for_head_of header.now) (body_of body.now)) program.now.table given.now top.old top.new Course.Goes) }
+) -> Result<Course, Stop>
+    ensures ok { IfOk result (Leads (λ g b t. for_work g b t (for_head_of header.now) (body_of body.now)) program.now.table given.now top.old top.new) }
     ensures err { IfErr result (Stays (λ g b t. for_work g b t (for_head_of header.now) (body_of body.now)) program.now.table given.now top.old top.new) }
 {
     match header {
         ForHeader::Forever => {
             repeats(alloc, top, None, None, body)?;
-            Ok(())
+            Ok(Course::Goes)
         }
         ForHeader::While(condition) => {
             repeats(alloc, top, Some(condition), None, body)?;
-            Ok(())
+            Ok(Course::Goes)
         }
         ForHeader::Clauses(first, condition, post) => {
             let (condition, post) = (condition.as_ref(), post.as_ref());
             clauses(alloc, top, first.as_ref(), condition, post, body)?;
-            Ok(())
+            Ok(Course::Goes)
         }
         ForHeader::Range(target, from) => ranges(alloc, program, top, target, from, body, given),
     }
@@ -301,8 +301,6 @@ fn repeat_head<'t>(
         if !truth_in(word) {
             return Ok(Course::Goes);
         }
-        turn(alloc, top, at)?;
-        return Ok(Course::Goes);
     }
     turn(alloc, top, at)?;
     Ok(Course::Goes)

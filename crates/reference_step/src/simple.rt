@@ -280,15 +280,8 @@ pub(crate) fn simple<'t>(
         SimpleNode::Call(name, arguments) => call(alloc, program, top, name, arguments, given),
         SimpleNode::Close(from) => close(alloc, program, top, from, given),
         SimpleNode::Print(line, parts, trailing) => {
-            print(
-                alloc,
-                program,
-                top,
-                *line,
-                parts.as_slice(),
-                *trailing,
-                given,
-            )
+            let parts = parts.as_slice();
+            print(alloc, program, top, *line, parts, *trailing, given)
         }
         SimpleNode::Receive(from) => receive(alloc, program, top, from, given),
         SimpleNode::Send(to, item) => send(alloc, program, top, to, item, given),
@@ -302,24 +295,12 @@ pub(crate) fn simple<'t>(
             update(alloc, program, top, place, *operator, operand, given)
         }
         SimpleNode::Assign(places, right) => {
-            assign(
-                alloc,
-                program,
-                top,
-                places.as_slice(),
-                right.as_slice(),
-                given,
-            )
+            let (places, right) = (places.as_slice(), right.as_slice());
+            assign(alloc, program, top, places, right, given)
         }
         SimpleNode::Define(names, right) => {
-            define(
-                alloc,
-                program,
-                top,
-                names.as_slice(),
-                right.as_slice(),
-                given,
-            )
+            let (names, right) = (names.as_slice(), right.as_slice());
+            define(alloc, program, top, names, right, given)
         }
     }
 }

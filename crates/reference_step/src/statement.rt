@@ -83,8 +83,7 @@ pub(crate) fn statement<'t>(
         StatementNode::Empty => Ok(Outcome::Leads(Course::Goes)),
         StatementNode::Simple(one) => Ok(Outcome::Leads(simple(alloc, program, top, one, given)?)),
         StatementNode::Typed(names, kind, right) => {
-            let names = names.as_slice();
-            let course = typed_values(alloc, program, top, names, kind, right, given)?;
+            let course = typed_values(alloc, program, top, names.as_slice(), kind, right, given)?;
             Ok(Outcome::Leads(course))
         }
         StatementNode::Untyped(names, right) => {
@@ -96,22 +95,18 @@ pub(crate) fn statement<'t>(
             block(alloc, top, body.as_slice())?;
             Ok(Outcome::Leads(Course::Goes))
         }
-        StatementNode::If(one) => {
-            branch(alloc, program, top, one)?;
-            Ok(Outcome::Leads(Course::Goes))
-        }
+        StatementNode::If(one) => Ok(Outcome::Leads(branch(alloc, program, top, one)?)),
         StatementNode::For(header, body) => {
-            for_loop(alloc, program, top, header, body.as_slice(), given)?;
-            Ok(Outcome::Leads(Course::Goes))
+            let course = for_loop(alloc, program, top, header, body.as_slice(), given)?;
+            Ok(Outcome::Leads(course))
         }
         StatementNode::Select(all) => {
             let course = select(alloc, program, top, all.as_slice(), given)?;
             Ok(Outcome::Leads(course))
         }
-        StatementNode::Go(name, arguments) => {
-            let course = start(alloc, program, top, name, arguments, given)?;
-            Ok(Outcome::Leads(course))
-        }
+        StatementNode::Go(name, arguments) => Ok(Outcome::Leads(start(
+            alloc, program, top, name, arguments, given,
+        )?)),
         StatementNode::Return(one) => {
             Ok(Outcome::Returns(returned(alloc, program, top, one, given)?))
         }

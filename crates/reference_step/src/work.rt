@@ -34,10 +34,7 @@ pub fn work<'t>(
     match task {
         Task::Do(one) => statement(alloc, program, top, **one, given),
         Task::Simply(one) => Ok(Outcome::Leads(simple(alloc, program, top, **one, given)?)),
-        Task::Branch(one) => {
-            branch(alloc, program, top, **one)?;
-            Ok(Outcome::Leads(Course::Goes))
-        }
+        Task::Branch(one) => Ok(Outcome::Leads(branch(alloc, program, top, **one)?)),
         Task::Enclose(body) => {
             block(alloc, top, **body)?;
             Ok(Outcome::Leads(Course::Goes))

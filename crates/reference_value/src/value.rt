@@ -1,17 +1,17 @@
 //! The values of expressions.
 
 ghost use Rattle.std.specs.Prelude.{◌≡◌, ◌||◌, ◌∷◌, [], ℕ, List, true, false, IfSome, IfNone, IfOk, IfErr, map, option_map};
-ghost use Rattle.syntax.specs.Tree.{expressions};
-ghost use Rattle.syntax.specs.View.{expression_of};
+ghost use Rattle.syntax.specs.Tree.{Capacity, Length, Receive, expressions};
+ghost use Rattle.syntax.specs.View.{expression_of, name_of};
 ghost use Rattle.type_table.specs.Visible.{types_of, globals_in};
 ghost use Rattle.typing_rules.specs.Worths.{is_equality, is_order};
 ghost use Rattle.word.specs.Apply.{value as applied};
 ghost use Rattle.type_table.specs.Zeros.{zero_words};
 ghost use Rattle.checker_base.specs.Views.{worth_of};
-ghost use Rattle.meaning.specs.Expressions.{before, beside, between, compared, exactly, fields, one_word, operator_at, right_values, selected, type_of, value, values, word_in};
+ghost use Rattle.meaning.specs.Expressions.{before, beside, between, called, compared, exactly, fields, number_of, one_word, operator_at, right_values, selected, type_of, value, values, word_in};
 ghost use Rattle.meaning.specs.Values.{Value};
 ghost use Rattle.meaning.specs.Variables.{lookup, value_of};
-ghost use Rattle.meaning.specs.Worked.{Worked, ready};
+ghost use Rattle.meaning.specs.Worked.{Worked, and_then, ready};
 ghost use Rattle.reference_value.specs.Scopes.{blocks_of};
 ghost use Rattle.reference_value.specs.Stops.{Comes, Stops, values_of};
 ghost use Rattle.reference_value.specs.Values.{by_parts, fixed};
@@ -29,7 +29,7 @@ use crate::words::{
 use crate::worth::worth;
 use checker_base::worth::Worth;
 use std::alloc::{AllocError, Global};
-use syntax::{BinaryOperator, ExpressionNode, UnaryOperator};
+use syntax::{BinaryOperator, ExpressionNode, Name, UnaryOperator};
 use type_table::scope::{is_nil, is_truth};
 use type_table::table::TypeTable;
 use type_table::zero::zero;
@@ -153,12 +153,13 @@ fn field_in<'t>(
     table: &TypeTable<'t>,
     scope: &Scope<'t>,
     whole: &'t ExpressionNode,
-    name: &[u8],
+    field: &Name,
     words: &[Word],
 ) -> Result<Vec<Word>, AllocError>
-    ensures { IfOk result (λ v. v.items ≡ selected (globals_in table.now) (blocks_of (types_of table.now) scope.now) (type_of (globals_in table.now) (blocks_of (types_of table.now) scope.now) (expression_of whole.now)) name.now words.now) }
+    ensures { IfOk result (λ v. v.items ≡ selected (globals_in table.now) (blocks_of (types_of table.now) scope.now) (type_of (globals_in table.now) (blocks_of (types_of table.now) scope.now) (expression_of whole.now)) (name_of field.now) words.now) }
 {
-    selected(alloc, table, kind_in(table, scope, whole), name, words)
+    let kind = kind_in(table, scope, whole);
+    selected(alloc, table, kind, field.bytes.as_slice(), words)
 }
 
 /// The value of an operator before a value.
@@ -217,11 +218,8 @@ pub fn value<'a, 'g, 't>(
         ExpressionNode::Parenthesized(inner) => value(alloc, table, scope, inner, given),
         ExpressionNode::Selection(whole, field) => {
             let (words, given) = value(alloc, table, scope, whole, given)?;
-            let name = field.bytes.as_slice();
-            had(
-                field_in(alloc, table, scope, whole, name, words.as_slice()),
-                given,
-            )
+            let made = field_in(alloc, table, scope, whole, field, words.as_slice());
+            had(made, given)
         }
         ExpressionNode::Composite(_, values, _) => {
             if values.is_empty() {
@@ -235,47 +233,20 @@ pub fn value<'a, 'g, 't>(
         }
         ExpressionNode::Binary(operator, left, right) => {
             let (a, given) = value(alloc, table, scope, left, given)?;
-            beside(
-                alloc,
-                table,
-                scope,
-                *operator,
-                word_in(a.as_slice()),
-                right,
-                given,
-            )
+            let a = word_in(a.as_slice());
+            beside(alloc, table, scope, *operator, a, right, given)
         }
         ExpressionNode::Call(name, all, _) => {
-            let (arguments, given) = values(alloc, table, scope, all.as_slice(), given)?;
-            let number = number_of(table, name.bytes.as_slice());
-            called(alloc, table, number, arguments, given)
+            call(alloc, table, scope, name, all.as_slice(), given)
         }
-        ExpressionNode::Receive(channel) => {
-            let (c, given) = value(alloc, table, scope, channel, given)?;
-            let kind = element_kind(table, scope, channel);
-            item_received(alloc, table, kind, c.as_slice(), given)
-        }
+        ExpressionNode::Receive(channel) => receive(alloc, table, scope, channel, given),
         ExpressionNode::Make(kind) => made(alloc, table, kind, 0, given),
         ExpressionNode::MakeSized(kind, size) => {
             let (n, given) = value(alloc, table, scope, size, given)?;
             made(alloc, table, kind, number_in(word_in(n.as_slice())), given)
         }
-        ExpressionNode::Length(channel) => {
-            let (c, given) = value(alloc, table, scope, channel, given)?;
-            measured(
-                alloc,
-                Request::Len(channel_in(word_in(c.as_slice()))),
-                given,
-            )
-        }
-        ExpressionNode::Capacity(channel) => {
-            let (c, given) = value(alloc, table, scope, channel, given)?;
-            measured(
-                alloc,
-                Request::Cap(channel_in(word_in(c.as_slice()))),
-                given,
-            )
-        }
+        ExpressionNode::Length(channel) => length(alloc, table, scope, channel, given),
+        ExpressionNode::Capacity(channel) => capacity(alloc, table, scope, channel, given),
     }
 }
 
@@ -300,6 +271,83 @@ pub fn beside<'a, 'g, 't>(
     }
     let (b, given) = value(alloc, table, scope, right, given)?;
     binary(alloc, operator, a, b.as_slice(), given)
+}
+
+/// The value of a call.
+///
+/// Errors: the panic that is met first; what has to be done next; `Memory`.
+#[cycle(value)]
+fn call<'a, 'g, 't>(
+    alloc: Global,
+    table: &'a TypeTable<'t>,
+    scope: &'a Scope<'t>,
+    name: &'a Name,
+    all: &'t [ExpressionNode],
+    given: &'g [Given],
+) -> Result<(Vec<Word>, &'g [Given]), Stop>
+    ensures ok { IfOk result (λ r. Comes (and_then (values (globals_in table.now) (blocks_of (types_of table.now) scope.now) (expressions (map expression_of all.now))) (called (globals_in table.now) (number_of (globals_in table.now) (name_of name.now)))) given.now r.0.items r.1.now) }
+    ensures err { IfErr result (Stops (and_then (values (globals_in table.now) (blocks_of (types_of table.now) scope.now) (expressions (map expression_of all.now))) (called (globals_in table.now) (number_of (globals_in table.now) (name_of name.now)))) given.now) }
+{
+    let (arguments, given) = values(alloc, table, scope, all, given)?;
+    let number = number_of(table, name.bytes.as_slice());
+    called(alloc, table, number, arguments, given)
+}
+
+/// The value of a receive: an item.
+///
+/// Errors: the panic that is met first; what has to be done next; `Memory`.
+#[cycle(value)]
+fn receive<'a, 'g, 't>(
+    alloc: Global,
+    table: &'a TypeTable<'t>,
+    scope: &'a Scope<'t>,
+    channel: &'t ExpressionNode,
+    given: &'g [Given],
+) -> Result<(Vec<Word>, &'g [Given]), Stop>
+    ensures ok { IfOk result (λ r. Comes (value (globals_in table.now) (blocks_of (types_of table.now) scope.now) (Receive (expression_of channel.now))) given.now r.0.items r.1.now) }
+    ensures err { IfErr result (Stops (value (globals_in table.now) (blocks_of (types_of table.now) scope.now) (Receive (expression_of channel.now))) given.now) }
+{
+    let (c, given) = value(alloc, table, scope, channel, given)?;
+    let kind = element_kind(table, scope, channel);
+    item_received(alloc, table, kind, c.as_slice(), given)
+}
+
+/// The value of a `len`.
+///
+/// Errors: the panic that is met first; what has to be done next; `Memory`.
+#[cycle(value)]
+fn length<'a, 'g, 't>(
+    alloc: Global,
+    table: &'a TypeTable<'t>,
+    scope: &'a Scope<'t>,
+    channel: &'t ExpressionNode,
+    given: &'g [Given],
+) -> Result<(Vec<Word>, &'g [Given]), Stop>
+    ensures ok { IfOk result (λ r. Comes (value (globals_in table.now) (blocks_of (types_of table.now) scope.now) (Length (expression_of channel.now))) given.now r.0.items r.1.now) }
+    ensures err { IfErr result (Stops (value (globals_in table.now) (blocks_of (types_of table.now) scope.now) (Length (expression_of channel.now))) given.now) }
+{
+    let (c, given) = value(alloc, table, scope, channel, given)?;
+    let request = Request::Len(channel_in(word_in(c.as_slice())));
+    measured(alloc, request, given)
+}
+
+/// The value of a `cap`.
+///
+/// Errors: the panic that is met first; what has to be done next; `Memory`.
+#[cycle(value)]
+fn capacity<'a, 'g, 't>(
+    alloc: Global,
+    table: &'a TypeTable<'t>,
+    scope: &'a Scope<'t>,
+    channel: &'t ExpressionNode,
+    given: &'g [Given],
+) -> Result<(Vec<Word>, &'g [Given]), Stop>
+    ensures ok { IfOk result (λ r. Comes (value (globals_in table.now) (blocks_of (types_of table.now) scope.now) (Capacity (expression_of channel.now))) given.now r.0.items r.1.now) }
+    ensures err { IfErr result (Stops (value (globals_in table.now) (blocks_of (types_of table.now) scope.now) (Capacity (expression_of channel.now))) given.now) }
+{
+    let (c, given) = value(alloc, table, scope, channel, given)?;
+    let request = Request::Cap(channel_in(word_in(c.as_slice())));
+    measured(alloc, request, given)
 }
 
 /// The words of the fields of a literal, in order.
