@@ -1,3 +1,2 @@
 pub mod Functions
 pub mod Calls
-pub mod Steps
