@@ -13,7 +13,7 @@ use Rattle.typing_rules.specs.Kinds.{globals_of, signatures, type_names}
 use Rattle.meaning.specs.Source.{globals, split, zero_of}
 use Rattle.meaning.specs.Values.{known}
 use Rattle.word.specs.declared.value.Word.{Word}
-use Rattle.reference_base.specs.Calls.{settled}
+use Rattle.reference.specs.Calls.{settled}
 
 -- a function is a node at least
 nodes_of_functions : (types : List (List ℕ)) (tops : List Top) → length (signatures types tops) ≤ sum_by top_size tops

@@ -1,1 +1,2 @@
 pub mod Functions
+pub mod Calls

@@ -1,16 +1,17 @@
 //! Goroutines at their beginning.
 
-ghost use Rattle.std.specs.Prelude.{◌≡◌, IfOk, drop, slice_get, take};
+ghost use Rattle.std.specs.Prelude.{◌≡◌, IfOk, codes, drop, slice_get, take};
 ghost use Rattle.syntax.specs.View.{file_of, function_of};
 ghost use Rattle.type_table.specs.Visible.{types_of};
+ghost use Rattle.meaning.specs.Expressions.{number_of};
 ghost use Rattle.meaning.specs.Source.{begun, functions, globals, parameters_of, split};
-ghost use Rattle.reference_base.specs.Calls.{parameters_in};
-ghost use Rattle.reference_base.specs.Tasks.{frames_of};
-ghost use Rattle.reference_value.specs.Values.{values_of};
+ghost use Rattle.reference.specs.Calls.{parameters_in};
+ghost use Rattle.reference_step.specs.Tasks.{frames_of};
+ghost use Rattle.reference_value.specs.Stops.{values_of};
 
-use reference_base::call::{Parameter, called, function_of, parameters};
-use reference_base::program::Program;
-use reference_base::task::Frame;
+use crate::call::{Parameter, entered, function_of, parameters};
+use reference_step::program::Program;
+use reference_step::task::Frame;
 use reference_value::part::words_in;
 use reference_value::words::with_first;
 use std::alloc::{AllocError, Global};
@@ -70,10 +71,17 @@ pub(crate) fn begun<'t>(
     ensures { IfOk result (λ frames. frames_of (types_of program.now.table) frames.items ≡ begun (file_of program.now.file.now) (slice_get (functions (file_of program.now.file.now)) number) arguments.now) }
 {
     let mut frames = Vec::new(alloc);
-    let Some(function) = function_of(program, number) else {
+    let Some(function) = function_of(program, number as usize) else {
         return Ok(frames);
     };
     let values = arguments_of(alloc, program, function, arguments)?;
-    frames.push(called(alloc, program, function, values.as_slice())?)?;
+    frames.push(entered(alloc, program, function, values.as_slice())?)?;
     Ok(frames)
+}
+
+/// The number of the function that a program begins with.
+pub(crate) fn main_number(program: &Program<'_>) -> u32
+    ensures { result ≡ number_of (globals (file_of program.now.file.now)) (codes "main") }
+{
+    program.number_of(b"main")
 }

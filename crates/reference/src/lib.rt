@@ -2,9 +2,11 @@
 #![tactic(auto)]
 
 mod begin;
+mod call;
 mod program;
 mod run;
 mod source;
+mod step;
 
 pub use program::program_of;
 pub use run::run_source;

@@ -1,13 +1,11 @@
 //! The source of a program as a kind of goroutine.
 
-use crate::begin::begun;
+use crate::begin::{begun, main_number};
+use crate::step::{answer, step};
 use go_text::Memory;
 use one_thread::{Interpreter, Step};
-use reference_base::program::Program;
-use reference_base::start::main_number;
-use reference_base::task::Frame;
-use reference_reply::reply::answer;
-use reference_task::step::step;
+use reference_step::program::Program;
+use reference_step::task::Frame;
 use std::alloc::Global;
 use word::request::Reply;
 use word::value::Word;
@@ -22,7 +20,7 @@ impl<'t> Interpreter for Source<'t> {
     ghost use Rattle.syntax.specs.View.{file_of};
     ghost use Rattle.type_table.specs.Visible.{types_of};
     ghost use Rattle.meaning.specs.Tasks.{Frames};
-    ghost use Rattle.reference_base.specs.Tasks.{frames_of};
+    ghost use Rattle.reference_step.specs.Tasks.{frames_of};
     ghost use Rattle.reference.specs.Kinds.{source_parts};
 
     type State = Vec<Frame<'t>>;
@@ -38,7 +36,7 @@ impl<'t> Interpreter for Source<'t> {
     }
 
     fn answer(&self, alloc: Global, state: &mut Self::State, reply: Reply) -> Result<(), Memory> {
-        answer(alloc, state, reply)
+        answer(state, reply)
     }
 
     fn begin(

@@ -4,10 +4,10 @@ use Rattle.syntax.specs.Tree.{Branch, Conditional}
 use Rattle.syntax.specs.View.{branch_of}
 use Rattle.meaning.specs.Tasks.{Task as OneTask, broken, continued, frame}
 use Rattle.meaning.specs.Variables.{Blocks, left}
-use Rattle.reference_base.specs.declared.task.Loop.{Loop}
-use Rattle.reference_base.specs.declared.task.Task.{Task}
-use Rattle.reference_base.specs.declared.task.Task.TheVariants as tasks
-use Rattle.reference_base.specs.Tasks.{decided, task_of, tasks_of}
+use Rattle.reference_step.specs.declared.task.Loop.{Loop}
+use Rattle.reference_step.specs.declared.task.Task.{Task}
+use Rattle.reference_step.specs.declared.task.Task.TheVariants as tasks
+use Rattle.reference_step.specs.Tasks.{decided, task_of, tasks_of}
 use Rattle.reference_value.proofs.Lasts.{shown_last}
 
 -- neither the end of a block or of a select, nor that of a loop's body
@@ -34,10 +34,6 @@ module _ (types : List (List ℕ)) (blocks : Blocks) (rest : List OneTask) where
   over_break (tasks.Again loop) over = absurd (over.again loop refl)
   over_break (tasks.Turn loop) over = refl
   over_break tasks.EndSelect over = absurd (over.select refl)
-  over_break (tasks.Ask request zeros purpose) over = refl
-  over_break (tasks.Await zero purpose) over = refl
-  over_break (tasks.Store all values) over = refl
-  over_break (tasks.GiveBack value) over = refl
 
   over_continue : (task : Task) → IsOver task → continued blocks (task_of types task ∷ rest) ≡ continued blocks rest
   over_continue (tasks.Do one) over = refl
@@ -50,10 +46,6 @@ module _ (types : List (List ℕ)) (blocks : Blocks) (rest : List OneTask) where
   over_continue (tasks.Again loop) over = absurd (over.again loop refl)
   over_continue (tasks.Turn loop) over = refl
   over_continue tasks.EndSelect over = absurd (over.select refl)
-  over_continue (tasks.Ask request zeros purpose) over = refl
-  over_continue (tasks.Await zero purpose) over = refl
-  over_continue (tasks.Store all values) over = refl
-  over_continue (tasks.GiveBack value) over = refl
 
 module _ (types : List (List ℕ)) (blocks : Blocks) (all rest : List Task) (task : Task) (is : all ≡ rest ++ task ∷ []) where
   shown : tasks_of types all ≡ task_of types task ∷ tasks_of types rest

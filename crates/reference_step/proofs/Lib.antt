@@ -1,2 +1,4 @@
 pub mod Leaving
-pub mod Asking
+pub mod Clauses
+pub mod Programs
+pub mod Bodies

@@ -1,0 +1,5 @@
+pub mod Codes
+pub mod Tasks
+pub mod Operands
+pub mod Selects
+pub mod Steps

@@ -1,8 +1,17 @@
-//! What statements and loops do, as the source says.
+//! What the tasks of a function do, as the source says: statements, loops and selects.
 #![tactic(auto)]
 
-pub mod loops;
+mod block;
+mod branch;
+mod clause;
+mod loops;
+mod operand;
+pub mod outcome;
 mod places;
-pub mod simple;
-pub mod statement;
-pub mod variables;
+pub mod program;
+mod select;
+mod simple;
+mod statement;
+pub mod task;
+mod variables;
+pub mod work;

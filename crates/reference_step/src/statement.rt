@@ -1,204 +1,122 @@
-//! What blocks, ifs, loops and returns do.
+//! What statements do.
 
-ghost use Rattle.std.specs.Prelude.{◌≡◌, ◌∷◌, ℕ, List, IfErr, OnOk, IfOk};
-ghost use Rattle.syntax.specs.Tree.{Alone};
-ghost use Rattle.syntax.specs.View.{body_of, branch_of, file_of, otherwise_of, returned_of, simple_of};
-ghost use Rattle.type_table.specs.Visible.{types_of};
-ghost use Rattle.meaning.specs.Source.{branch_next, decides, enters_block, otherwise_next, return_next, task_next};
-ghost use Rattle.meaning.specs.Tasks.{Do, EndBlock, all_of, broken, continued, frame};
-ghost use Rattle.meaning.specs.Variables.{entered};
-ghost use Rattle.reference_value.specs.Scopes.{blocks_of};
-ghost use Rattle.reference_base.specs.Steps.{Goes, Panics, Went};
-ghost use Rattle.reference_base.specs.Tasks.{decided, frame_of, frames_of, tasks_of};
+ghost use Rattle.std.specs.Prelude.{◌≡◌, IfErr, IfOk, Some};
+ghost use Rattle.syntax.specs.Tree.{Go};
+ghost use Rattle.syntax.specs.View.{arguments_of, name_of, returned_of, statement_of};
+ghost use Rattle.meaning.specs.Source.{return_work, statement_work};
+ghost use Rattle.meaning.specs.Tasks.{GivesBack};
+ghost use Rattle.reference_step.specs.Steps.{Becomes, Leads, Stays, arrived, reached_at};
 
-use crate::simple::operates;
-use reference_base::operand::{one, truth_in};
-use reference_base::outcome::Move;
-use reference_base::program::Program;
-use reference_base::task::{Frame, Purpose, Task};
+use crate::block::{block, go_on, leave};
+use crate::branch::branch;
+use crate::loops::for_loop;
+use crate::operand::append_words;
+use crate::outcome::{Course, Outcome};
+use crate::program::Program;
+use crate::select::select;
+use crate::simple::simple;
+use crate::task::Position;
+use crate::variables::{typed_values, untyped_values};
 use reference_value::fault::Stop;
-use reference_value::value::value;
-use std::alloc::{AllocError, Global};
-use syntax::node::IfHeader;
-use syntax::{ElseNode, IfNode, ReturnNode, SimpleNode, StatementNode};
+use reference_value::given::{Given, Need, needs};
+use reference_value::value::{value, values};
+use std::alloc::Global;
+use syntax::{ArgumentsNode, Name, ReturnNode, StatementNode};
+use word::request::Request;
 use word::value::Word;
 
-// The arms below drop a task by a call. One that goes out of scope behind a `match` is proved to be dropped in each arm for each of its
-// variants, which takes five times as long.
-
-/// Leaves a loop or a select.
-pub fn leave(top: &mut Frame<'_>)
-    ensures { (types : List (List ℕ)) → frame_of types top.new ≡ broken (blocks_of types top.old.scope) (tasks_of types top.old.tasks.items) }
-{
-    while let Some(task) = top.tasks.pop() {
-        match task {
-            Task::EndBlock => {
-                drop(task);
-                top.scope.leave();
-            }
-            Task::Again(_) | Task::EndSelect => {
-                drop(task);
-                return top.scope.leave();
-            }
-            _ => drop(task),
-        }
-    }
-}
-
-/// Goes to the end of a loop's body.
-pub fn go_on(top: &mut Frame<'_>) -> Result<(), AllocError>
-    ensures { (types : List (List ℕ)) → OnOk result (frame_of types top.new ≡ continued (blocks_of types top.old.scope) (tasks_of types top.old.tasks.items)) }
-{
-    while let Some(task) = top.tasks.pop() {
-        match task {
-            Task::EndBlock | Task::EndSelect => {
-                drop(task);
-                top.scope.leave();
-            }
-            Task::Again(_) => {
-                top.push(task)?;
-                return Ok(());
-            }
-            _ => drop(task),
-        }
-    }
-    Ok(())
-}
-
-/// Goes into a block, at whose end it is left.
-pub(crate) fn opens(alloc: Global, top: &mut Frame<'_>) -> Result<(), AllocError>
-    ensures { (types : List (List ℕ)) → OnOk result (frame_of types top.new ≡ frame (entered (blocks_of types top.old.scope)) (EndBlock ∷ tasks_of types top.old.tasks.items)) }
-{
-    top.scope.enter(alloc)?;
-    top.push(Task::EndBlock)
-}
-
-/// A simple statement is to be done first.
-pub(crate) fn simply<'t>(
-    alloc: Global,
-    top: &mut Frame<'t>,
-    simple: &'t SimpleNode,
-) -> Result<(), AllocError>
-    ensures { (types : List (List ℕ)) → OnOk result (frame_of types top.new ≡ frame (blocks_of types top.old.scope) (Do (Alone (simple_of simple.now)) ∷ tasks_of types top.old.tasks.items)) }
-{
-    top.push(Task::Simply(Box::new(alloc, simple)?))
-}
-
-/// Goes into a block of these statements.
-pub fn block<'t>(
+/// A `go`.
+fn start<'t>(
     alloc: Global,
     program: &Program<'t>,
-    top: &mut Frame<'t>,
-    callers: &[Frame<'t>],
-    body: &'t [StatementNode],
-) -> Result<(), AllocError>
-    ensures { OnOk result (Goes (enters_block (file_of program.now.file.now) (blocks_of (types_of program.now.table) top.old.scope) (tasks_of (types_of program.now.table) top.old.tasks.items) (frames_of (types_of program.now.table) callers.now) (all_of (body_of body.now))) (types_of program.now.table) top.new callers.now) }
+    at: &Position<'t>,
+    name: &'t Name,
+    arguments: &'t ArgumentsNode,
+    given: &[Given],
+) -> Result<Course, Stop>
+    ensures ok { IfOk result (Leads (λ g b t. statement_work g b t (Go (name_of name.now) (arguments_of arguments.now))) program.now.table given.now at.now at.now) }
+    ensures err { IfErr result (Stays (λ g b t. statement_work g b t (Go (name_of name.now) (arguments_of arguments.now))) program.now.table given.now at.now at.now) }
 {
-    let _program = program;
-    let _callers = callers;
-    opens(alloc, top)?;
-    top.push_all(alloc, body)
+    let table = &program.table;
+    let (all, given) = values(alloc, table, &at.scope, arguments.values.as_slice(), given)?;
+    let mut words = Vec::new(alloc);
+    append_words(&mut words, all.as_slice())?;
+    let number = program.number_of(name.bytes.as_slice());
+    let _reply = needs(alloc, Need::Asking(Request::Go(number, words)), given)?;
+    Ok(Course::Goes)
 }
 
-/// An if.
-pub fn branch<'t>(
+/// A return of these words.
+fn returned<'t>(
     alloc: Global,
     program: &Program<'t>,
-    top: &mut Frame<'t>,
-    callers: &[Frame<'t>],
-    branch: &'t IfNode,
-) -> Result<(), AllocError>
-    ensures { OnOk result (Goes (branch_next (file_of program.now.file.now) (blocks_of (types_of program.now.table) top.old.scope) (tasks_of (types_of program.now.table) top.old.tasks.items) (frames_of (types_of program.now.table) callers.now) (branch_of branch.now)) (types_of program.now.table) top.new callers.now) }
-{
-    let _program = program;
-    let _callers = callers;
-    opens(alloc, top)?;
-    top.push(Task::Decide(Box::new(alloc, branch)?))?;
-    match &branch.header {
-        IfHeader::Simple(first) => simply(alloc, top, first)?,
-        IfHeader::Bare => {}
-        IfHeader::Semicolon => {}
-    }
-    Ok(())
-}
-
-/// What stands behind the block of an if.
-fn otherwise<'t>(
-    alloc: Global,
-    program: &Program<'t>,
-    top: &mut Frame<'t>,
-    callers: &[Frame<'t>],
-    otherwise: &'t ElseNode,
-) -> Result<(), AllocError>
-    ensures { OnOk result (Goes (otherwise_next (file_of program.now.file.now) (blocks_of (types_of program.now.table) top.old.scope) (tasks_of (types_of program.now.table) top.old.tasks.items) (frames_of (types_of program.now.table) callers.now) (otherwise_of otherwise.now)) (types_of program.now.table) top.new callers.now) }
-{
-    match otherwise {
-        ElseNode::Nothing => Ok(()),
-        ElseNode::Block(body) => block(alloc, program, top, callers, body.as_slice()),
-        ElseNode::If(next) => {
-            let next: &'t IfNode = next;
-            top.push(Task::Branch(Box::new(alloc, next)?))?;
-            Ok(())
-        }
-    }
-}
-
-/// An if whose condition is this word.
-fn decides<'t>(
-    alloc: Global,
-    program: &Program<'t>,
-    top: &mut Frame<'t>,
-    callers: &[Frame<'t>],
-    branch: &'t IfNode,
-    word: Word,
-) -> Result<(), AllocError>
-    ensures { OnOk result (Goes (decides (file_of program.now.file.now) (blocks_of (types_of program.now.table) top.old.scope) (tasks_of (types_of program.now.table) top.old.tasks.items) (frames_of (types_of program.now.table) callers.now) (body_of branch.now.body.items) (otherwise_of branch.now.otherwise) word) (types_of program.now.table) top.new callers.now) }
-{
-    if truth_in(word) {
-        return block(alloc, program, top, callers, branch.body.as_slice());
-    }
-    otherwise(alloc, program, top, callers, &branch.otherwise)
-}
-
-/// An if, behind its first statement.
-pub fn decide<'t>(
-    alloc: Global,
-    program: &Program<'t>,
-    top: &mut Frame<'t>,
-    callers: &[Frame<'t>],
-    branch: &'t IfNode,
-) -> Result<(), Stop>
-    ensures ok { OnOk result (Goes (task_next (file_of program.now.file.now) (blocks_of (types_of program.now.table) top.old.scope) (tasks_of (types_of program.now.table) top.old.tasks.items) (frames_of (types_of program.now.table) callers.now) (decided (branch_of branch.now))) (types_of program.now.table) top.new callers.now) }
-    ensures err { IfErr result (Panics (task_next (file_of program.now.file.now) (blocks_of (types_of program.now.table) top.old.scope) (tasks_of (types_of program.now.table) top.old.tasks.items) (frames_of (types_of program.now.table) callers.now) (decided (branch_of branch.now))) (types_of program.now.table) top.new top.old) }
-{
-    let word = one(alloc, program, &top.scope, &branch.condition)?;
-    decides(alloc, program, top, callers, branch, word)?;
-    Ok(())
-}
-
-/// A return.
-pub fn back<'t>(
-    alloc: Global,
-    program: &Program<'t>,
-    top: &mut Frame<'t>,
-    callers: &[Frame<'t>],
+    at: &Position<'t>,
     returned: &'t ReturnNode,
-) -> Result<Move<'t>, Stop>
-    ensures ok { IfOk result (λ move. Went (return_next (file_of program.now.file.now) (blocks_of (types_of program.now.table) top.old.scope) (tasks_of (types_of program.now.table) top.old.tasks.items) (frames_of (types_of program.now.table) callers.now) (returned_of returned.now)) (types_of program.now.table) move top.new callers.now) }
-    ensures err { IfErr result (Panics (return_next (file_of program.now.file.now) (blocks_of (types_of program.now.table) top.old.scope) (tasks_of (types_of program.now.table) top.old.tasks.items) (frames_of (types_of program.now.table) callers.now) (returned_of returned.now)) (types_of program.now.table) top.new top.old) }
+    given: &[Given],
+) -> Result<Vec<Word>, Stop>
+    ensures ok { IfOk result (λ words. arrived (reached_at (λ g b t. return_work g b t (returned_of returned.now)) program.now.table given.now at.now) ≡ Some (GivesBack words.items)) }
+    ensures err { IfErr result (Stays (λ g b t. return_work g b t (returned_of returned.now)) program.now.table given.now at.now at.now) }
 {
     match returned {
-        ReturnNode::Nothing => {
-            top.push(Task::GiveBack(Vec::new(alloc)))?;
-            Ok(Move::Slides)
-        }
-        ReturnNode::Operation(one) => {
-            operates(alloc, program, top, callers, one, Purpose::GivenBack)
-        }
+        ReturnNode::Nothing => Ok(Vec::new(alloc)),
         ReturnNode::Value(expression) => {
-            let words = value(alloc, &program.table, &top.scope, expression)?;
-            top.push(Task::GiveBack(words))?;
-            Ok(Move::Slides)
+            let (words, _) = value(alloc, &program.table, &at.scope, expression, given)?;
+            Ok(words)
+        }
+    }
+}
+
+/// What becomes of a statement.
+///
+/// Errors: the panic that is met first; what has to be done next; `Memory`.
+pub(crate) fn statement<'t>(
+    alloc: Global,
+    program: &Program<'t>,
+    top: &mut Position<'t>,
+    statement: &'t StatementNode,
+    given: &[Given],
+) -> Result<Outcome, Stop>
+    ensures ok { IfOk result (Becomes (λ g b t. statement_work g b t (statement_of statement.now)) program.now.table given.now top.old top.new) }
+    ensures err { IfErr result (Stays (λ g b t. statement_work g b t (statement_of statement.now)) program.now.table given.now top.old top.new) }
+{
+    match statement {
+        StatementNode::Empty => Ok(Outcome::Leads(Course::Goes)),
+        StatementNode::Simple(one) => Ok(Outcome::Leads(simple(alloc, program, top, one, given)?)),
+        StatementNode::Typed(names, kind, right) => {
+            let course = typed_values(alloc, program, top, names.as_slice(), kind, right, given)?;
+            Ok(Outcome::Leads(course))
+        }
+        StatementNode::Untyped(names, right) => {
+            let (names, right) = (names.as_slice(), right.as_slice());
+            let course = untyped_values(alloc, program, top, names, right, given)?;
+            Ok(Outcome::Leads(course))
+        }
+        StatementNode::Block(body) => {
+            block(alloc, top, body.as_slice())?;
+            Ok(Outcome::Leads(Course::Goes))
+        }
+        StatementNode::If(one) => Ok(Outcome::Leads(branch(alloc, program, top, one)?)),
+        StatementNode::For(header, body) => {
+            let course = for_loop(alloc, program, top, header, body.as_slice(), given)?;
+            Ok(Outcome::Leads(course))
+        }
+        StatementNode::Select(all) => {
+            let course = select(alloc, program, top, all.as_slice(), given)?;
+            Ok(Outcome::Leads(course))
+        }
+        StatementNode::Go(name, arguments) => Ok(Outcome::Leads(start(
+            alloc, program, top, name, arguments, given,
+        )?)),
+        StatementNode::Return(one) => {
+            Ok(Outcome::Returns(returned(alloc, program, top, one, given)?))
+        }
+        StatementNode::Break => {
+            leave(top);
+            Ok(Outcome::Leads(Course::Goes))
+        }
+        StatementNode::Continue => {
+            go_on(top)?;
+            Ok(Outcome::Leads(Course::Goes))
         }
     }
 }

@@ -1,27 +1,28 @@
 //! What declarations of variables do.
 
-ghost use Rattle.std.specs.Prelude.{◌≡◌, List, IfErr, IfOk, None, OnOk, Some, map};
+ghost use Rattle.std.specs.Prelude.{◌≡◌, IfErr, IfOk, map, option_map};
+ghost use Rattle.syntax.specs.View.{expression_of, name_of, right_of, type_of};
+ghost use Rattle.type_table.specs.Visible.{globals_in, types_of};
+ghost use Rattle.meaning.specs.Expressions.{written_kind};
+ghost use Rattle.meaning.specs.Source.{statement_work, zero_of};
 ghost use Rattle.syntax.specs.Tree.{VarTyped, VarUntyped};
-ghost use Rattle.syntax.specs.View.{file_of, name_of, right_of, type_of};
-ghost use Rattle.type_table.specs.Visible.{types_of};
-ghost use Rattle.meaning.specs.Destinations.{written_kind};
-ghost use Rattle.meaning.specs.Source.{globals, statement_next, zero_of};
-ghost use Rattle.reference_value.specs.Scopes.{blocks_of};
-ghost use Rattle.reference_value.specs.Values.{values_of};
-ghost use Rattle.reference_base.specs.Steps.{Goes, Panics, Went};
-ghost use Rattle.reference_base.specs.Tasks.{frames_of, tasks_of};
+ghost use Rattle.reference_value.specs.Stops.{values_of};
+ghost use Rattle.reference_step.specs.Steps.{Leads, Stays};
 
+use crate::outcome::Course;
 use crate::places::{typed, untyped};
+use crate::program::Program;
 use crate::simple::gives;
-use reference_base::operand::zero_of;
-use reference_base::outcome::Move;
-use reference_base::program::Program;
-use reference_base::task::{Frame, Task};
+use crate::task::Position;
+use reference_value::callee::written_kind;
 use reference_value::fault::Stop;
-use reference_value::kind::written_kind;
+use reference_value::given::Given;
+use reference_value::operation::zero_of;
+use reference_value::place::store;
 use reference_value::words::with_first;
 use std::alloc::{AllocError, Global};
-use syntax::{Name, RightNode, TypeNode};
+use syntax::{ExpressionNode, Name, TypeNode};
+use type_table::table::TypeTable;
 use word::value::Word;
 
 /// One value for each of these names.
@@ -42,62 +43,66 @@ fn copies<'a>(
 /// The zero value of the type that is written here, for each of these names.
 fn zeros<'t>(
     alloc: Global,
-    program: &Program<'t>,
+    table: &TypeTable<'t>,
     kind: &'t TypeNode,
     names: &[Name],
 ) -> Result<Vec<Vec<Word>>, AllocError>
-    ensures { IfOk result (λ v. values_of v.items ≡ map (λ name. zero_of (globals (file_of program.now.file.now)) (written_kind (globals (file_of program.now.file.now)) (type_of kind.now))) (map name_of names.now)) }
+    ensures { IfOk result (λ v. values_of v.items ≡ map (λ name. zero_of (globals_in table.now) (written_kind (globals_in table.now) (type_of kind.now))) (map name_of names.now)) }
 {
-    let zero = zero_of(alloc, program, written_kind(&program.table, kind))?;
+    let zero = zero_of(alloc, table, written_kind(table, kind))?;
     copies(alloc, zero.as_slice(), names)
 }
 
-/// A `var` with a type alone.
-pub fn zeroed<'t>(
+/// A `var` with a type.
+///
+/// Errors: the panic that is met first; what has to be done next; `Memory`.
+pub(crate) fn typed_values<'t>(
     alloc: Global,
     program: &Program<'t>,
-    top: &mut Frame<'t>,
-    callers: &[Frame<'t>],
+    top: &mut Position<'t>,
     names: &'t [Name],
     kind: &'t TypeNode,
-) -> Result<(), AllocError>
-    ensures { OnOk result (Goes (statement_next (file_of program.now.file.now) (blocks_of (types_of program.now.table) top.old.scope) (tasks_of (types_of program.now.table) top.old.tasks.items) (frames_of (types_of program.now.table) callers.now) (VarTyped (map name_of names.now) (type_of kind.now) None)) (types_of program.now.table) top.new callers.now) }
+    right: &'t Option<Vec<ExpressionNode>>,
+    given: &[Given],
+) -> Result<Course, Stop>
+    ensures ok { IfOk result (Leads (λ g b t. statement_work g b t (VarTyped (map name_of names.now) (type_of kind.now) (option_map right_of right.now))) program.now.table given.now top.old top.new) }
+    ensures err { IfErr result (Stays (λ g b t. statement_work g b t (VarTyped (map name_of names.now) (type_of kind.now) (option_map right_of right.now))) program.now.table given.now top.old top.new) }
 {
-    let _callers = callers;
-    let destinations = typed(alloc, program, &top.scope, names, kind)?;
-    let values = zeros(alloc, program, kind, names)?;
-    top.push(Task::Store(destinations, values))
-}
-
-/// A `var` with a type and values.
-pub fn typed_values<'t>(
-    alloc: Global,
-    program: &Program<'t>,
-    top: &mut Frame<'t>,
-    callers: &[Frame<'t>],
-    names: &'t [Name],
-    kind: &'t TypeNode,
-    right: &'t RightNode,
-) -> Result<Move<'t>, Stop>
-    ensures ok { IfOk result (λ move. Went (statement_next (file_of program.now.file.now) (blocks_of (types_of program.now.table) top.old.scope) (tasks_of (types_of program.now.table) top.old.tasks.items) (frames_of (types_of program.now.table) callers.now) (VarTyped (map name_of names.now) (type_of kind.now) (Some (right_of right.now)))) (types_of program.now.table) move top.new callers.now) }
-    ensures err { IfErr result (Panics (statement_next (file_of program.now.file.now) (blocks_of (types_of program.now.table) top.old.scope) (tasks_of (types_of program.now.table) top.old.tasks.items) (frames_of (types_of program.now.table) callers.now) (VarTyped (map name_of names.now) (type_of kind.now) (Some (right_of right.now)))) (types_of program.now.table) top.new top.old) }
-{
-    let destinations = typed(alloc, program, &top.scope, names, kind)?;
-    gives(alloc, program, top, callers, destinations, right)
+    let table = &program.table;
+    let destinations = typed(alloc, table, &top.scope, names, kind)?;
+    match right {
+        Some(right) => {
+            let right = right.as_slice();
+            gives(alloc, program, top, destinations.as_slice(), right, given)
+        }
+        None => {
+            let all = zeros(alloc, table, kind, names)?;
+            store(
+                alloc,
+                table,
+                &mut top.scope,
+                destinations.as_slice(),
+                all.as_slice(),
+            )?;
+            Ok(Course::Moves)
+        }
+    }
 }
 
 /// A `var` with values alone.
-pub fn untyped_values<'t>(
+///
+/// Errors: the panic that is met first; what has to be done next; `Memory`.
+pub(crate) fn untyped_values<'t>(
     alloc: Global,
     program: &Program<'t>,
-    top: &mut Frame<'t>,
-    callers: &[Frame<'t>],
+    top: &mut Position<'t>,
     names: &'t [Name],
-    right: &'t RightNode,
-) -> Result<Move<'t>, Stop>
-    ensures ok { IfOk result (λ move. Went (statement_next (file_of program.now.file.now) (blocks_of (types_of program.now.table) top.old.scope) (tasks_of (types_of program.now.table) top.old.tasks.items) (frames_of (types_of program.now.table) callers.now) (VarUntyped (map name_of names.now) (right_of right.now))) (types_of program.now.table) move top.new callers.now) }
-    ensures err { IfErr result (Panics (statement_next (file_of program.now.file.now) (blocks_of (types_of program.now.table) top.old.scope) (tasks_of (types_of program.now.table) top.old.tasks.items) (frames_of (types_of program.now.table) callers.now) (VarUntyped (map name_of names.now) (right_of right.now))) (types_of program.now.table) top.new top.old) }
+    right: &'t [ExpressionNode],
+    given: &[Given],
+) -> Result<Course, Stop>
+    ensures ok { IfOk result (Leads (λ g b t. statement_work g b t (VarUntyped (map name_of names.now) (map expression_of right.now))) program.now.table given.now top.old top.new) }
+    ensures err { IfErr result (Stays (λ g b t. statement_work g b t (VarUntyped (map name_of names.now) (map expression_of right.now))) program.now.table given.now top.old top.new) }
 {
-    let destinations = untyped(alloc, program, &top.scope, names, right)?;
-    gives(alloc, program, top, callers, destinations, right)
+    let destinations = untyped(alloc, &program.table, &top.scope, names, right)?;
+    gives(alloc, program, top, destinations.as_slice(), right, given)
 }

@@ -3,6 +3,6 @@ pub mod Newer
 pub mod Parts
 pub mod Names
 pub mod Types
+pub mod Rights
 pub mod Literals
-pub mod Stops
 pub mod Constants

@@ -2,4 +2,5 @@ pub mod Scopes
 pub mod Stops
 pub mod Parts
 pub mod Values
+pub mod Rights
 pub mod Destinations

@@ -1,18 +1,21 @@
-//! Why a step stops.
+//! Why evaluating stops.
 
 ghost use Rattle.std.specs.Prelude.{◌≡◌, IfOk, IfErr, Ok};
 ghost use Rattle.reference_value.specs.Stops.{IsMemory};
 
+use crate::given::{Given, Need};
 use std::alloc::{AllocError, AllocFailed};
 use word::panic::Panic;
 
-/// Why a step stops.
+/// Why evaluating stops.
 #[derive(Drop)]
 pub enum Stop {
     /// A request for memory was refused.
     Memory,
     /// The goroutine panics.
     Panics(Panic),
+    /// Something has to be done first.
+    Needs(Box<Need>),
 }
 
 impl From<AllocError> for Stop {
@@ -48,10 +51,14 @@ impl From<Panic> for Stop {
     }
 }
 
-/// The same, where want of memory stops a step.
-pub(crate) fn or_stop<T: Drop>(given: Result<T, AllocError>) -> Result<T, Stop>
-    ensures ok { IfOk result (λ v. given ≡ Ok v) }
+/// What was made, with what is left of what was given.
+pub(crate) fn had<T: Drop>(
+    made: Result<T, AllocError>,
+    left: &[Given],
+) -> Result<(T, &[Given]), Stop>
+    ensures made { IfOk result (λ r. made ≡ Ok r.0) }
+    ensures left { IfOk result (λ r. r.1.now ≡ left.now) }
     ensures err { IfErr result IsMemory }
 {
-    Ok(given?)
+    Ok((made?, left))
 }

@@ -1,8 +1,11 @@
 //! The variables of a function, the values of expressions, and where values go.
 #![tactic(auto)]
 
+pub mod callee;
 pub mod fault;
+pub mod given;
 pub mod kind;
+pub mod operation;
 pub mod part;
 pub mod place;
 pub mod scope;

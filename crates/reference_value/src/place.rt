@@ -11,7 +11,7 @@ ghost use Rattle.meaning.specs.Variables.{lookup, value_of, as_kind, holding, st
 ghost use Rattle.reference_value.specs.Destinations.{declared, defined_in, destination_of, destinations_of};
 ghost use Rattle.reference_value.specs.Parts.{slot_of};
 ghost use Rattle.reference_value.specs.Scopes.{binding_of, blocks_of};
-ghost use Rattle.reference_value.specs.Values.{values_of};
+ghost use Rattle.reference_value.specs.Stops.{values_of};
 
 use crate::part::{Slot, slot_in, words_at};
 use crate::scope::{Scope, Variable};

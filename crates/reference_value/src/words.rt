@@ -1,9 +1,10 @@
 //! Values as words, and operators on them.
 
-ghost use Rattle.std.specs.Prelude.{◌≡◌, ◌++◌, ◌∷◌, [], Ok, Err, IfOk, IfErr, OnOk, IfSome, IfNone, length};
+ghost use Rattle.std.specs.Prelude.{◌≡◌, ◌++◌, ◌∷◌, [], IfOk, IfErr, OnOk, IfSome, IfNone, length};
 ghost use Rattle.std.specs.Int.{w64, int_wrap};
-ghost use Rattle.meaning.specs.Expressions.{Worked, and_then, word_in, one_word, equality, inequality, operator_at, between, beside, before};
+ghost use Rattle.meaning.specs.Expressions.{word_in, one_word, number_in, channel_in, equality, inequality, operator_at, between, beside, before};
 ghost use Rattle.meaning.specs.Values.{Value, word_like, words_like};
+ghost use Rattle.meaning.specs.Worked.{Worked, and_then, fails, ready};
 
 use std::alloc::{AllocError, Global};
 use syntax::{BinaryOperator, UnaryOperator};
@@ -18,6 +19,26 @@ pub fn word_in(words: &[Word]) -> Word
     match words.first() {
         Some(word) => *word,
         None => Word::Int(0),
+    }
+}
+
+/// The number that a word is.
+pub fn number_in(word: Word) -> i64
+    ensures { result ≡ number_in word }
+{
+    match word {
+        Word::Int(number) => number,
+        _ => 0,
+    }
+}
+
+/// The channel that a word is.
+pub fn channel_in(word: Word) -> Option<u32>
+    ensures { result ≡ channel_in word }
+{
+    match word {
+        Word::Chan(channel) => channel,
+        _ => None,
     }
 }
 
@@ -86,8 +107,8 @@ pub fn words_like(alloc: Global, zeros: &[Word], words: &[Word]) -> Result<Vec<W
 
 /// What an operator gave; a zero where its operands were of other kinds.
 fn one_word(valued: Option<Result<Word, Panic>>) -> Result<Word, Panic>
-    ensures ok { IfOk result (λ w. one_word valued ≡ Ok (w ∷ [])) }
-    ensures err { IfErr result (λ p. one_word valued ≡ Err p) }
+    ensures ok { IfOk result (λ w. one_word valued ≡ ready (w ∷ [])) }
+    ensures err { IfErr result (λ p. one_word valued ≡ fails p) }
 {
     match valued {
         Some(Ok(word)) => Ok(word),
@@ -148,8 +169,8 @@ fn operator_at(operator: BinaryOperator, word: Word) -> Op
 ///
 /// Errors: the panic that it meets.
 pub fn between(operator: BinaryOperator, a: Word, b: Word) -> Result<Word, Panic>
-    ensures ok { IfOk result (λ w. between operator a b ≡ Ok (w ∷ [])) }
-    ensures err { IfErr result (λ p. between operator a b ≡ Err p) }
+    ensures ok { IfOk result (λ w. between operator a b ≡ ready (w ∷ [])) }
+    ensures err { IfErr result (λ p. between operator a b ≡ fails p) }
 {
     match operator {
         BinaryOperator::LogicalAnd | BinaryOperator::LogicalOr => Ok(b),
@@ -159,7 +180,7 @@ pub fn between(operator: BinaryOperator, a: Word, b: Word) -> Result<Word, Panic
 
 /// The word of `&&` or `||` whose left operand settles it.
 pub fn settled(operator: BinaryOperator, a: Word) -> Option<Word>
-    ensures some { IfSome result (λ w. (right : Worked Value) → beside operator a right ≡ Ok (w ∷ [])) }
+    ensures some { IfSome result (λ w. (right : Worked Value) → beside operator a right ≡ ready (w ∷ [])) }
     ensures none { IfNone result ((right : Worked Value) → beside operator a right ≡ and_then right (λ b. between operator a (word_in b))) }
 {
     match (operator, a) {
@@ -173,8 +194,8 @@ pub fn settled(operator: BinaryOperator, a: Word) -> Option<Word>
 ///
 /// Errors: the panic that it meets.
 pub fn before(operator: UnaryOperator, a: Word) -> Result<Word, Panic>
-    ensures ok { IfOk result (λ w. before operator a ≡ Ok (w ∷ [])) }
-    ensures err { IfErr result (λ p. before operator a ≡ Err p) }
+    ensures ok { IfOk result (λ w. before operator a ≡ ready (w ∷ [])) }
+    ensures err { IfErr result (λ p. before operator a ≡ fails p) }
 {
     match operator {
         UnaryOperator::Plus => Ok(a),

@@ -1,35 +1,24 @@
 //! What expressions are worth to the typing rules, where variables are those of a run.
 
-ghost use Rattle.std.specs.Option.{option_copied};
 ghost use Rattle.std.specs.Prelude.{◌≡◌, ℕ, List, IfSome, option_map, option_and_then};
 ghost use Rattle.std.specs.Result.{result_ok};
-ghost use Rattle.syntax.specs.View.{expression_of};
-ghost use Rattle.type_table.specs.Scopes.{variable_named};
+ghost use Rattle.syntax.specs.View.{expression_of, type_of};
+ghost use Rattle.type_table.specs.Scopes.{type_in};
+ghost use Rattle.typing_rules.specs.Calls.{callee, made_of, result_type};
 ghost use Rattle.type_table.specs.Visible.{types_of, globals_in};
-ghost use Rattle.typing_rules.specs.Worths.{named_worth, selected_worth, literal_struct, unary_worth, binary_worth, worth};
+ghost use Rattle.typing_rules.specs.Worths.{Typed, element_of, named_worth, selected_worth, literal_struct, unary_worth, binary_worth, worth};
 ghost use Rattle.checker_base.specs.Views.{worth_of, IsSmall};
 ghost use Rattle.meaning.specs.Variables.{scope_in};
-ghost use Rattle.reference_value.specs.Scopes.{blocks_of, variable_in};
+ghost use Rattle.reference_value.specs.Scopes.{blocks_of};
 
-use crate::scope::{Scope, Variable};
+use crate::callee::{result_type, type_in, variable_named};
+use crate::scope::Scope;
 use checker_base::worth::{Worth, binary_worth, literal, unary_worth};
-use syntax::{BinaryOperator, ExpressionNode, UnaryOperator};
+use syntax::{BinaryOperator, ExpressionNode, TypeNode, UnaryOperator};
 use type_table::layout::{field_of, number_of};
-use type_table::scope::{is_blank, is_nil, is_truth};
+use type_table::scope::{is_nil, is_truth};
 use type_table::table::TypeTable;
-use type_table::value_type::ValueType;
-
-/// The variable that a name stands for; `_` stands for none.
-#[tactic(auto, using(crate::proofs::Names::named_in))]
-pub(crate) fn variable_named<'a, 't>(scope: &'a Scope<'t>, name: &[u8]) -> Option<&'a Variable<'t>>
-    ensures { (types : List (List ℕ)) → option_map (variable_in types) (option_copied result) ≡ variable_named (scope_in (blocks_of types scope.now)) name.now }
-{
-    if is_blank(name) {
-        None
-    } else {
-        scope.lookup(name)
-    }
-}
+use type_table::value_type::{ValueType, element_in};
 
 /// What a name is worth as an operand.
 fn named_worth<'t>(scope: &Scope<'t>, name: &[u8]) -> Option<Worth<'t>>
@@ -102,11 +91,48 @@ fn between<'t>(
     }
 }
 
+/// What a call is worth: `None` where it gives no value.
+fn called_worth<'t>(table: &TypeTable<'t>, scope: &Scope<'t>, name: &[u8]) -> Option<Worth<'t>>
+    ensures worth { option_map (worth_of (types_of table.now)) result ≡ option_map Typed (result_type (globals_in table.now) (callee (globals_in table.now) (scope_in (blocks_of (types_of table.now) scope.now)) name.now)) }
+    ensures small { IfSome result IsSmall }
+{
+    match result_type(table, scope, name) {
+        Some(kind) => Some(Worth::Typed(kind)),
+        None => None,
+    }
+}
+
+/// What a new channel is worth: `None` where the type is no channel's.
+fn made_worth<'t>(table: &TypeTable<'t>, scope: &Scope<'t>, kind: &'t TypeNode) -> Option<Worth<'t>>
+    ensures worth { option_map (worth_of (types_of table.now)) result ≡ option_map Typed (made_of (type_in (types_of table.now) (scope_in (blocks_of (types_of table.now) scope.now)) (type_of kind.now))) }
+    ensures small { IfSome result IsSmall }
+{
+    match type_in(table, scope, kind) {
+        Some(ValueType::Channel(direction, element)) => {
+            Some(Worth::Typed(ValueType::Channel(direction, element)))
+        }
+        _ => None,
+    }
+}
+
+/// What is received from a channel that is worth this.
+fn received<'t>(table: &TypeTable<'_>, channel: Option<Worth<'t>>) -> Option<Worth<'t>>
+    ensures worth { option_map (worth_of (types_of table.now)) result ≡ option_map Typed (element_of (option_map (worth_of (types_of table.now)) channel.entry)) }
+    ensures small { IfSome result IsSmall }
+{
+    match channel {
+        Some(Worth::Typed(ValueType::Channel(_, element))) => {
+            Some(Worth::Typed(element_in(table, element)))
+        }
+        _ => None,
+    }
+}
+
 /// What an expression is worth: `None` where it, or an operand of it, has a flaw.
 pub fn worth<'a, 't>(
     table: &'a TypeTable<'t>,
     scope: &'a Scope<'t>,
-    expression: &'a ExpressionNode,
+    expression: &'t ExpressionNode,
 ) -> Option<Worth<'t>>
     ensures worth { option_map (worth_of (types_of table.now)) result ≡ worth (globals_in table.now) (scope_in (blocks_of (types_of table.now) scope.now)) (expression_of expression.now) }
     ensures small { IfSome result IsSmall }
@@ -139,5 +165,13 @@ pub fn worth<'a, 't>(
             },
             None => None,
         },
+        ExpressionNode::Call(name, _, _) => called_worth(table, scope, name.bytes.as_slice()),
+        ExpressionNode::Receive(channel) => received(table, worth(table, scope, channel)),
+        ExpressionNode::Make(kind) | ExpressionNode::MakeSized(kind, _) => {
+            made_worth(table, scope, kind)
+        }
+        ExpressionNode::Length(_) | ExpressionNode::Capacity(_) => {
+            Some(Worth::Typed(ValueType::Int))
+        }
     }
 }

@@ -1,3 +1,0 @@
-pub mod Programs
-pub mod Calls
-pub mod Bodies

@@ -1,5 +1,0 @@
-use Rattle.std.proofs.Common.{length}
-use Rattle.reference_base.proofs.call.+before.Given as goal
-
-abbrev pub decreases-before : goal.decreases-before
-decreases-before l = length l.names.now

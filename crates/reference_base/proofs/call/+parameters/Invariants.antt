@@ -1,5 +1,0 @@
-use Rattle.std.proofs.Common.{length}
-use Rattle.reference_base.proofs.call.+parameters.Given as goal
-
-abbrev pub decreases-parameters : goal.decreases-parameters
-decreases-parameters l = length l.groups.now

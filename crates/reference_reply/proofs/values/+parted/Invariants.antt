@@ -1,5 +1,0 @@
-use Rattle.std.proofs.Common.{length}
-use Rattle.reference_reply.proofs.values.+parted.Given as goal
-
-abbrev pub decreases-parted : goal.decreases-parted
-decreases-parted l = length l.zeros.now

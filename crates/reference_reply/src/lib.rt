@@ -1,5 +1,0 @@
-//! Goroutines as the source says: what becomes of the values that calls and requests give.
-#![tactic(auto)]
-
-pub mod reply;
-mod values;

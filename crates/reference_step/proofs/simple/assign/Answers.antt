@@ -1,6 +1,0 @@
-use Rattle.std.proofs.Common.{sym}
-use Rattle.reference_step.proofs.simple.assign.Goals as goal
-
--- src/simple.rt
-pub returns-clause-err : goal.returns-clause-err
-returns-clause-err c = rw (sym c.in_ok-destinations.ensures) c.gives.ensures.err
