@@ -8,8 +8,7 @@ use Rattle.syntax.specs.Tree.{TypeExpression, NamedType, ParenthesizedType, Chan
 use Rattle.syntax.specs.Measures.{if_any}
 use Rattle.spans.specs.Words.{type_count, trailing_count, expression_count, values_count, arguments_count, size_count, operation_count, right_count, place_count, part_count, part_step, place_step, simple_count, if_head_count, target_count, for_head_count, second_count, second_name_count, comm_count, returned_count, initial_count, start_count, statement_count, body_count, branch_count, otherwise_count, clauses_count, group_count, group_step, groups_count, block_count, top_count, top_step, file_count}
 use Rattle.parser_base.specs.Lexemes.{Lexeme, Name, Mark}
-use Rattle.parser_base.specs.Spelling.{behind, separated, joined, closing, before, AreAll, AreSome, binary_kind, expression_words, expressions_words, more_words as more_values}
-use Rattle.parser_base.specs.TypeReading.{type_words}
+use Rattle.parser_base.specs.Spelling.{behind, separated, joined, closing, before, AreAll, AreSome, binary_kind, expression_words, expressions_words, more_words as more_values, type_words}
 use Rattle.parser_simple.specs.Spelling.{name_words, IsName, place_words, IsPlace, arguments_words, size_words, operation_words, right_words, part_words, simple_words, update_kind, IsSimple}
 use Rattle.parser_header.specs.Spelling.{if_head_words, IsIfHead, optional, IsAny, target_words, for_head_words, IsForHead, second_name_words, second_place_words, comm_words}
 use Rattle.parser_statement.specs.Spelling.{returned_words, initial_words, clause_start, statement_words, body_words, more_words, branch_words, otherwise_words, clauses_words, IsStatement, IsBody, AreStatements, IsBranch, IsOtherwise, AreClauses}

@@ -9,9 +9,8 @@ use Rattle.syntax.specs.Measures.{Listing, Entries as EntriesLimit, SelectClause
 use Rattle.parser_base.specs.declared.list.Next.{Next}
 use Rattle.parser_base.specs.declared.list.Next.TheVariants.{More, End}
 use Rattle.parser_base.specs.Lexemes.{Lexeme, Mark}
-use Rattle.parser_base.specs.Spelling.{behind, separated, joined, closing, AreAll, AreSome, IsTrailing}
-use Rattle.parser_base.specs.Reading.{Reading, ◌>>=◌, is_kind, expect, followed, entry_next}
-use Rattle.parser_base.specs.TypeReading.{type_words, IsType, type_at}
+use Rattle.parser_base.specs.Spelling.{behind, separated, joined, closing, AreAll, AreSome, IsTrailing, type_words, IsType}
+use Rattle.parser_base.specs.Reading.{Reading, ◌>>=◌, is_kind, expect, followed, entry_next, type_at}
 use Rattle.parser_base.proofs.Marks.{bind_ok, ok_is, expect_is, expect_again}
 use Rattle.parser_base.proofs.ListLaws.{AreFew, ReadBack, Found, High, Many, all_of}
 use Rattle.parser_base.proofs.Steps.{then_again, gave}

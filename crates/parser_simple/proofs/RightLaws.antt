@@ -9,9 +9,8 @@ use Rattle.syntax.specs.declared.node.UnaryOperator.TheVariants as unaries
 use Rattle.syntax.specs.Tree.{Expression, Integer, Named, Parenthesized, Selection, Composite, Unary, Binary, TypeExpression, Arguments, Operation, Call, Receive, Make, Length, Capacity, Right, RightOperation, Values}
 use Rattle.syntax.specs.Measures.{Listing, Entries as EntriesLimit, entries, highest, if_any, type_height, expression_height, expression_longest, arguments_height, arguments_longest, operation_height, operation_longest, right_height, right_longest}
 use Rattle.parser_base.specs.Lexemes.{Lexeme, Literal, Name, Text, Mark}
-use Rattle.parser_base.specs.Spelling.{is_builtin, behind, separated, joined, before, AreAll, expression_words, outer_precedence, IsGrouped, binary_kind}
-use Rattle.parser_base.specs.Reading.{Refusal, Syntax, TooDeep, TooMany, Reading, ◌>>=◌, is_kind, expect, step_at, begins, expression, values}
-use Rattle.parser_base.specs.TypeReading.{type_words, IsType, type_at}
+use Rattle.parser_base.specs.Spelling.{is_builtin, behind, separated, joined, before, AreAll, expression_words, outer_precedence, IsGrouped, binary_kind, type_words, IsType}
+use Rattle.parser_base.specs.Reading.{Refusal, Syntax, TooDeep, TooMany, Reading, ◌>>=◌, is_kind, expect, step_at, begins, expression, values, type_at}
 use Rattle.parser_base.proofs.Marks.{bind_ok, when_ok, ok_is, kind_is, expect_is, bytes_are}
 use Rattle.parser_base.proofs.ListLaws.{ReadBack, Found, High, Entries, IsReadAgain, Separates, listed_again, all_again, ReadsSoundly, listed_sound}
 use Rattle.parser_base.proofs.ExpressionAgain.{reads, EndsExpression, shut, entries-le, height_positive, precedence-lt, none_above, parenthesis_closes, comma_ends, begins_again, values_again}

@@ -6,8 +6,7 @@ use Rattle.scanner.specs.declared.kind.TokenKind.TheVariants as kinds
 use Rattle.syntax.specs.Tree.{Expression, Arguments, Operation, Call, Receive, Make, Length, Capacity, Right, RightOperation, Values, Place, Part, Value, Text as TextPart, Simple, CallAlone, Close, Print, ReceiveAlone, Send, Increment, Decrement, Assign, Define, Update}
 use Rattle.syntax.specs.Measures.{expression_size, arguments_size, operation_size, right_size, part_size, simple_size, if_any}
 use Rattle.parser_base.specs.Lexemes.{Lexeme, Mark}
-use Rattle.parser_base.specs.Spelling.{behind, separated, joined, closing, before, expression_words}
-use Rattle.parser_base.specs.TypeReading.{type_words}
+use Rattle.parser_base.specs.Spelling.{behind, separated, joined, closing, before, expression_words, type_words}
 use Rattle.parser_base.proofs.Sizes.{expression_size-le}
 use Rattle.parser_base.proofs.TypeLaws.{type_size-le}
 use Rattle.parser_simple.specs.Spelling.{name_words, place_words, arguments_words, size_words, operation_words, right_words, part_words, update_kind, simple_words}

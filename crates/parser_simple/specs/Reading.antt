@@ -11,8 +11,7 @@ use Rattle.parser_base.specs.declared.list.Next.{Next}
 use Rattle.parser_base.specs.declared.list.Next.TheVariants.{More, End}
 use Rattle.parser_base.specs.Lexemes.{Lexeme, Literal, Name, Text, Mark}
 use Rattle.parser_base.specs.Spelling.{is_builtin}
-use Rattle.parser_base.specs.Reading.{Refusal, Syntax, TooDeep, TooMany, Reading, ◌>>=◌, is_kind, expect, plain_name, begins, listed, entry_next, values, binary_of, expression}
-use Rattle.parser_base.specs.TypeReading.{type_at}
+use Rattle.parser_base.specs.Reading.{Refusal, Syntax, TooDeep, TooMany, Reading, ◌>>=◌, is_kind, expect, plain_name, begins, listed, entry_next, values, binary_of, expression, type_at}
 use Rattle.parser_simple.specs.declared.form.Form.{Form}
 use Rattle.parser_simple.specs.declared.form.Form.TheVariants as forms
 use Rattle.parser_simple.specs.Spelling.{update_kind}

@@ -8,8 +8,7 @@ use Rattle.syntax.specs.declared.node.BinaryOperator.{BinaryOperator}
 use Rattle.syntax.specs.declared.node.BinaryOperator.TheVariants as binaries
 use Rattle.syntax.specs.Tree.{Expression, Arguments, Operation, Call, Receive, Make, Length, Capacity, Right, RightOperation, Values, Place, Part, Value, Text as TextPart, Simple, CallAlone, Close, Print, ReceiveAlone, Send, Increment, Decrement, Assign, Define, Update}
 use Rattle.parser_base.specs.Lexemes.{Lexeme, Name, Text, Mark}
-use Rattle.parser_base.specs.Spelling.{is_builtin, behind, separated, joined, closing, before, AreAll, AreSome, IsTrailing, outer_precedence, precedence, IsGrouped}
-use Rattle.parser_base.specs.TypeReading.{type_words, IsType}
+use Rattle.parser_base.specs.Spelling.{is_builtin, behind, separated, joined, closing, before, AreAll, AreSome, IsTrailing, outer_precedence, precedence, IsGrouped, type_words, IsType}
 
 -- ---- names and places
 

@@ -16,7 +16,8 @@ use crate::right::{
 use go_text::is_word;
 use parser_base::beside::beside;
 use parser_base::cursor::{Cursor, Word, is_builtin};
-use parser_base::expression::{begins, closed, expression, name_node};
+use parser_base::expression::{begins, closed, expression};
+use parser_base::node::name_node;
 use parser_base::fault::ParseFault;
 use parser_base::found::Found;
 use parser_base::list::{List, Next};

@@ -7,9 +7,8 @@ use Rattle.syntax.specs.declared.node.Direction.TheVariants as directions
 use Rattle.syntax.specs.Tree.{Expression, TypeExpression, NamedType, ParenthesizedType, Channel, Arguments, Operation, Call, Receive, Make, Length, Capacity, Right, Returned, NoValue, ReturnedOperation, ReturnedValue, Statement, Empty, Alone, VarTyped, VarUntyped, Go, Return, Break, Continue}
 use Rattle.syntax.specs.Measures.{Listing, if_any, type_height, right_height, right_longest, returned_height, returned_longest, statement_height, statement_longest}
 use Rattle.parser_base.specs.Lexemes.{Lexeme, Literal, Name, Text, Mark}
-use Rattle.parser_base.specs.Spelling.{is_builtin, before, AreSome, IsGrouped}
-use Rattle.parser_base.specs.Reading.{Syntax, TooDeep, Reading, ◌>>=◌, expect, plain_name, begins, step_at, expression}
-use Rattle.parser_base.specs.TypeReading.{type_words, IsType, type_at}
+use Rattle.parser_base.specs.Spelling.{is_builtin, before, AreSome, IsGrouped, type_words, IsType}
+use Rattle.parser_base.specs.Reading.{Syntax, TooDeep, Reading, ◌>>=◌, expect, plain_name, begins, step_at, expression, type_at}
 use Rattle.parser_base.proofs.Marks.{bind_ok, ok_is, expect_is, plain_name_is, plain_name_again}
 use Rattle.parser_base.proofs.ListLaws.{AreFew, ReadBack, Found, High, Many}
 use Rattle.parser_base.proofs.ExpressionAgain.{shut, begins_again, height_positive, entries-le}

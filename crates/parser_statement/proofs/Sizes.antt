@@ -5,8 +5,7 @@ use Rattle.scanner.specs.declared.kind.TokenKind.TheVariants as kinds
 use Rattle.syntax.specs.Tree.{Right, Comm, Returned, NoValue, ReturnedOperation, ReturnedValue, Statement, Statements, NoStatement, Then, Empty, Alone, VarTyped, VarUntyped, Block, If, For, Select, Go, Return, Break, Continue, Branch, Conditional, Otherwise, NoElse, ElseBlock, ElseIf, Clauses, NoClause, Clause, statements_in}
 use Rattle.syntax.specs.Measures.{right_size, comm_size, returned_size, statement_size, statements_size, branch_size, otherwise_size, clauses_size, if_any}
 use Rattle.parser_base.specs.Lexemes.{Lexeme, Mark}
-use Rattle.parser_base.specs.Spelling.{behind, AreAll, AreSome, separated, joined, before}
-use Rattle.parser_base.specs.TypeReading.{type_words}
+use Rattle.parser_base.specs.Spelling.{behind, AreAll, AreSome, separated, joined, before, type_words}
 use Rattle.parser_base.proofs.TypeLaws.{type_size-le}
 use Rattle.parser_simple.specs.Spelling.{right_words}
 use Rattle.parser_statement.specs.Spelling.{returned_words, initial_words, clause_start, statement_words, body_words, more_words, branch_words, otherwise_words, clauses_words, IsStatement}

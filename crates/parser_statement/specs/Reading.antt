@@ -10,8 +10,7 @@ use Rattle.parser_base.specs.declared.list.Next.{Next}
 use Rattle.parser_base.specs.declared.list.Next.TheVariants.{More, End}
 use Rattle.parser_base.specs.Lexemes.{Lexeme, Name, Mark}
 use Rattle.parser_base.specs.Spelling.{is_builtin}
-use Rattle.parser_base.specs.Reading.{Syntax, TooDeep, TooMany, Reading, ◌>>=◌, expect, plain_name, begins, listed, expression}
-use Rattle.parser_base.specs.TypeReading.{type_at}
+use Rattle.parser_base.specs.Reading.{Syntax, TooDeep, TooMany, Reading, ◌>>=◌, expect, plain_name, begins, listed, expression, type_at}
 use Rattle.parser_simple.specs.Reading.{as_one, behind_mark, needing, begins_with, names, arguments, begins_operation, operation, right, simple}
 use Rattle.parser_header.specs.Reading.{comm, if_header, for_header}
 

@@ -6,8 +6,7 @@ use Rattle.std.specs.Prelude.{ℕ, true, false, List, ◌∷◌, ◌++◌, Optio
 use Rattle.scanner.specs.declared.kind.TokenKind.TheVariants as kinds
 use Rattle.syntax.specs.Tree.{Right, Comm, Returned, NoValue, ReturnedOperation, ReturnedValue, Statement, Empty, Alone, VarTyped, VarUntyped, Block, If, For, Select, Go, Return, Break, Continue, Statements, NoStatement, Then, Branch, Conditional, Otherwise, NoElse, ElseBlock, ElseIf, Clauses, NoClause, Clause}
 use Rattle.parser_base.specs.Lexemes.{Lexeme, Name, Mark}
-use Rattle.parser_base.specs.Spelling.{behind, joined, before, AreSome, IsGrouped}
-use Rattle.parser_base.specs.TypeReading.{type_words, IsType}
+use Rattle.parser_base.specs.Spelling.{behind, joined, before, AreSome, IsGrouped, type_words, IsType}
 use Rattle.parser_simple.specs.Spelling.{name_words, IsName, arguments_words, AreArguments, operation_words, IsOperation, right_words, IsRight, simple_words, IsSimple}
 use Rattle.parser_header.specs.Spelling.{IsAny, comm_words, IsComm, if_head_words, IsIfHead, for_head_words, IsForHead}
 
