@@ -139,8 +139,8 @@ outer_precedence (Binary operator left right) = precedence operator
 outer_precedence expression = 7
 
 -- a built-in function of this name, with what is passed to it
-abbrev pub builtin_words : List ℕ → List Lexeme → List Lexeme
-builtin_words name passed = Name name ∷ Mark kinds.LeftParenthesis ∷ (passed ++ (Mark kinds.RightParenthesis ∷ []))
+abbrev pub builtin_value_words : List ℕ → List Lexeme → List Lexeme
+builtin_value_words name passed = Name name ∷ Mark kinds.LeftParenthesis ∷ (passed ++ (Mark kinds.RightParenthesis ∷ []))
 
 abbrev mutual
   pub expression_words : Expression → List Lexeme
@@ -155,10 +155,10 @@ abbrev mutual
   expression_words (Call function values trailing) =
       Name function ∷ Mark kinds.LeftParenthesis ∷ (expressions_words values ++ closing kinds.Comma kinds.RightParenthesis trailing [])
   expression_words (Receive channel) = Mark kinds.Arrow ∷ expression_words channel
-  expression_words (Make channel) = builtin_words (codes "make") (type_words channel)
-  expression_words (MakeSized channel size) = builtin_words (codes "make") (type_words channel ++ (Mark kinds.Comma ∷ expression_words size))
-  expression_words (Length channel) = builtin_words (codes "len") (expression_words channel)
-  expression_words (Capacity channel) = builtin_words (codes "cap") (expression_words channel)
+  expression_words (Make channel) = builtin_value_words (codes "make") (type_words channel)
+  expression_words (MakeSized channel size) = builtin_value_words (codes "make") (type_words channel ++ (Mark kinds.Comma ∷ expression_words size))
+  expression_words (Length channel) = builtin_value_words (codes "len") (expression_words channel)
+  expression_words (Capacity channel) = builtin_value_words (codes "cap") (expression_words channel)
 
   -- expressions, with a comma between each two
   pub expressions_words : Expressions → List Lexeme
