@@ -20,7 +20,10 @@ pub fn name_node(alloc: Global, name: &[u8]) -> Result<Name, ParseFault>
 }
 
 /// An expression in parentheses, as a node.
-pub(crate) fn parenthesized_node(alloc: Global, inner: ExpressionNode) -> Result<ExpressionNode, ParseFault>
+pub(crate) fn parenthesized_node(
+    alloc: Global,
+    inner: ExpressionNode,
+) -> Result<ExpressionNode, ParseFault>
     ensures ok { IfOk result (λ tree. expression_of tree ≡ Parenthesized (expression_of inner)) }
     ensures err { IfErr result (λ e. e ≡ faults.Memory) }
 {

@@ -159,7 +159,11 @@ fields_shut (f ∷ fs) ws shut = refl
 
 -- only the names of built-in functions make values
 pub plain_makes_none : (name : List ℕ) → is_builtin name ≡ false → makes_value name ≡ false
-plain_makes_none name plain = first_false (makes_value name) (bytes_eq name (codes "close") || bytes_eq name (codes "print") || bytes_eq name (codes "println")) plain
+plain_makes_none name plain =
+    let close = bytes_eq name (codes "close") in
+    let print = bytes_eq name (codes "print") in
+    let println = bytes_eq name (codes "println") in
+    first_false (makes_value name) close (first_false (makes_value name || close) print (first_false (makes_value name || close || print) println plain))
 
 -- a statement that begins with a place has the form of what follows that
 pub led_formed : (literals defining : Bool) (most room : ℕ) (p : Place) (ws : List Lexeme) → IsPlace p

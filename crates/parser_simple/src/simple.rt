@@ -18,9 +18,7 @@ use crate::right::{
 use go_text::is_word;
 use parser_base::beside::beside;
 use parser_base::cursor::{Cursor, Word, is_builtin, makes_value};
-use parser_base::expression::{
-    Measured, argument, begins, closed, expression, resumed_expression,
-};
+use parser_base::expression::{Measured, argument, begins, closed, expression, resumed_expression};
 use parser_base::fault::ParseFault;
 use parser_base::found::Found;
 use parser_base::list::{List, Next};
