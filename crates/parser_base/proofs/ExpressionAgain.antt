@@ -179,7 +179,7 @@ binding_unary ws (Some (Operator o)) e = rw (lt-leb 6 (precedence o) (precedence
 binding_unary ws (Some Period) e = absurd cc
 
 -- no binary operator binds as strongly as a unary one
-none_unary : (ws : List Lexeme) → step_at 7 ws ≡ None → step_at 6 ws ≡ None
+pub none_unary : (ws : List Lexeme) → step_at 7 ws ≡ None → step_at 6 ws ≡ None
 unfolding step_at
 none_unary [] e = refl
 none_unary (Literal value ∷ ws) e = refl

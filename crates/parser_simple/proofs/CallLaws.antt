@@ -21,7 +21,7 @@ use Rattle.parser_base.proofs.Resumed.{IsFirst, Begun, begun, FromFirst, Again, 
 use Rattle.parser_base.proofs.Steps.{then_again, made_again, read_as, needing_again, gave, Sound, made_is, either}
 use Rattle.parser_simple.specs.Spelling.{name_words, IsName, place_words, IsPrimary, arguments_words, AreArguments, simple_words, IsSimple}
 use Rattle.parser_simple.specs.Reading.{behind_mark, begins_with, begins_call, begins_primary, passed, arguments, received, call_of, sent_on, alone_or_sent, called}
-use Rattle.parser_simple.proofs.RightLaws.{value_again, arguments_again, primary_is, value_sound, arguments_sound}
+use Rattle.parser_simple.proofs.RightLaws.{EndsAt, value_again, arguments_again, primary_is, value_sound, arguments_sound}
 
 -- ---- with what an expression begins
 
@@ -128,11 +128,6 @@ call_sends literals most room c v rest function all tail plain are on low few fr
     rw (plain_name_again function (arguments_words all tail) plain)
     (then_again _ (arguments_again literals most room all tail are) (λ high. omega (arith, high, low)) (λ listing. omega (arith, few listing)) (λ low' few'.
     rw on (sent_from literals most room c v rest (call_of function all) tail (from few') grouped ends)))
-
--- no step that binds at least so strongly follows, and nothing that goes on with a name
-pub record EndsAt (literals : Bool) (least : ℕ) (rest : List Lexeme) : Type 0 where
-  pub none : step_at least rest ≡ None
-  pub is_shut : Shut literals rest
 
 -- a call that is the first operand of an expression
 pub record BeginsCall (literals : Bool) (most room least : ℕ) (e : Expression) (rest : List Lexeme) (function : List ℕ) (all : Arguments) (tail : List Lexeme) : Type 0 where

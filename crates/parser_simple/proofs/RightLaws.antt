@@ -1,5 +1,5 @@
 -- Right sides: what is spelt is read, and what is read is spelt so.
-use Rattle.std.proofs.Common.{◌≡◌, ℕ, zero, suc, ◌≤◌, Bool, true, false, max, List, [], ◌∷◌, ◌++◌, length, Ok, refl, sym, ap, ◌∙◌, subst, arith, append_assoc}
+use Rattle.std.proofs.Common.{◌≡◌, ℕ, zero, suc, ◌≤◌, Bool, true, false, Option, None, max, List, [], ◌∷◌, ◌++◌, length, Ok, refl, sym, ap, ◌∙◌, subst, arith, append_assoc}
 use Rattle.scanner.specs.declared.kind.TokenKind.{TokenKind}
 use Rattle.scanner.specs.declared.kind.TokenKind.TheVariants as kinds
 use Rattle.syntax.specs.declared.node.UnaryOperator.TheVariants as unaries
@@ -10,7 +10,7 @@ use Rattle.parser_base.specs.Spelling.{is_builtin, behind, separated, joined, be
 use Rattle.parser_base.specs.Reading.{Syntax, TooMany, Reading, ◌>>=◌, is_kind, expect, step_at, begins, expression, values, argument}
 use Rattle.parser_base.proofs.Marks.{bind_ok, when_ok, expect_is}
 use Rattle.parser_base.proofs.ListLaws.{ReadBack, High, entries-le, Entries, IsReadAgain, Separates, listed_again, all_again, ReadsSoundly, listed_sound}
-use Rattle.parser_base.proofs.ExpressionAgain.{reads, EndsExpression, height_positive, precedence-lt, none_above, parenthesis_closes, comma_ends, begins_again, values_again, argument_again as parenthesized_again}
+use Rattle.parser_base.proofs.ExpressionAgain.{reads, Shut, EndsExpression, height_positive, precedence-lt, none_above, parenthesis_closes, comma_ends, begins_again, values_again, argument_again as parenthesized_again}
 use Rattle.parser_base.proofs.ExpressionSound.{expression_sound, values_sound, argument_sound as parenthesized_sound}
 use Rattle.parser_base.proofs.Steps.{made_again, listed_outcome, gave, Sound, made_is}
 use Rattle.parser_simple.specs.Spelling.{IsPrimary, IsUnary, arguments_words, AreArguments, right_words, IsRight}
@@ -25,6 +25,15 @@ pub record Stops (literals : Bool) (rest : List Lexeme) : Type 0 where
   pub comma : begins_with kinds.Comma rest ≡ false
   pub arrow : begins_with kinds.Arrow rest ≡ false
 
+-- no step that binds at least so strongly follows, and nothing that goes on with a name
+pub record EndsAt (literals : Bool) (least : ℕ) (rest : List Lexeme) : Type 0 where
+  pub none : step_at least rest ≡ None
+  pub is_shut : Shut literals rest
+
+-- what ends an expression ends what binds more strongly
+pub ends_at : (literals : Bool) (least : ℕ) (rest : List Lexeme) → EndsExpression literals rest → EndsAt literals least rest
+ends_at literals least rest ends = record { none = none_above 0 least rest (omega arith) ends.none; is_shut = ends.shut }
+
 -- ---- values and operands
 
 abbrev pub ExpressionOutcome : (literals : Bool) (most room : ℕ) → Reading Expression → Expression → List Lexeme → Type 0
@@ -34,7 +43,7 @@ pub value_again : (literals : Bool) (most room : ℕ) (e : Expression) (rest : L
     → ExpressionOutcome literals most room (expression literals most room 0 (before e rest)) e rest
 value_again literals most room e rest is ends = reads literals most e is room 0 rest (omega arith) ends.none ends.shut
 
-begins_primary_again : (literals : Bool) (e : Expression) (rest : List Lexeme) → IsPrimary literals e → begins_primary (before e rest) ≡ true
+pub begins_primary_again : (literals : Bool) (e : Expression) (rest : List Lexeme) → IsPrimary literals e → begins_primary (before e rest) ≡ true
 unfolding begins_primary
 begins_primary_again literals (Integer value) rest is = refl
 begins_primary_again literals (Named name) rest is = rw is.0 refl
@@ -57,11 +66,10 @@ unfolding primary
 primary_again literals most room e rest is ends =
     rw (begins_primary_again literals e rest is) (reads literals most e is.0 room 7 rest (omega (arith, is.1)) (none_above 0 7 rest (omega arith) ends.none) ends.shut)
 
--- no operation goes on behind what nothing goes on with
-pub received_again : (literals : Bool) (most room : ℕ) (e : Expression) (rest : List Lexeme) → IsUnary literals e → EndsExpression literals rest
+pub received_again : (literals : Bool) (most room : ℕ) (e : Expression) (rest : List Lexeme) → IsUnary literals e → EndsAt literals 6 rest
     → ExpressionOutcome literals most room (received literals most room (Mark kinds.Arrow ∷ before e rest)) e rest
 unfolding expect
-received_again literals most room e rest is ends = reads literals most e is.0 room 6 rest is.1 (none_above 0 6 rest (omega arith) ends.none) ends.shut
+received_again literals most room e rest is ends = reads literals most e is.0 room 6 rest is.1 ends.none ends.is_shut
 
 pub arguments_again : (literals : Bool) (most room : ℕ) (all : Arguments) (rest : List Lexeme) → AreArguments literals all
     → ReadBack (arguments literals most room (arguments_words all rest)) all rest (arguments_height all) room (λ listing. arguments_longest listing all) most

@@ -21,8 +21,8 @@ use Rattle.parser_simple.specs.Reading.{behind_mark, before_mark, begins_with, b
 use Rattle.parser_simple.proofs.PlaceLaws.{names_again, names_sound, place_again, place_sound, places_again, places_sound}
 use Rattle.parser_simple.proofs.FormLaws.{update_again, update_shut, update_no_field, form_strong, plain_makes_none, fields_shut, led_formed, defines_names, no_defines, no_form, led_none}
 use Rattle.parser_simple.proofs.FitLaws.{fits_again, operand_fits}
-use Rattle.parser_simple.proofs.RightLaws.{Stops, ExpressionOutcome, PrimarySound, value_again, primary_again, received_again, arguments_again, argument_again, right_again, right_positive, value_sound, primary_sound, received_sound, argument_sound, right_sound}
-use Rattle.parser_simple.proofs.CallLaws.{no_call, no_parenthesis, Starts, WithCall, WithReceive, WithNeither, starts, EndsAt, sends_by_call, called_sound}
+use Rattle.parser_simple.proofs.RightLaws.{Stops, ends_at, ExpressionOutcome, PrimarySound, value_again, primary_again, received_again, arguments_again, argument_again, right_again, right_positive, value_sound, primary_sound, received_sound, argument_sound, right_sound}
+use Rattle.parser_simple.proofs.CallLaws.{no_call, no_parenthesis, Starts, WithCall, WithReceive, WithNeither, starts, sends_by_call, called_sound}
 
 -- ---- arguments of print and println
 
@@ -320,7 +320,7 @@ found_again literals defining most room s rest is begins stops =
 receive_again : (literals defining : Bool) (most room : ℕ) (c : Expression) (rest : List Lexeme) → IsUnary literals c → Stops literals rest → SimpleOutcome most room (simple literals defining most room (simple_words (ReceiveAlone c) rest)) (ReceiveAlone c) rest
 unfolding simple begins_with
 receive_again literals defining most room c rest is stops =
-    made_again ReceiveAlone (received_again literals most room c rest is stops.ends) (λ high. high) (λ low. low) (λ listing. refl)
+    made_again ReceiveAlone (received_again literals most room c rest is (ends_at literals 6 rest stops.ends)) (λ high. high) (λ low. low) (λ listing. refl)
 
 no_period : (kind : TokenKind) (rest : List Lexeme) (b : Bool) → is_kind kind kinds.Period ≡ b → step_at 0 (Mark kind ∷ rest) ≡ None → b ≡ false
 unfolding step_at
@@ -349,10 +349,6 @@ pub led_channel : (literals defining : Bool) (most room : ℕ) (c : Expression) 
 unfolding form_of
 led_channel literals defining most room c ws is =
     led_none literals defining most room (before c (Mark kinds.Arrow ∷ ws)) (begins_again literals c (Mark kinds.Arrow ∷ ws) is.0) (no_form c (Mark kinds.Arrow ∷ ws) refl)
-
--- what ends an expression ends what binds more strongly
-pub ends_at : (literals : Bool) (least : ℕ) (rest : List Lexeme) → EndsExpression literals rest → EndsAt literals least rest
-ends_at literals least rest ends = record { none = none_above 0 least rest (omega arith) ends.none; is_shut = ends.shut }
 
 -- the channel of a send, by its first operand
 pub channel_begun : (literals : Bool) (c : Expression) (ws : List Lexeme) → IsPrimary literals c → Begun literals c (Mark kinds.Arrow ∷ ws)

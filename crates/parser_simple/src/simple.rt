@@ -190,7 +190,7 @@ fn builtin_call<'a>(
 }
 
 /// A call alone.
-fn call_alone<'a>(
+pub fn call_alone<'a>(
     alloc: Global,
     name: &[u8],
     all: List<'a, ExpressionNode>,
