@@ -4,13 +4,12 @@ use Rattle.std.proofs.lemmas.List.Sums.{sum_by-cons}
 use Rattle.scanner.specs.declared.kind.TokenKind.{TokenKind}
 use Rattle.scanner.specs.declared.kind.TokenKind.TheVariants as kinds
 use Rattle.syntax.specs.declared.node.Direction.TheVariants as directions
-use Rattle.syntax.specs.Tree.{TypeExpression, NamedType, ParenthesizedType, Channel, Expression, Integer, Named, Parenthesized, Selection, Composite, Unary, Binary, Expressions, NoMore, Behind, expressions, Arguments, Operation, Call, Receive, Make, Length, Capacity, Right, RightOperation, Values, Place, Part, Value, Text, Simple, CallAlone, Close, Print, ReceiveAlone, Send, Increment, Decrement, Assign, Define, Update, IfHead, Bare, Semicolon, First, Target, NoTarget, DefineTarget, AssignTarget, ForHead, Forever, While, ForClauses, Range, Comm, CommSend, CommReceive, CommDefine, CommAssign, Returned, NoValue, ReturnedOperation, ReturnedValue, Statement, Empty, Alone, VarTyped, VarUntyped, Block, If, For, Select, Go, Return, Break, Continue, Statements, NoStatement, Then, Otherwise, Branch, Conditional, NoElse, ElseBlock, ElseIf, Clauses, NoClause, Clause, statements_in, Declared, Top, StructTop, FunctionTop, File}
+use Rattle.syntax.specs.Tree.{TypeExpression, NamedType, ParenthesizedType, Channel, Expression, Integer, Named, Parenthesized, Selection, Composite, Unary, Binary, Call, Receive, Make, MakeSized, Length, Capacity, Expressions, NoMore, Behind, expressions, Arguments, Place, Part, Value, Text, Simple, CallAlone, Close, Print, ReceiveAlone, Send, Increment, Decrement, Assign, Define, Update, IfHead, Bare, Semicolon, First, Target, NoTarget, DefineTarget, AssignTarget, ForHead, Forever, While, ForClauses, Range, Comm, CommSend, CommReceive, CommDefine, CommAssign, Returned, NoValue, ReturnedValue, Statement, Empty, Alone, VarTyped, VarUntyped, Block, If, For, Select, Go, Return, Break, Continue, Statements, NoStatement, Then, Otherwise, Branch, Conditional, NoElse, ElseBlock, ElseIf, Clauses, NoClause, Clause, statements_in, Declared, Top, StructTop, FunctionTop, File}
 use Rattle.syntax.specs.Measures.{if_any}
-use Rattle.spans.specs.Words.{type_count, trailing_count, expression_count, values_count, arguments_count, size_count, operation_count, right_count, place_count, part_count, part_step, place_step, simple_count, if_head_count, target_count, for_head_count, second_count, second_name_count, comm_count, returned_count, initial_count, start_count, statement_count, body_count, branch_count, otherwise_count, clauses_count, group_count, group_step, groups_count, block_count, top_count, top_step, file_count}
+use Rattle.spans.specs.Words.{type_count, trailing_count, expression_count, values_count, arguments_count, right_count, place_count, part_count, part_step, place_step, simple_count, if_head_count, target_count, for_head_count, second_count, second_name_count, comm_count, returned_count, initial_count, start_count, statement_count, body_count, branch_count, otherwise_count, clauses_count, group_count, group_step, groups_count, block_count, top_count, top_step, file_count}
 use Rattle.parser_base.specs.Lexemes.{Lexeme, Name, Mark}
-use Rattle.parser_base.specs.Spelling.{behind, separated, joined, closing, before, AreAll, AreSome, binary_kind, expression_words, expressions_words, more_words as more_values}
-use Rattle.parser_base.specs.TypeReading.{type_words}
-use Rattle.parser_simple.specs.Spelling.{name_words, IsName, place_words, IsPlace, arguments_words, size_words, operation_words, right_words, part_words, simple_words, update_kind, IsSimple}
+use Rattle.parser_base.specs.Spelling.{behind, separated, joined, closing, before, AreAll, AreSome, binary_kind, expression_words, expressions_words, more_words as more_values, type_words}
+use Rattle.parser_simple.specs.Spelling.{name_words, IsName, place_words, IsPlace, arguments_words, right_words, part_words, simple_words, update_kind, IsSimple}
 use Rattle.parser_header.specs.Spelling.{if_head_words, IsIfHead, optional, IsAny, target_words, for_head_words, IsForHead, second_name_words, second_place_words, comm_words}
 use Rattle.parser_statement.specs.Spelling.{returned_words, initial_words, clause_start, statement_words, body_words, more_words, branch_words, otherwise_words, clauses_words, IsStatement, IsBody, AreStatements, IsBranch, IsOtherwise, AreClauses}
 use Rattle.parser.specs.Spelling.{declared_words, result_words, block_words, top_words, IsTop, tops_words, words}
@@ -69,6 +68,19 @@ mutual
   expression_counts (Unary operator operand) = omega (arith, expression_counts operand)
   expression_counts (Binary operator left right) =
       omega (arith, expression_counts left, expression_counts right, length-append (expression_words left) (Mark (binary_kind operator) ∷ expression_words right))
+  expression_counts (Call function values trailing) =
+      omega (arith, values_counts values, closing_counts kinds.Comma kinds.RightParenthesis trailing [], length-append (expressions_words values) (closing kinds.Comma kinds.RightParenthesis trailing []))
+  expression_counts (Receive channel) = omega (arith, expression_counts channel)
+  expression_counts (Make channel) = omega (arith, type_before channel (Mark kinds.RightParenthesis ∷ []))
+  expression_counts (MakeSized channel size) =
+      omega (
+        arith,
+        expression_counts size,
+        type_before channel (Mark kinds.Comma ∷ expression_words size),
+        length-append (type_words channel ++ (Mark kinds.Comma ∷ expression_words size)) (Mark kinds.RightParenthesis ∷ []),
+      )
+  expression_counts (Length channel) = omega (arith, expression_counts channel, length-append (expression_words channel) (Mark kinds.RightParenthesis ∷ []))
+  expression_counts (Capacity channel) = omega (arith, expression_counts channel, length-append (expression_words channel) (Mark kinds.RightParenthesis ∷ []))
 
   values_counts : (es : Expressions) → length (expressions_words es) ≡ values_count es - 1
   values_counts NoMore = omega arith
@@ -99,22 +111,8 @@ arguments_counts all rest =
     let close = closing kinds.Comma kinds.RightParenthesis all.trailing rest in
     omega (arith, list_counts kinds.Comma all.values close, closing_counts kinds.Comma kinds.RightParenthesis all.trailing rest)
 
-size_counts : (s : Option Expression) (rest : List Lexeme) → length (size_words s rest) ≡ size_count s + length rest
-size_counts None rest = omega arith
-size_counts (Some s) rest = omega (arith, value_counts s rest)
-
-operation_counts : (o : Operation) (rest : List Lexeme) → length (operation_words o rest) ≡ operation_count o + length rest
-operation_counts (Call f all) rest = omega (arith, arguments_counts all rest)
-operation_counts (Receive c) rest = omega (arith, value_counts c rest)
-operation_counts (Make t s) rest =
-    let close = Mark kinds.RightParenthesis ∷ rest in
-    omega (arith, type_before t (size_words s close), size_counts s close)
-operation_counts (Length c) rest = omega (arith, value_counts c (Mark kinds.RightParenthesis ∷ rest))
-operation_counts (Capacity c) rest = omega (arith, value_counts c (Mark kinds.RightParenthesis ∷ rest))
-
-right_counts : (r : Right) (rest : List Lexeme) → length (right_words r rest) ≡ right_count r + length rest
-right_counts (RightOperation o) rest = operation_counts o rest
-right_counts (Values es) rest = list_counts kinds.Comma es rest
+right_counts : (es : List Expression) (rest : List Lexeme) → length (right_words es rest) ≡ right_count es + length rest
+right_counts es rest = list_counts kinds.Comma es rest
 
 place_counts : (p : Place) (rest : List Lexeme) → length (place_words p rest) ≡ place_count p + length rest
 place_counts p rest = omega (arith, separated_names kinds.Period p.fields rest)
@@ -196,10 +194,9 @@ comm_counts (CommAssign item ok c) rest =
 
 returned_counts : (r : Returned) (rest : List Lexeme) → length (returned_words r rest) ≡ returned_count r + length rest
 returned_counts NoValue rest = omega arith
-returned_counts (ReturnedOperation o) rest = operation_counts o rest
 returned_counts (ReturnedValue e) rest = value_counts e rest
 
-initial_counts : (r : Option Right) (rest : List Lexeme) → length (initial_words r rest) ≡ initial_count r + length rest
+initial_counts : (r : Option (List Expression)) (rest : List Lexeme) → length (initial_words r rest) ≡ initial_count r + length rest
 initial_counts None rest = omega arith
 initial_counts (Some r) rest = omega (arith, right_counts r rest)
 

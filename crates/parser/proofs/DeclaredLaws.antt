@@ -9,14 +9,13 @@ use Rattle.syntax.specs.Measures.{Listing, Entries as EntriesLimit, SelectClause
 use Rattle.parser_base.specs.declared.list.Next.{Next}
 use Rattle.parser_base.specs.declared.list.Next.TheVariants.{More, End}
 use Rattle.parser_base.specs.Lexemes.{Lexeme, Mark}
-use Rattle.parser_base.specs.Spelling.{behind, separated, joined, closing, AreAll, AreSome, IsTrailing}
-use Rattle.parser_base.specs.Reading.{Reading, ◌>>=◌, is_kind, expect, followed, entry_next}
-use Rattle.parser_base.specs.TypeReading.{type_words, IsType, type_at}
+use Rattle.parser_base.specs.Spelling.{behind, separated, joined, closing, AreAll, AreSome, IsTrailing, type_words, IsType}
+use Rattle.parser_base.specs.Reading.{Reading, ◌>>=◌, is_kind, expect, followed, entry_next, type_at}
 use Rattle.parser_base.proofs.Marks.{bind_ok, ok_is, expect_is, expect_again}
-use Rattle.parser_base.proofs.ListLaws.{AreFew, ReadBack, Found, High, Many, all_of}
+use Rattle.parser_base.proofs.ListLaws.{entries-le, AreFew, ReadBack, Found, High, Many, all_of}
 use Rattle.parser_base.proofs.Steps.{then_again, gave}
 use Rattle.parser_base.proofs.TypeLaws.{Found as TypeFound, High as TypeHigh, type_again, type_sound}
-use Rattle.parser_base.proofs.ExpressionAgain.{entries-le, ending_again, more_entries}
+use Rattle.parser_base.proofs.ExpressionAgain.{ending_again, more_entries}
 use Rattle.parser_base.proofs.ExpressionSound.{entry_more_sound, entry_end_sound}
 use Rattle.parser_simple.specs.Spelling.{name_words, IsName}
 use Rattle.parser_simple.specs.Reading.{begins_with, begins_name, names}

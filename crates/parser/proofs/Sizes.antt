@@ -6,8 +6,7 @@ use Rattle.scanner.specs.declared.kind.TokenKind.TheVariants as kinds
 use Rattle.syntax.specs.Tree.{TypeExpression, statements_in, Declared, Struct, Function, Top, StructTop, FunctionTop, File}
 use Rattle.syntax.specs.Measures.{function_size, top_size, size, if_any, type_size, declared_size}
 use Rattle.parser_base.specs.Lexemes.{Lexeme, Mark}
-use Rattle.parser_base.specs.Spelling.{behind, AreAll, AreSome, separated, joined, closing}
-use Rattle.parser_base.specs.TypeReading.{type_words}
+use Rattle.parser_base.specs.Spelling.{behind, AreAll, AreSome, separated, joined, closing, type_words}
 use Rattle.parser_base.proofs.TypeLaws.{type_size-le}
 use Rattle.parser_simple.specs.Spelling.{name_words, IsName}
 use Rattle.parser_simple.proofs.Sizes.{separated_size, closing_size}

@@ -5,14 +5,13 @@ use Rattle.syntax.specs.Tree.{TypeExpression, Statement, statements_in, statemen
 use Rattle.syntax.specs.Measures.{highest, if_any, type_height, statement_height, statement_longest, declared_height, top_height, top_longest}
 use Rattle.syntax.proofs.Lists.{statements-statements_in, statements_in-statements, statements_height-of, statements_longest-of}
 use Rattle.parser_base.specs.Lexemes.{Lexeme, Name, Mark}
-use Rattle.parser_base.specs.Spelling.{behind, separated, joined, closing, AreSome}
-use Rattle.parser_base.specs.Reading.{Syntax, Reading, ◌>>=◌, expect, plain_name, listed}
-use Rattle.parser_base.specs.TypeReading.{type_words, type_at}
+use Rattle.parser_base.specs.Spelling.{behind, separated, joined, closing, AreSome, type_words}
+use Rattle.parser_base.specs.Reading.{Syntax, Reading, ◌>>=◌, expect, plain_name, listed, type_at, as_one}
 use Rattle.parser_base.proofs.Marks.{bind_ok, in_turn, ok_is, expect_is, plain_name_is}
 use Rattle.parser_base.proofs.ListLaws.{AreFew, ReadBack, Found, High, Many, Found as AllFound, High as AllHigh, Many as AllMany, Full, all_again, IsReadAgain, listed_again, listed_sound}
 use Rattle.parser_base.proofs.Steps.{then_again, gave, made_is, either}
 use Rattle.parser_base.proofs.TypeLaws.{Found as TypeFound, High as TypeHigh, type_again, type_sound}
-use Rattle.parser_simple.specs.Reading.{as_one, begins_with}
+use Rattle.parser_simple.specs.Reading.{begins_with}
 use Rattle.parser_statement.specs.Spelling.{statement_words, IsStatement}
 use Rattle.parser_statement.specs.Reading.{statement, statement_next}
 use Rattle.parser.specs.Spelling.{declared_words, struct_words, IsStruct, result_words, IsResult, block_words, function_words, IsFunction, top_words, IsTop}

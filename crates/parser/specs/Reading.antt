@@ -8,9 +8,8 @@ use Rattle.syntax.specs.Measures.{Entries}
 use Rattle.parser_base.specs.declared.list.Next.{Next}
 use Rattle.parser_base.specs.declared.list.Next.TheVariants.{More, End}
 use Rattle.parser_base.specs.Lexemes.{Lexeme}
-use Rattle.parser_base.specs.Reading.{Refusal, Syntax, TooMany, Reading, ◌>>=◌, expect, expect_name, plain_name, listed, followed, entry_next}
-use Rattle.parser_base.specs.TypeReading.{type_at}
-use Rattle.parser_simple.specs.Reading.{as_one, begins_with, begins_name, names}
+use Rattle.parser_base.specs.Reading.{Refusal, Syntax, TooMany, Reading, ◌>>=◌, expect, expect_name, plain_name, listed, followed, entry_next, type_at, as_one}
+use Rattle.parser_simple.specs.Reading.{begins_with, begins_name, names}
 use Rattle.parser_statement.specs.Reading.{statement, statement_next}
 
 -- ---- fields and parameters

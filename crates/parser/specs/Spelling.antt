@@ -5,8 +5,7 @@ use Rattle.std.specs.Prelude.{◌≡◌, Option, Some, None, List, [], ◌∷◌
 use Rattle.scanner.specs.declared.kind.TokenKind.TheVariants as kinds
 use Rattle.syntax.specs.Tree.{TypeExpression, Statement, statements_in, Declared, Struct, Function, Top, StructTop, FunctionTop, File}
 use Rattle.parser_base.specs.Lexemes.{Lexeme, Name, Mark}
-use Rattle.parser_base.specs.Spelling.{behind, joined, closing, AreAll, AreSome, IsTrailing}
-use Rattle.parser_base.specs.TypeReading.{type_words, IsType}
+use Rattle.parser_base.specs.Spelling.{behind, joined, closing, AreAll, AreSome, IsTrailing, type_words, IsType}
 use Rattle.parser_simple.specs.Spelling.{name_words, IsName}
 use Rattle.parser_statement.specs.Spelling.{statement_words, IsStatement}
 

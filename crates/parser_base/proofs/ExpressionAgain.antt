@@ -1,5 +1,5 @@
 -- What is spelt as an expression is read.
-use Rattle.std.proofs.Common.{◌≡◌, ℕ, zero, suc, ◌+◌, ◌-◌, ◌<◌, ◌≤◌, List, [], ◌∷◌, ◌++◌, length, Option, Some, None, Ok, Err, Bool, true, false, leb, max, inl, inr, refl, ap, ◌∙◌, subst, arith, append_assoc}
+use Rattle.std.proofs.Common.{◌≡◌, ℕ, zero, suc, ◌+◌, ◌-◌, ◌<◌, ◌≤◌, List, [], ◌∷◌, ◌++◌, length, Option, Some, None, Ok, Err, Bool, true, false, ◌&&◌, leb, max, inl, inr, refl, ap, ◌∙◌, subst, arith, append_assoc}
 use Rattle.std.proofs.lemmas.Bool.{le-leb, lt-leb, cases_lt}
 use Rattle.scanner.specs.declared.kind.TokenKind.{TokenKind}
 use Rattle.scanner.specs.declared.kind.TokenKind.TheVariants as kinds
@@ -7,17 +7,19 @@ use Rattle.syntax.specs.declared.node.BinaryOperator.{BinaryOperator}
 use Rattle.syntax.specs.declared.node.BinaryOperator.TheVariants as binaries
 use Rattle.syntax.specs.declared.node.UnaryOperator.{UnaryOperator}
 use Rattle.syntax.specs.declared.node.UnaryOperator.TheVariants as unaries
-use Rattle.syntax.specs.Tree.{Expression, Integer, Named, Parenthesized, Selection, Composite, Unary, Binary, Expressions, NoMore, Behind, expressions, expressions_in}
-use Rattle.syntax.specs.Measures.{Listing, Entries, SelectClauses, entries, highest, expression_height, expressions_height, expression_longest, expressions_longest, expressions_count}
+use Rattle.syntax.specs.Tree.{Expression, Integer, Named, Parenthesized, Selection, Composite, Unary, Binary, Call, Receive, Make, MakeSized, Length, Capacity, TypeExpression, Expressions, NoMore, Behind, expressions, expressions_in}
+use Rattle.syntax.specs.Measures.{Listing, Entries, entries, highest, type_height, expression_height, expressions_height, expression_longest, expressions_longest, expressions_count}
 use Rattle.syntax.proofs.Lists.{expressions-expressions_in}
 use Rattle.parser_base.specs.declared.operator.Infix.{Infix}
 use Rattle.parser_base.specs.declared.operator.Infix.TheVariants.{Operator, Period}
 use Rattle.parser_base.specs.declared.list.Next.TheVariants.{More, End}
 use Rattle.parser_base.specs.Lexemes.{Lexeme, Literal, Name, Text, Mark}
-use Rattle.parser_base.specs.Spelling.{is_builtin, behind, joined, separated, closing, before, AreAll, IsTrailing, HasLast, expression_words, expressions_words, more_words, outer_precedence, precedence, IsGrouped, AreGrouped, unary_kind, binary_kind}
-use Rattle.parser_base.specs.Reading.{Reading, TooDeep, TooMany, ◌>>=◌, is_kind, begins, entry_next, value_next, values, composite, named, infix_of, strength, binding, step_at, negated, parenthesized, operand, applied, operation, operations, expression}
+use Rattle.parser_base.specs.Spelling.{is_builtin, behind, joined, separated, closing, before, AreAll, IsTrailing, HasLast, type_words, IsType, builtin_value_words, expression_words, expressions_words, more_words, outer_precedence, precedence, IsGrouped, AreGrouped, unary_kind, binary_kind}
+use Rattle.parser_base.specs.Reading.{Reading, TooDeep, TooMany, ◌>>=◌, as_one, needing, is_kind, expect, begins, entry_next, value_next, values, composite, called, named, to_parenthesis, argument, sized, made, builtin, infix_of, strength, binding, step_at, negated, operand, applied, operation, operations, expression, type_at}
 use Rattle.parser_base.proofs.Marks.{is_kind_same, expect_again, plain_name_again}
-use Rattle.parser_base.proofs.ListLaws.{AreFew, ReadBack, Found, High, Many, Found as AllFound, High as AllHigh, Many as AllMany, Full, Entries as Listed, IsReadAgain, Separates, listed_again, all_again}
+use Rattle.parser_base.proofs.ListLaws.{AreFew, ReadBack, Found, High, Many, Found as AllFound, High as AllHigh, Many as AllMany, Full, entries-le, Entries as Listed, IsReadAgain, Separates, listed_again, all_again}
+use Rattle.parser_base.proofs.Steps.{then_again, made_again, read_as, needing_again}
+use Rattle.parser_base.proofs.TypeLaws.{type_again, type_height_positive, Found as TypeFound, High as TypeHigh}
 
 -- ---- operators
 
@@ -51,7 +53,7 @@ step_again : (s : Infix) → infix_of (step_kind s) ≡ Some s
 step_again (Operator o) = operator_again o
 step_again Period = refl
 
-no_brace : (o : BinaryOperator) → is_kind (binary_kind o) kinds.LeftBrace ≡ false
+pub no_brace : (o : BinaryOperator) → is_kind (binary_kind o) kinds.LeftBrace ≡ false
 no_brace binaries.Add = refl
 no_brace binaries.Subtract = refl
 no_brace binaries.Multiply = refl
@@ -72,12 +74,34 @@ no_brace binaries.GreaterEqual = refl
 no_brace binaries.LogicalAnd = refl
 no_brace binaries.LogicalOr = refl
 
-operand_again : (literals : Bool) (deeper : ℕ → List Lexeme → Reading Expression) (most : ℕ) (o : UnaryOperator) (ws : List Lexeme) → operand literals deeper most (Mark (unary_kind o) ∷ ws) ≡ negated deeper ws (Some o)
+-- no operator is a parenthesis
+pub operator_shut : (o : BinaryOperator) → is_kind (binary_kind o) kinds.LeftParenthesis ≡ false
+operator_shut binaries.Add = refl
+operator_shut binaries.Subtract = refl
+operator_shut binaries.Multiply = refl
+operator_shut binaries.Divide = refl
+operator_shut binaries.Remainder = refl
+operator_shut binaries.And = refl
+operator_shut binaries.Or = refl
+operator_shut binaries.ExclusiveOr = refl
+operator_shut binaries.AndNot = refl
+operator_shut binaries.ShiftLeft = refl
+operator_shut binaries.ShiftRight = refl
+operator_shut binaries.Equal = refl
+operator_shut binaries.NotEqual = refl
+operator_shut binaries.Less = refl
+operator_shut binaries.LessEqual = refl
+operator_shut binaries.Greater = refl
+operator_shut binaries.GreaterEqual = refl
+operator_shut binaries.LogicalAnd = refl
+operator_shut binaries.LogicalOr = refl
+
+unary_again : (literals : Bool) (deeper : ℕ → List Lexeme → Reading Expression) (room most : ℕ) (o : UnaryOperator) (ws : List Lexeme) → operand literals deeper room most (Mark (unary_kind o) ∷ ws) ≡ negated deeper ws (Some o)
 unfolding operand
-operand_again literals deeper most unaries.Plus ws = refl
-operand_again literals deeper most unaries.Negate ws = refl
-operand_again literals deeper most unaries.Not ws = refl
-operand_again literals deeper most unaries.Complement ws = refl
+unary_again literals deeper room most unaries.Plus ws = refl
+unary_again literals deeper room most unaries.Negate ws = refl
+unary_again literals deeper room most unaries.Not ws = refl
+unary_again literals deeper room most unaries.Complement ws = refl
 
 pub precedence-lt : (o : BinaryOperator) → precedence o < 6
 precedence-lt binaries.Add = omega arith
@@ -112,6 +136,12 @@ outer_precedence-le (Selection whole field) = omega arith
 outer_precedence-le (Composite name vs trailing) = omega arith
 outer_precedence-le (Unary o inner) = omega arith
 outer_precedence-le (Binary o l r) = omega (arith, precedence-lt o)
+outer_precedence-le (Call function vs trailing) = omega arith
+outer_precedence-le (Receive channel) = omega arith
+outer_precedence-le (Make channel) = omega arith
+outer_precedence-le (MakeSized channel size) = omega arith
+outer_precedence-le (Length channel) = omega arith
+outer_precedence-le (Capacity channel) = omega arith
 
 binding_up : (a b : ℕ) (ws : List Lexeme) (s : Option Infix) → a ≤ b → binding a ws s ≡ None → binding b ws s ≡ None
 binding_up a b ws None le e = refl
@@ -149,7 +179,7 @@ binding_unary ws (Some (Operator o)) e = rw (lt-leb 6 (precedence o) (precedence
 binding_unary ws (Some Period) e = absurd cc
 
 -- no binary operator binds as strongly as a unary one
-none_unary : (ws : List Lexeme) → step_at 7 ws ≡ None → step_at 6 ws ≡ None
+pub none_unary : (ws : List Lexeme) → step_at 7 ws ≡ None → step_at 6 ws ≡ None
 unfolding step_at
 none_unary [] e = refl
 none_unary (Literal value ∷ ws) e = refl
@@ -161,35 +191,36 @@ pub at_step : (least : ℕ) (s : Infix) (ws : List Lexeme) → least ≤ strengt
 unfolding step_at
 at_step least s ws le = rw (step_again s, le-leb least (strength s) le) refl
 
-past_step : (least : ℕ) (s : Infix) (ws : List Lexeme) → strength s < least → step_at least (Mark (step_kind s) ∷ ws) ≡ None
+pub past_step : (least : ℕ) (s : Infix) (ws : List Lexeme) → strength s < least → step_at least (Mark (step_kind s) ∷ ws) ≡ None
 unfolding step_at
 past_step least s ws lt = rw (step_again s, lt-leb least (strength s) lt) refl
 
 -- ---- what follows
 
--- no brace follows, where that would begin a composite literal
+-- no parenthesis follows, and no brace where that would begin a composite literal
 abbrev pub Shut : (literals : Bool) → List Lexeme → Type 0
-Shut false words = Unit {0}
-Shut true [] = Unit {0}
-Shut true (Literal value ∷ rest) = Unit {0}
-Shut true (Name name ∷ rest) = Unit {0}
-Shut true (Text bytes ∷ rest) = Unit {0}
-Shut true (Mark kind ∷ rest) = is_kind kind kinds.LeftBrace ≡ false
+Shut literals [] = Unit {0}
+Shut literals (Literal value ∷ rest) = Unit {0}
+Shut literals (Name name ∷ rest) = Unit {0}
+Shut literals (Text bytes ∷ rest) = Unit {0}
+Shut literals (Mark kind ∷ rest) = (is_kind kind kinds.LeftParenthesis ≡ false) × ((literals && is_kind kind kinds.LeftBrace) ≡ false)
 
-pub shut : (literals : Bool) (kind : TokenKind) (ws : List Lexeme) → is_kind kind kinds.LeftBrace ≡ false → Shut literals (Mark kind ∷ ws)
-shut false kind ws e = tt
-shut true kind ws e = e
+none_of : (a b : Bool) → b ≡ false → (a && b) ≡ false
+none_of true b e = e
+none_of false b e = refl
+
+pub shut : (literals : Bool) (kind : TokenKind) (ws : List Lexeme) → is_kind kind kinds.LeftParenthesis ≡ false → is_kind kind kinds.LeftBrace ≡ false → Shut literals (Mark kind ∷ ws)
+shut literals kind ws open' brace = (open', none_of literals (is_kind kind kinds.LeftBrace) brace)
 
 named_again : (literals : Bool) (deeper : ℕ → List Lexeme → Reading Expression) (most : ℕ) (name : List ℕ) (rest : List Lexeme) → Shut literals rest → named literals deeper most name rest ≡ Ok (Named name, rest)
 unfolding named
-named_again false deeper most name rest is = refl
-named_again true deeper most name [] is = refl
-named_again true deeper most name (Literal value ∷ rest) is = refl
-named_again true deeper most name (Name bytes ∷ rest) is = refl
-named_again true deeper most name (Text bytes ∷ rest) is = refl
-named_again true deeper most name (Mark kind ∷ rest) is = rw is refl
+named_again literals deeper most name [] is = refl
+named_again literals deeper most name (Literal value ∷ rest) is = refl
+named_again literals deeper most name (Name bytes ∷ rest) is = refl
+named_again literals deeper most name (Text bytes ∷ rest) is = refl
+named_again literals deeper most name (Mark kind ∷ rest) is = rw (is.0, is.1) refl
 
--- no operator and no brace follows that would go on with the expression
+-- nothing follows that would go on with the expression
 pub record EndsExpression (literals : Bool) (rest : List Lexeme) : Type 0 where
   pub none : step_at 0 rest ≡ None
   pub shut : Shut literals rest
@@ -204,10 +235,12 @@ height_positive (Selection whole field) = omega arith
 height_positive (Composite name vs trailing) = omega arith
 height_positive (Unary o operand) = omega arith
 height_positive (Binary o l r) = omega arith
-
-pub entries-le : (listing : Listing) (n : ℕ) → entries listing n ≤ n
-entries-le Entries n = omega arith
-entries-le SelectClauses n = omega arith
+height_positive (Call function vs trailing) = omega arith
+height_positive (Receive channel) = omega arith
+height_positive (Make channel) = omega arith
+height_positive (MakeSized channel size) = omega arith
+height_positive (Length channel) = omega arith
+height_positive (Capacity channel) = omega arith
 
 height_in : (vs : Expressions) → highest expression_height (expressions_in vs) ≡ expressions_height vs
 height_in NoMore = refl
@@ -235,18 +268,18 @@ pub closing_before : (separator close : TokenKind) (trailing : Bool) (rest : Lis
 closing_before separator close true rest = refl
 closing_before separator close false rest = refl
 
-pub composite_words : (vs : Expressions) (trailing : Bool) (rest : List Lexeme)
-    → (expressions_words vs ++ closing kinds.Comma kinds.RightBrace trailing []) ++ rest ≡ joined before (behind kinds.Comma) (expressions_in vs) (closing kinds.Comma kinds.RightBrace trailing rest)
-composite_words vs trailing rest =
-    append_assoc (expressions_words vs) (closing kinds.Comma kinds.RightBrace trailing []) rest
-    ∙ ap (λ (ws : List Lexeme). expressions_words vs ++ ws) (closing_before kinds.Comma kinds.RightBrace trailing rest)
-    ∙ words_in vs (closing kinds.Comma kinds.RightBrace trailing rest)
+pub closed_words : (close : TokenKind) (vs : Expressions) (trailing : Bool) (rest : List Lexeme)
+    → (expressions_words vs ++ closing kinds.Comma close trailing []) ++ rest ≡ joined before (behind kinds.Comma) (expressions_in vs) (closing kinds.Comma close trailing rest)
+closed_words close vs trailing rest =
+    append_assoc (expressions_words vs) (closing kinds.Comma close trailing []) rest
+    ∙ ap (λ (ws : List Lexeme). expressions_words vs ++ ws) (closing_before kinds.Comma close trailing rest)
+    ∙ words_in vs (closing kinds.Comma close trailing rest)
 
 pub grouped_in : (literals : Bool) (vs : Expressions) → AreGrouped literals vs → AreAll (IsGrouped literals) (expressions_in vs)
 grouped_in literals NoMore all = tt
 grouped_in literals (Behind v vs) all = (all.0, grouped_in literals vs all.1)
 
-last_in : (vs : Expressions) (trailing : Bool) → HasLast vs trailing → IsTrailing (expressions_in vs) trailing
+pub last_in : (vs : Expressions) (trailing : Bool) → HasLast vs trailing → IsTrailing (expressions_in vs) trailing
 last_in NoMore trailing last = last
 last_in (Behind v vs) trailing last = tt
 
@@ -267,7 +300,7 @@ data Reads (literals : Bool) (most room least : ℕ) (t : Expression) (rest : Li
 abbrev GoesOn : (literals : Bool) (most : ℕ) → Expression → Type 0
 GoesOn literals most t = (room least : ℕ) (rest : List Lexeme) → least ≤ outer_precedence t → step_at (suc (outer_precedence t)) rest ≡ None → Shut literals rest → Reads literals most room least t rest
 
-stops : (deeper : ℕ → List Lexeme → Reading Expression) (room least turns : ℕ) (left : Expression) (ws : List Lexeme) → 1 ≤ turns → step_at least ws ≡ None → operations deeper room least turns left ws ≡ Ok (left, ws)
+pub stops : (deeper : ℕ → List Lexeme → Reading Expression) (room least turns : ℕ) (left : Expression) (ws : List Lexeme) → 1 ≤ turns → step_at least ws ≡ None → operations deeper room least turns left ws ≡ Ok (left, ws)
 unfolding operations operation
 stops deeper room least zero left ws h e = absurd (omega arith)
 stops deeper room least (suc turns) left ws h e = rw e refl
@@ -287,7 +320,7 @@ one_step : (deeper : ℕ → List Lexeme → Reading Expression) (room least tur
 unfolding operations operation
 one_step deeper room least turns left s ws le low = rw (at_step least s ws le, lt-leb room (expression_height left) low) refl
 
-no_room : (deeper : ℕ → List Lexeme → Reading Expression) (room least turns : ℕ) (left : Expression) (s : Infix) (ws : List Lexeme) → least ≤ strength s → room ≤ expression_height left
+pub no_room : (deeper : ℕ → List Lexeme → Reading Expression) (room least turns : ℕ) (left : Expression) (s : Infix) (ws : List Lexeme) → least ≤ strength s → room ≤ expression_height left
     → operations deeper room least turns left (Mark (step_kind s) ∷ ws) ≡ Err TooDeep
 unfolding operations operation
 no_room deeper room least zero left s ws le high = refl
@@ -323,7 +356,7 @@ reads_binary literals most o l r left right le lt room least rest least-le none 
     let tail = Mark (binary_kind o) ∷ (expression_words r ++ rest) in
     let regroup : expression_words (Binary o l r) ++ rest ≡ expression_words l ++ tail = append_assoc (expression_words l) (Mark (binary_kind o) ∷ expression_words r) rest in
     let begin = ap (expression literals most (suc room) least) regroup in
-    elim (left room least tail (omega arith) (past_step (suc (outer_precedence l)) (Operator o) (expression_words r ++ rest) (omega arith)) (shut literals (binary_kind o) (expression_words r ++ rest) (no_brace o))) [
+    elim (left room least tail (omega arith) (past_step (suc (outer_precedence l)) (Operator o) (expression_words r ++ rest) (omega arith)) (shut literals (binary_kind o) (expression_words r ++ rest) (operator_shut o) (no_brace o))) [
       | Goes turns enough low few e ↦ binary_goes literals most room least turns o l r rest right lt least-le none is_shut enough low few (begin ∙ e)
       | TooHigh high e ↦ TooHigh (omega arith) (begin ∙ e)
       | TooLong listing many e ↦ TooLong listing (omega arith) (begin ∙ e)
@@ -346,43 +379,127 @@ reads_selection literals most whole field goes strong plain room least rest le n
     let tail = Mark kinds.Period ∷ Name field ∷ rest in
     let regroup : expression_words (Selection whole field) ++ rest ≡ expression_words whole ++ tail = append_assoc (expression_words whole) (Mark kinds.Period ∷ Name field ∷ []) rest in
     let begin = ap (expression literals most (suc room) least) regroup in
-    elim (goes room least tail (omega (arith, strong)) (past_step (suc (outer_precedence whole)) Period (Name field ∷ rest) (omega (arith, strong))) (shut literals kinds.Period (Name field ∷ rest) refl)) [
+    elim (goes room least tail (omega (arith, strong)) (past_step (suc (outer_precedence whole)) Period (Name field ∷ rest) (omega (arith, strong))) (shut literals kinds.Period (Name field ∷ rest) refl refl)) [
       | Goes turns enough low few e ↦ selection_goes literals most room least turns whole field rest plain le enough low few (begin ∙ e)
       | TooHigh high e ↦ TooHigh (omega arith) (begin ∙ e)
       | TooLong listing many e ↦ TooLong listing many (begin ∙ e)
     ]
 
-reads_integer : (literals : Bool) (most : ℕ) (value : Option ℕ) → GoesOn literals most (Integer value)
-unfolding expression operand
-reads_integer literals most value room least rest le none is_shut = Goes (suc room) (omega arith) (omega arith) (λ listing. omega arith) refl
+-- how an operand is read below which there are at most so many levels
+abbrev pub IsOperandRead : (literals : Bool) (most : ℕ) → Expression → Type 0
+IsOperandRead literals most t = (room : ℕ) (rest : List Lexeme) → step_at (suc (outer_precedence t)) rest ≡ None → Shut literals rest
+    → ReadBack (operand literals (expression literals most room) room most (expression_words t ++ rest)) t rest (expression_height t) (suc room) (λ listing. expression_longest listing t) most
 
-reads_named : (literals : Bool) (most : ℕ) (name : List ℕ) → is_builtin name ≡ false → GoesOn literals most (Named name)
-unfolding expression operand
-reads_named literals most name plain room least rest le none is_shut =
-    Goes (suc room) (omega arith) (omega arith) (λ listing. omega arith) (rw (plain, named_again literals (expression literals most room) most name rest is_shut) refl)
-
-reads_parenthesized : (literals : Bool) (most : ℕ) (inner : Expression) → IsRead literals most inner → GoesOn literals most (Parenthesized inner)
-unfolding expression operand parenthesized step_at
-reads_parenthesized literals most inner read room least rest le none is_shut =
-    let tail = Mark kinds.RightParenthesis ∷ rest in
-    let regroup : expression_words (Parenthesized inner) ++ rest ≡ Mark kinds.LeftParenthesis ∷ (expression_words inner ++ tail) = ap (λ (ws : List Lexeme). Mark kinds.LeftParenthesis ∷ ws) (append_assoc (expression_words inner) (Mark kinds.RightParenthesis ∷ []) rest) in
-    let begin = ap (expression literals most (suc room) least) regroup in
-    elim (read room 0 tail (omega arith) refl (shut literals kinds.RightParenthesis rest refl)) [
-      | Found low few e ↦ Goes (suc room) (omega arith) (omega arith) few (begin ∙ rw (e, expect_again kinds.RightParenthesis rest) refl)
-      | High high e ↦ TooHigh (omega arith) (begin ∙ rw e refl)
-      | Many listing many e ↦ TooLong listing many (begin ∙ rw e refl)
-    ]
-
-reads_unary : (literals : Bool) (most : ℕ) (o : UnaryOperator) (inner : Expression) → IsRead literals most inner → 6 ≤ outer_precedence inner → GoesOn literals most (Unary o inner)
+-- an expression as it is read behind its first operand
+pub behind_operand : (literals : Bool) (most room least : ℕ) (ws : List Lexeme) (r : Reading Expression) → operand literals (expression literals most room) room most ws ≡ r
+    → expression literals most (suc room) least ws ≡ (r >>= λ first. operations (expression literals most room) (suc room) least (suc room) first.0 first.1)
 unfolding expression
-reads_unary literals most o inner read strong room least rest le none is_shut =
-    let begin : expression literals most (suc room) least (expression_words (Unary o inner) ++ rest) ≡ (negated (expression literals most room) (expression_words inner ++ rest) (Some o) >>= λ first. operations (expression literals most room) (suc room) least (suc room) first.0 first.1) =
-    ap (λ (r : Reading Expression). r >>= λ first. operations (expression literals most room) (suc room) least (suc room) first.0 first.1) (operand_again literals (expression literals most room) most o (expression_words inner ++ rest)) in
-    elim (read room 6 rest strong (none_unary rest none) is_shut) [
-      | Found low few e ↦ Goes (suc room) (omega arith) (omega arith) few (begin ∙ rw e refl)
-      | High high e ↦ TooHigh (omega arith) (begin ∙ rw e refl)
-      | Many listing many e ↦ TooLong listing many (begin ∙ rw e refl)
+behind_operand literals most room least ws r e = ap (λ (x : Reading Expression). x >>= λ first. operations (expression literals most room) (suc room) least (suc room) first.0 first.1) e
+
+operand_goes : (literals : Bool) (most : ℕ) (t : Expression) → IsOperandRead literals most t → GoesOn literals most t
+operand_goes literals most t read room least rest le none is_shut =
+    let words = expression_words t ++ rest in
+    elim (read room rest none is_shut) [
+      | Found low few e ↦ Goes (suc room) (omega (arith, height_positive t)) low few (behind_operand literals most room least words (Ok (t, rest)) e)
+      | High high e ↦ TooHigh high (behind_operand literals most room least words (Err TooDeep) e)
+      | Many listing many e ↦ TooLong listing many (behind_operand literals most room least words (Err (TooMany listing)) e)
     ]
+
+reads_integer : (literals : Bool) (most : ℕ) (value : Option ℕ) → IsOperandRead literals most (Integer value)
+unfolding operand
+reads_integer literals most value room rest none is_shut = Found (omega arith) (λ listing. omega arith) refl
+
+reads_named : (literals : Bool) (most : ℕ) (name : List ℕ) → is_builtin name ≡ false → IsOperandRead literals most (Named name)
+unfolding operand
+reads_named literals most name plain room rest none is_shut =
+    Found (omega arith) (λ listing. omega arith) (rw (plain, named_again literals (expression literals most room) most name rest is_shut) refl)
+
+pub parenthesis_ends : (literals : Bool) (rest : List Lexeme) → EndsExpression literals (Mark kinds.RightParenthesis ∷ rest)
+unfolding step_at
+parenthesis_ends literals rest = record { none = refl; shut = shut literals kinds.RightParenthesis rest refl refl }
+
+to_parenthesis_again : (literals : Bool) (most room : ℕ) (inner : Expression) (rest : List Lexeme) → IsRead literals most inner
+    → ReadBack (to_parenthesis (expression literals most room) (expression_words inner ++ (Mark kinds.RightParenthesis ∷ rest))) inner rest (expression_height inner) room (λ listing. expression_longest listing inner) most
+unfolding to_parenthesis
+to_parenthesis_again literals most room inner rest read =
+    let ends = parenthesis_ends literals rest in
+    then_again _ (read room 0 (Mark kinds.RightParenthesis ∷ rest) (omega arith) ends.none ends.shut) (λ high. high) (λ listing. omega arith)
+    (λ low few. Found low few (rw (expect_again kinds.RightParenthesis rest) refl))
+
+reads_parenthesized : (literals : Bool) (most : ℕ) (inner : Expression) → IsRead literals most inner → IsOperandRead literals most (Parenthesized inner)
+unfolding operand
+reads_parenthesized literals most inner read room rest none is_shut =
+    let regroup = append_assoc (expression_words inner) (Mark kinds.RightParenthesis ∷ []) rest in
+    read_as (ap (λ (ws : List Lexeme). as_one Parenthesized (to_parenthesis (expression literals most room) ws)) regroup)
+    (made_again Parenthesized (to_parenthesis_again literals most room inner rest read) (λ high. omega arith) (λ low. omega arith) (λ listing. refl))
+
+reads_unary : (literals : Bool) (most : ℕ) (o : UnaryOperator) (inner : Expression) → IsRead literals most inner → 6 ≤ outer_precedence inner → IsOperandRead literals most (Unary o inner)
+reads_unary literals most o inner read strong room rest none is_shut =
+    read_as (unary_again literals (expression literals most room) room most o (expression_words inner ++ rest))
+    (made_again (Unary o) (read room 6 rest strong (none_unary rest none) is_shut) (λ high. omega arith) (λ low. omega arith) (λ listing. refl))
+
+-- ---- receives, and calls of built-in functions
+
+reads_receive : (literals : Bool) (most : ℕ) (channel : Expression) → IsRead literals most channel → 6 ≤ outer_precedence channel → IsOperandRead literals most (Receive channel)
+unfolding operand
+reads_receive literals most channel read strong room rest none is_shut =
+    made_again Receive (read room 6 rest strong (none_unary rest none) is_shut) (λ high. omega arith) (λ low. omega arith) (λ listing. refl)
+
+pub type_outcome : (room most : ℕ) (t : TypeExpression) (rest : List Lexeme) → IsType t → ReadBack (type_at room (type_words t ++ rest)) t rest (type_height t) room (λ listing. 0) most
+type_outcome room most t rest is =
+    elim (type_again room t rest is) [
+      | TypeFound low e ↦ Found low (λ listing. omega arith) e
+      | TypeHigh high e ↦ High high e
+    ]
+
+-- a type is at least one level high
+made_plain_again : (literals : Bool) (most room : ℕ) (t : TypeExpression) (rest : List Lexeme) → IsType t
+    → ReadBack (needing 1 room (made (expression literals most room) room (Mark kinds.LeftParenthesis ∷ (type_words t ++ (Mark kinds.RightParenthesis ∷ rest))))) (Make t) rest (suc (type_height t)) (suc room) (λ listing. 0) most
+unfolding made sized expect
+made_plain_again literals most room t rest is =
+    needing_again 1 room (λ none. omega (arith, none, type_height_positive t))
+    (then_again _ (type_outcome room most t (Mark kinds.RightParenthesis ∷ rest) is) (λ high. omega arith) (λ listing. omega arith) (λ low few. Found (omega arith) few refl))
+
+made_sized_again : (literals : Bool) (most room : ℕ) (t : TypeExpression) (s : Expression) (rest : List Lexeme) → IsType t → IsRead literals most s
+    → ReadBack (needing 1 room (made (expression literals most room) room (Mark kinds.LeftParenthesis ∷ (type_words t ++ (Mark kinds.Comma ∷ (expression_words s ++ (Mark kinds.RightParenthesis ∷ rest))))))) (MakeSized t s) rest
+    (suc (max (type_height t) (expression_height s))) (suc room) (λ listing. expression_longest listing s) most
+unfolding made sized expect
+made_sized_again literals most room t s rest is read =
+    needing_again 1 room (λ none. omega (arith, none, type_height_positive t))
+    (then_again _ (type_outcome room most t (Mark kinds.Comma ∷ (expression_words s ++ (Mark kinds.RightParenthesis ∷ rest))) is) (λ high. omega arith) (λ listing. omega arith) (λ low few.
+    made_again (MakeSized t) (to_parenthesis_again literals most room s rest read) (λ high. omega arith) (λ low'. omega arith) (λ listing. refl)))
+
+reads_make : (literals : Bool) (most : ℕ) (t : TypeExpression) → IsType t → IsOperandRead literals most (Make t)
+unfolding operand builtin
+reads_make literals most t is room rest none is_shut =
+    read_as (ap (λ (ws : List Lexeme). needing 1 room (made (expression literals most room) room (Mark kinds.LeftParenthesis ∷ ws))) (append_assoc (type_words t) (Mark kinds.RightParenthesis ∷ []) rest))
+    (made_plain_again literals most room t rest is)
+
+reads_make_sized : (literals : Bool) (most : ℕ) (t : TypeExpression) (s : Expression) → IsType t → IsRead literals most s → IsOperandRead literals most (MakeSized t s)
+unfolding operand builtin
+reads_make_sized literals most t s is read room rest none is_shut =
+    let close = Mark kinds.RightParenthesis ∷ rest in
+    let regroup : ((type_words t ++ (Mark kinds.Comma ∷ expression_words s)) ++ (Mark kinds.RightParenthesis ∷ [])) ++ rest ≡ type_words t ++ (Mark kinds.Comma ∷ (expression_words s ++ close)) =
+    append_assoc (type_words t ++ (Mark kinds.Comma ∷ expression_words s)) (Mark kinds.RightParenthesis ∷ []) rest ∙ append_assoc (type_words t) (Mark kinds.Comma ∷ expression_words s) close in
+    read_as (ap (λ (ws : List Lexeme). needing 1 room (made (expression literals most room) room (Mark kinds.LeftParenthesis ∷ ws))) regroup)
+    (made_sized_again literals most room t s rest is read)
+
+pub argument_again : (literals : Bool) (most room : ℕ) (e : Expression) (rest : List Lexeme) → IsRead literals most e
+    → ReadBack (argument (expression literals most room) (Mark kinds.LeftParenthesis ∷ (expression_words e ++ (Mark kinds.RightParenthesis ∷ rest)))) e rest (expression_height e) room (λ listing. expression_longest listing e) most
+unfolding argument expect
+argument_again literals most room e rest read = to_parenthesis_again literals most room e rest read
+
+reads_length : (literals : Bool) (most : ℕ) (channel : Expression) → IsRead literals most channel → IsOperandRead literals most (Length channel)
+unfolding operand builtin
+reads_length literals most channel read room rest none is_shut =
+    read_as (ap (λ (ws : List Lexeme). needing 1 room (as_one Length (argument (expression literals most room) (Mark kinds.LeftParenthesis ∷ ws)))) (append_assoc (expression_words channel) (Mark kinds.RightParenthesis ∷ []) rest))
+    (needing_again 1 room (λ none. omega (arith, none, height_positive channel)) (made_again Length (argument_again literals most room channel rest read) (λ high. omega arith) (λ low. omega arith) (λ listing. refl)))
+
+reads_capacity : (literals : Bool) (most : ℕ) (channel : Expression) → IsRead literals most channel → IsOperandRead literals most (Capacity channel)
+unfolding operand builtin
+reads_capacity literals most channel read room rest none is_shut =
+    read_as (ap (λ (ws : List Lexeme). needing 1 room (as_one Capacity (argument (expression literals most room) (Mark kinds.LeftParenthesis ∷ ws)))) (append_assoc (expression_words channel) (Mark kinds.RightParenthesis ∷ []) rest))
+    (needing_again 1 room (λ none. omega (arith, none, height_positive channel)) (made_again Capacity (argument_again literals most room channel rest read) (λ high. omega arith) (λ low. omega arith) (λ listing. refl)))
 
 -- ---- lists of values
 
@@ -390,16 +507,17 @@ reads_unary literals most o inner read strong room least rest le none is_shut =
 pub record IsClose (close : TokenKind) : Type 0 where
   pub step : infix_of close ≡ None
   pub brace : is_kind close kinds.LeftBrace ≡ false
+  pub open' : is_kind close kinds.LeftParenthesis ≡ false
   pub comma : is_kind close kinds.Comma ≡ false
   pub begin : (rest : List Lexeme) → begins (Mark close ∷ rest) ≡ false
 
 pub brace_closes : IsClose kinds.RightBrace
 unfolding begins
-brace_closes = record { step = refl; brace = refl; comma = refl; begin = λ rest. refl }
+brace_closes = record { step = refl; brace = refl; open' = refl; comma = refl; begin = λ rest. refl }
 
 pub parenthesis_closes : IsClose kinds.RightParenthesis
 unfolding begins
-parenthesis_closes = record { step = refl; brace = refl; comma = refl; begin = λ rest. refl }
+parenthesis_closes = record { step = refl; brace = refl; open' = refl; comma = refl; begin = λ rest. refl }
 
 abbrev pub listed_values : (literals : Bool) (most room : ℕ) (close : TokenKind) → Listed Expression
 listed_values literals most room close = record {
@@ -429,14 +547,20 @@ begins_again literals (Unary unaries.Not inner) rest g = refl
 begins_again literals (Unary unaries.Complement inner) rest g = refl
 begins_again literals (Binary o l r) rest g =
     ap begins (append_assoc (expression_words l) (Mark (binary_kind o) ∷ expression_words r) rest) ∙ begins_again literals l (Mark (binary_kind o) ∷ (expression_words r ++ rest)) g.0
+begins_again literals (Call function vs trailing) rest g = rw g.0 refl
+begins_again literals (Receive channel) rest g = refl
+begins_again literals (Make channel) rest g = refl
+begins_again literals (MakeSized channel size) rest g = refl
+begins_again literals (Length channel) rest g = refl
+begins_again literals (Capacity channel) rest g = refl
 
 pub comma_ends : (literals : Bool) (rest : List Lexeme) → EndsExpression literals (Mark kinds.Comma ∷ rest)
 unfolding step_at
-comma_ends literals rest = record { none = refl; shut = shut literals kinds.Comma rest refl }
+comma_ends literals rest = record { none = refl; shut = shut literals kinds.Comma rest refl refl }
 
 pub close_ends : (literals : Bool) (close : TokenKind) (rest : List Lexeme) → IsClose close → EndsExpression literals (Mark close ∷ rest)
 unfolding step_at
-close_ends literals close rest is = record { none = rw is.step refl; shut = shut literals close rest is.brace }
+close_ends literals close rest is = record { none = rw is.step refl; shut = shut literals close rest is.open' is.brace }
 
 pub closing_ends : (literals : Bool) (close : TokenKind) (trailing : Bool) (rest : List Lexeme) → IsClose close → EndsExpression literals (closing kinds.Comma close trailing rest)
 closing_ends literals close true rest is = comma_ends literals (Mark close ∷ rest)
@@ -502,45 +626,50 @@ values_again literals most room close [] true rest is grouped read last = absurd
 values_again literals most room close [] false rest is grouped read last = none_values literals most room close rest is
 values_again literals most room close (v ∷ vs) trailing rest is grouped read last = some_values literals most room close v vs trailing rest is grouped read
 
--- ---- composite literals
+-- ---- composite literals and calls
 
-abbrev composed : List ℕ → (List Expression × Bool) × List Lexeme → Reading Expression
-composed name all = Ok (Composite name (expressions all.0.0) all.0.1, all.1)
+-- what is made of a list of values
+collected_again : (make : Expressions → Bool → Expression) (literals : Bool) (most room : ℕ) (close : TokenKind) (vs : Expressions) (trailing : Bool) (rest : List Lexeme) → IsClose close
+    → AreGrouped literals vs → AreAll (IsRead literals most) (expressions_in vs) → HasLast vs trailing
+    → ReadBack (values (expression literals most room) close most (joined before (behind kinds.Comma) (expressions_in vs) (closing kinds.Comma close trailing rest)) >>= λ all. Ok (make (expressions all.0.0) all.0.1, all.1)) (make vs trailing) rest
+    (suc (expressions_height vs)) (suc room) (λ listing. max (entries listing (expressions_count vs)) (expressions_longest listing vs)) most
+collected_again make literals most room close vs trailing rest is grouped read last =
+    let words = joined before (behind kinds.Comma) (expressions_in vs) (closing kinds.Comma close trailing rest) in
+    let again = made_again (λ (found : List Expression × Bool). make (expressions found.0) found.1)
+    (values_again literals most room close (expressions_in vs) trailing rest is (grouped_in literals vs grouped) read (last_in vs trailing last))
+    (λ high. omega (arith, high, height_in vs)) (λ low. omega (arith, low, height_in vs)) (λ listing. rw (count_in vs, longest_in listing vs) refl) in
+    subst (λ (es : Expressions). ReadBack (values (expression literals most room) close most words >>= λ all. Ok (make (expressions all.0.0) all.0.1, all.1)) (make es trailing) rest
+    (suc (expressions_height vs)) (suc room) (λ listing. max (entries listing (expressions_count vs)) (expressions_longest listing vs)) most)
+    (expressions-expressions_in vs) again
 
-abbrev goes_behind : ℕ → ℕ → ℕ → Expression × List Lexeme → Reading Expression
-goes_behind most room least first = operations (expression true most room) (suc room) least (suc room) first.0 first.1
+reads_composite : (literals : Bool) (most : ℕ) (name : List ℕ) (vs : Expressions) (trailing : Bool) → AreAll (IsRead literals most) (expressions_in vs) → IsGrouped literals (Composite name vs trailing) → IsOperandRead literals most (Composite name vs trailing)
+unfolding operand named composite
+reads_composite false most name vs trailing read g room rest none is_shut = let bad = g.0 in absurd cc
+reads_composite true most name vs trailing read g room rest none is_shut =
+    read_as (rw (g.1, closed_words kinds.RightBrace vs trailing rest) refl)
+    (collected_again (Composite name) true most room kinds.RightBrace vs trailing rest brace_closes g.2 read g.3)
 
-composite_goes : (most room least : ℕ) (name : List ℕ) (vs : Expressions) (trailing : Bool) (rest : List Lexeme)
-    → expression true most (suc room) least (expression_words (Composite name vs trailing) ++ rest)
-    ≡ ((values (expression true most room) kinds.RightBrace most (joined before (behind kinds.Comma) (expressions_in vs) (closing kinds.Comma kinds.RightBrace trailing rest)) >>= composed name)
-    >>= goes_behind most room least)
-    → ReadBack (values (expression true most room) kinds.RightBrace most (joined before (behind kinds.Comma) (expressions_in vs) (closing kinds.Comma kinds.RightBrace trailing rest))) (expressions_in vs, trailing) rest
-    (highest expression_height (expressions_in vs)) room (all_longest (expressions_in vs)) most
-    → Reads true most room least (Composite name vs trailing) rest
-composite_goes most room least name vs trailing rest begin (Found low few e) =
-    Goes (suc room) (omega arith) (omega (arith, low, height_in vs))
-    (λ listing. subst (λ (n : ℕ). max (entries listing n) (expressions_longest listing vs) ≤ most) (count_in vs) (omega (arith, few listing, longest_in listing vs)))
-    (begin ∙ rw (e, expressions-expressions_in vs) refl)
-composite_goes most room least name vs trailing rest begin (High high e) = TooHigh (omega (arith, high, height_in vs)) (begin ∙ rw e refl)
-composite_goes most room least name vs trailing rest begin (Many listing many e) =
-    TooLong listing (subst (λ (n : ℕ). most < max (entries listing n) (expressions_longest listing vs)) (count_in vs) (omega (arith, many, longest_in listing vs))) (begin ∙ rw e refl)
-
-reads_composite : (literals : Bool) (most : ℕ) (name : List ℕ) (vs : Expressions) (trailing : Bool) → AreAll (IsRead literals most) (expressions_in vs) → IsGrouped literals (Composite name vs trailing) → GoesOn literals most (Composite name vs trailing)
-unfolding expression operand named composite
-reads_composite false most name vs trailing read g room least rest le none is_shut = let bad = g.0 in absurd cc
-reads_composite true most name vs trailing read g room least rest le none is_shut =
-    composite_goes most room least name vs trailing rest (rw (g.1, composite_words vs trailing rest) refl)
-    (values_again true most room kinds.RightBrace (expressions_in vs) trailing rest brace_closes (grouped_in true vs g.2) read (last_in vs trailing g.3))
+reads_call : (literals : Bool) (most : ℕ) (function : List ℕ) (vs : Expressions) (trailing : Bool) → AreAll (IsRead literals most) (expressions_in vs) → IsGrouped literals (Call function vs trailing) → IsOperandRead literals most (Call function vs trailing)
+unfolding operand named called
+reads_call literals most function vs trailing read g room rest none is_shut =
+    read_as (rw (g.0, closed_words kinds.RightParenthesis vs trailing rest) refl)
+    (collected_again (Call function) literals most room kinds.RightParenthesis vs trailing rest parenthesis_closes g.1 read g.2)
 
 mutual
   goes_on : (literals : Bool) (most : ℕ) (t : Expression) → IsGrouped literals t → GoesOn literals most t
-  goes_on literals most (Integer value) g = reads_integer literals most value
-  goes_on literals most (Named name) g = reads_named literals most name g
-  goes_on literals most (Parenthesized inner) g = reads_parenthesized literals most inner (is_read literals most inner (goes_on literals most inner g))
+  goes_on literals most (Integer value) g = operand_goes literals most (Integer value) (reads_integer literals most value)
+  goes_on literals most (Named name) g = operand_goes literals most (Named name) (reads_named literals most name g)
+  goes_on literals most (Parenthesized inner) g = operand_goes literals most (Parenthesized inner) (reads_parenthesized literals most inner (is_read literals most inner (goes_on literals most inner g)))
   goes_on literals most (Selection whole field) g = reads_selection literals most whole field (goes_on literals most whole g.0) g.1 g.2
-  goes_on literals most (Composite name vs trailing) g = reads_composite literals most name vs trailing (all_read literals most vs g.2) g
-  goes_on literals most (Unary o inner) g = reads_unary literals most o inner (is_read literals most inner (goes_on literals most inner g.0)) g.1
+  goes_on literals most (Composite name vs trailing) g = operand_goes literals most (Composite name vs trailing) (reads_composite literals most name vs trailing (all_read literals most vs g.2) g)
+  goes_on literals most (Unary o inner) g = operand_goes literals most (Unary o inner) (reads_unary literals most o inner (is_read literals most inner (goes_on literals most inner g.0)) g.1)
   goes_on literals most (Binary o l r) g = reads_binary literals most o l r (goes_on literals most l g.0) (is_read literals most r (goes_on literals most r g.1)) g.2 g.3
+  goes_on literals most (Call function vs trailing) g = operand_goes literals most (Call function vs trailing) (reads_call literals most function vs trailing (all_read literals most vs g.1) g)
+  goes_on literals most (Receive channel) g = operand_goes literals most (Receive channel) (reads_receive literals most channel (is_read literals most channel (goes_on literals most channel g.0)) g.1)
+  goes_on literals most (Make channel) g = operand_goes literals most (Make channel) (reads_make literals most channel g)
+  goes_on literals most (MakeSized channel size) g = operand_goes literals most (MakeSized channel size) (reads_make_sized literals most channel size g.0 (is_read literals most size (goes_on literals most size g.1)))
+  goes_on literals most (Length channel) g = operand_goes literals most (Length channel) (reads_length literals most channel (is_read literals most channel (goes_on literals most channel g)))
+  goes_on literals most (Capacity channel) g = operand_goes literals most (Capacity channel) (reads_capacity literals most channel (is_read literals most channel (goes_on literals most channel g)))
 
   all_read : (literals : Bool) (most : ℕ) (vs : Expressions) → AreGrouped literals vs → AreAll (IsRead literals most) (expressions_in vs)
   all_read literals most NoMore g = tt
@@ -549,3 +678,14 @@ mutual
 -- what is spelt is read, or is too high, or has too long a list
 pub reads : (literals : Bool) (most : ℕ) (t : Expression) → IsGrouped literals t → IsRead literals most t
 reads literals most t g = is_read literals most t (goes_on literals most t g)
+
+-- calls and receives, which may also stand alone
+abbrev pub IsLone : Expression → Type 0
+IsLone (Call function values trailing) = Unit {0}
+IsLone (Receive channel) = Unit {0}
+IsLone expression = ⊥
+
+pub lone_read : (literals : Bool) (most : ℕ) (t : Expression) → IsLone t → IsGrouped literals t → IsOperandRead literals most t
+lone_read literals most (Call function vs trailing) lone g = reads_call literals most function vs trailing (all_read literals most vs g.1) g
+lone_read literals most (Receive channel) lone g = reads_receive literals most channel (reads literals most channel g.0) g.1
+lone_read literals most _ lone g = absurd lone

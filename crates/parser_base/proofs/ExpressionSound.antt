@@ -1,5 +1,5 @@
 -- What is read as an expression is spelt so.
-use Rattle.std.proofs.Common.{◌≡◌, ℕ, zero, suc, ◌+◌, ◌<◌, ◌≤◌, max, min, List, [], ◌∷◌, ◌++◌, length, Option, Some, None, Ok, Bool, true, false, cond, leb, inl, inr, refl, ap, ◌∙◌, sym, subst, arith, append_assoc}
+use Rattle.std.proofs.Common.{◌≡◌, ℕ, zero, suc, ◌+◌, ◌<◌, ◌≤◌, max, min, List, [], ◌∷◌, ◌++◌, length, Option, Some, None, Ok, Err, Bool, true, false, cond, ◌&&◌, IsTrue, bytes_eq, codes, leb, inl, inr, refl, ap, ◌∙◌, sym, subst, arith, append_assoc}
 use Rattle.std.proofs.lemmas.Bool.{le-leb, lt-leb, leb-false, cases_lt}
 use Rattle.scanner.specs.declared.kind.TokenKind.{TokenKind}
 use Rattle.scanner.specs.declared.kind.TokenKind.TheVariants as kinds
@@ -7,19 +7,21 @@ use Rattle.syntax.specs.declared.node.BinaryOperator.{BinaryOperator}
 use Rattle.syntax.specs.declared.node.BinaryOperator.TheVariants as binaries
 use Rattle.syntax.specs.declared.node.UnaryOperator.{UnaryOperator}
 use Rattle.syntax.specs.declared.node.UnaryOperator.TheVariants as unaries
-use Rattle.syntax.specs.Tree.{Expression, Integer, Named, Parenthesized, Selection, Composite, Unary, Binary, expressions}
-use Rattle.syntax.specs.Measures.{Entries, entries, highest, expression_height, expression_longest, expressions_longest}
+use Rattle.syntax.specs.Tree.{Expression, Integer, Named, Parenthesized, Selection, Composite, Unary, Binary, TypeExpression, Call, Receive, Make, MakeSized, Length, Capacity, Expressions, expressions}
+use Rattle.syntax.specs.Measures.{Entries, entries, highest, type_height, expression_height, expressions_height, expression_longest, expressions_longest, expressions_count}
 use Rattle.syntax.proofs.Lists.{expressions_in-expressions, expressions_height-of, expressions_longest-of, expressions_count-of}
 use Rattle.parser_base.specs.declared.operator.Infix.{Infix}
 use Rattle.parser_base.specs.declared.operator.Infix.TheVariants.{Operator, Period}
 use Rattle.parser_base.specs.declared.list.Next.{Next}
 use Rattle.parser_base.specs.declared.list.Next.TheVariants.{More, End}
 use Rattle.parser_base.specs.Lexemes.{Lexeme, Literal, Name, Text, Mark}
-use Rattle.parser_base.specs.Spelling.{is_builtin, behind, joined, closing, before, AreAll, AreSome, IsTrailing, HasLast, expression_words, outer_precedence, precedence, IsGrouped, AreGrouped, unary_kind, binary_kind}
-use Rattle.parser_base.specs.Reading.{Reading, Syntax, TooDeep, TooMany, ◌>>=◌, is_kind, expect, begins, closed, behind_separator, entry_next, value_next, values, composite, named, plain_name, binary_of, unary_of, operator_step, infix_of, strength, binding, step_at, negated, parenthesized, operand, applied, operation, operations, expression, listed}
-use Rattle.parser_base.proofs.Marks.{bind_ok, unless_ok, ok_is, kind_is, expect_is, plain_name_is}
-use Rattle.parser_base.proofs.ListLaws.{AreFew, Entries as Listed, ReadsSoundly as EntriesSoundly, listed_sound, ends_with, goes_on_with, all_of}
-use Rattle.parser_base.proofs.ExpressionAgain.{step_kind, precedence-lt, outer_precedence-le, none_above, none_strong, at_step, entries-le, composite_words}
+use Rattle.parser_base.specs.Spelling.{is_builtin, behind, joined, closing, before, AreAll, AreSome, IsTrailing, HasLast, type_words, IsType, expression_words, expressions_words, outer_precedence, precedence, IsGrouped, AreGrouped, unary_kind, binary_kind}
+use Rattle.parser_base.specs.Reading.{Reading, Syntax, TooDeep, TooMany, ◌>>=◌, as_one, needing, is_kind, expect, begins, closed, behind_separator, entry_next, value_next, values, composite, called, named, to_parenthesis, argument, sized, made, builtin, plain_name, binary_of, unary_of, operator_step, infix_of, strength, binding, step_at, negated, operand, applied, operation, operations, expression, listed, type_at}
+use Rattle.parser_base.proofs.Marks.{bind_ok, unless_ok, when_ok, ok_is, kind_is, expect_is, plain_name_is, bytes_are}
+use Rattle.parser_base.proofs.ListLaws.{AreFew, entries-le, Entries as Listed, ReadsSoundly as EntriesSoundly, listed_sound, ends_with, goes_on_with, all_of}
+use Rattle.parser_base.proofs.ExpressionAgain.{step_kind, precedence-lt, outer_precedence-le, none_above, none_strong, at_step, closed_words}
+use Rattle.parser_base.proofs.Steps.{made_is, needing_ok, either}
+use Rattle.parser_base.proofs.TypeLaws.{type_sound}
 
 abbrev some : {A : Type 0} → A → Option A
 some x = Some x
@@ -109,35 +111,67 @@ pub record IsSound (literals : Bool) (most room least : ℕ) (ws : List Lexeme) 
 abbrev pub ReadsSoundly : Bool → ℕ → (ℕ → List Lexeme → Reading Expression) → ℕ → Type 0
 ReadsSoundly literals most deeper room = (least : ℕ) (ws : List Lexeme) (t : Expression) (rest : List Lexeme) → deeper least ws ≡ Ok (t, rest) → IsSound literals most room least ws t rest
 
--- what is no operation and no selection
-record IsOperand (literals : Bool) (most room : ℕ) (ws : List Lexeme) (t : Expression) (rest : List Lexeme) : Type 0 where
-  parts : ws ≡ expression_words t ++ rest
-  grouped : IsGrouped literals t
-  low : expression_height t ≤ room
-  few : AreFew (λ listing. expression_longest listing t) most
-  strong : 6 ≤ outer_precedence t
-  none : step_at (suc (outer_precedence t)) rest ≡ None
+-- what is no operation on two operands and no selection
+pub record IsOperand (literals : Bool) (most room : ℕ) (ws : List Lexeme) (t : Expression) (rest : List Lexeme) : Type 0 where
+  pub parts : ws ≡ expression_words t ++ rest
+  pub grouped : IsGrouped literals t
+  pub low : expression_height t ≤ room
+  pub few : AreFew (λ listing. expression_longest listing t) most
+  pub strong : 6 ≤ outer_precedence t
+  pub none : step_at (suc (outer_precedence t)) rest ≡ None
 
 abbrev with_rest : Expression → List Lexeme → Expression × List Lexeme
 with_rest t rest = (t, rest)
 
-abbrev closes : Expression × List Lexeme → Reading Expression
-closes inner = expect kinds.RightParenthesis inner.1 >>= λ after. Ok (Parenthesized inner.0, after)
+-- an expression before a closing parenthesis
+record IsClosed (literals : Bool) (most room : ℕ) (ws : List Lexeme) (t : Expression) (rest : List Lexeme) : Type 0 where
+  parts : ws ≡ expression_words t ++ (Mark kinds.RightParenthesis ∷ rest)
+  grouped : IsGrouped literals t
+  low : expression_height t ≤ room
+  few : AreFew (λ listing. expression_longest listing t) most
 
-parenthesized_sound : (literals : Bool) (most : ℕ) (deeper : ℕ → List Lexeme → Reading Expression) (room : ℕ) → ReadsSoundly literals most deeper room → (ws : List Lexeme) (t : Expression) (rest : List Lexeme) → parenthesized deeper ws ≡ Ok (t, rest) → IsOperand literals most (suc room) (Mark kinds.LeftParenthesis ∷ ws) t rest
-unfolding parenthesized
-parenthesized_sound literals most deeper room sound ws t rest e =
-    let a = bind_ok (deeper 0 ws) closes (t, rest) e in
-    let b = bind_ok (expect kinds.RightParenthesis a.0.1) (λ after. Ok (Parenthesized a.0.0, after)) (t, rest) a.2 in
+to_parenthesis_sound : (literals : Bool) (most : ℕ) (deeper : ℕ → List Lexeme → Reading Expression) (room : ℕ) → ReadsSoundly literals most deeper room → (ws : List Lexeme) (t : Expression) (rest : List Lexeme) → to_parenthesis deeper ws ≡ Ok (t, rest) → IsClosed literals most room ws t rest
+unfolding to_parenthesis
+to_parenthesis_sound literals most deeper room sound ws t rest e =
+    let a = bind_ok (deeper 0 ws) (λ inner. expect kinds.RightParenthesis inner.1 >>= λ after. Ok (with_rest inner.0 after)) (t, rest) e in
+    let b = bind_ok (expect kinds.RightParenthesis a.0.1) (λ after. Ok (with_rest a.0.0 after)) (t, rest) a.2 in
     let s = sound 0 ws a.0.0 a.0.1 a.1 in
     let c = expect_is kinds.RightParenthesis a.0.1 b.0 b.1 in
-    subst (λ (x : Expression × List Lexeme). IsOperand literals most (suc room) (Mark kinds.LeftParenthesis ∷ ws) x.0 x.1) (ok_is (with_rest (Parenthesized a.0.0) b.0) (t, rest) b.2) (record {
-      parts = ap (λ (x : List Lexeme). Mark kinds.LeftParenthesis ∷ x) (s.parts ∙ ap (λ (x : List Lexeme). expression_words a.0.0 ++ x) c ∙ sym (append_assoc (expression_words a.0.0) (Mark kinds.RightParenthesis ∷ []) b.0));
+    subst (λ (x : Expression × List Lexeme). IsClosed literals most room ws x.0 x.1) (ok_is (with_rest a.0.0 b.0) (t, rest) b.2) (record {
+      parts = s.parts ∙ ap (λ (x : List Lexeme). expression_words a.0.0 ++ x) c;
+      grouped = s.grouped;
+      low = s.low;
+      few = s.few;
+    })
+
+-- its words with the parenthesis, before what follows
+closed_parts : (t : Expression) (rest : List Lexeme) → expression_words t ++ (Mark kinds.RightParenthesis ∷ rest) ≡ (expression_words t ++ (Mark kinds.RightParenthesis ∷ [])) ++ rest
+closed_parts t rest = sym (append_assoc (expression_words t) (Mark kinds.RightParenthesis ∷ []) rest)
+
+parenthesized_sound : (literals : Bool) (most : ℕ) (deeper : ℕ → List Lexeme → Reading Expression) (room : ℕ) → ReadsSoundly literals most deeper room → (ws : List Lexeme) (t : Expression) (rest : List Lexeme) → as_one Parenthesized (to_parenthesis deeper ws) ≡ Ok (with_rest t rest) → IsOperand literals most (suc room) (Mark kinds.LeftParenthesis ∷ ws) t rest
+parenthesized_sound literals most deeper room sound ws t rest e =
+    let a = made_is Parenthesized (to_parenthesis deeper ws) t rest e in
+    let s = to_parenthesis_sound literals most deeper room sound ws a.0 rest a.1 in
+    subst (λ (x : Expression). IsOperand literals most (suc room) (Mark kinds.LeftParenthesis ∷ ws) x rest) a.2 (record {
+      parts = ap (λ (x : List Lexeme). Mark kinds.LeftParenthesis ∷ x) (s.parts ∙ closed_parts a.0 rest);
       grouped = s.grouped;
       low = omega (arith, s.low);
       few = s.few;
       strong = omega arith;
-      none = none_strong b.0;
+      none = none_strong rest;
+    })
+
+receive_sound : (literals : Bool) (most : ℕ) (deeper : ℕ → List Lexeme → Reading Expression) (room : ℕ) → ReadsSoundly literals most deeper room → (ws : List Lexeme) (t : Expression) (rest : List Lexeme) → as_one Receive (deeper 6 ws) ≡ Ok (with_rest t rest) → IsOperand literals most (suc room) (Mark kinds.Arrow ∷ ws) t rest
+receive_sound literals most deeper room sound ws t rest e =
+    let a = made_is Receive (deeper 6 ws) t rest e in
+    let s = sound 6 ws a.0 rest a.1 in
+    subst (λ (x : Expression). IsOperand literals most (suc room) (Mark kinds.Arrow ∷ ws) x rest) a.2 (record {
+      parts = ap (λ (x : List Lexeme). Mark kinds.Arrow ∷ x) s.parts;
+      grouped = (s.grouped, omega (arith, s.strong));
+      low = omega (arith, s.low);
+      few = s.few;
+      strong = omega arith;
+      none = none_above 6 7 rest (omega arith) s.none;
     })
 
 negated_sound : (literals : Bool) (most : ℕ) (deeper : ℕ → List Lexeme → Reading Expression) (room : ℕ) → ReadsSoundly literals most deeper room → (kind : TokenKind) (ws : List Lexeme) (o : Option UnaryOperator) (t : Expression) (rest : List Lexeme) → unary_of kind ≡ o → negated deeper ws o ≡ Ok (t, rest) → IsOperand literals most (suc room) (Mark kind ∷ ws) t rest
@@ -277,7 +311,7 @@ pub values_sound : (literals : Bool) (most room : ℕ) (close : TokenKind) (deep
 unfolding values
 values_sound literals most room close deeper sound ws vs trailing rest e = either_values literals most room close deeper sound (begins ws) ws vs trailing rest e
 
--- ---- composite literals and names
+-- ---- composite literals, calls and names
 
 grouped_of : (literals : Bool) (vs : List Expression) → AreAll (IsGrouped literals) vs → AreGrouped literals (expressions vs)
 grouped_of literals [] all = tt
@@ -287,22 +321,61 @@ last_of : (vs : List Expression) (trailing : Bool) → IsTrailing vs trailing �
 last_of [] trailing last = last
 last_of (v ∷ vs) trailing last = tt
 
-composite_sound : (most : ℕ) (deeper : ℕ → List Lexeme → Reading Expression) (room : ℕ) → ReadsSoundly true most deeper room → (name : List ℕ) (ws : List Lexeme) (t : Expression) (rest : List Lexeme) → is_builtin name ≡ false → composite deeper most name ws ≡ Ok (t, rest) → IsOperand true most (suc room) (Name name ∷ Mark kinds.LeftBrace ∷ ws) t rest
-unfolding composite
-composite_sound most deeper room sound name ws t rest plain e =
-    let a = bind_ok (values deeper kinds.RightBrace most ws) (λ all. Ok (with_rest (Composite name (expressions all.0.0) all.0.1) all.1)) (with_rest t rest) e in
+-- the values of a literal or of a call, with its closing mark
+record IsCollected (literals : Bool) (most room : ℕ) (close : TokenKind) (make : Expressions → Bool → Expression) (ws : List Lexeme) (t : Expression) (rest : List Lexeme) : Type 0 where
+  vs : Expressions
+  trailing : Bool
+  is : make vs trailing ≡ t
+  parts : ws ≡ (expressions_words vs ++ closing kinds.Comma close trailing []) ++ rest
+  grouped : AreGrouped literals vs
+  last : HasLast vs trailing
+  low : expressions_height vs ≤ room
+  few : AreFew (λ listing. max (entries listing (expressions_count vs)) (expressions_longest listing vs)) most
+
+collected_sound : (literals : Bool) (most room : ℕ) (close : TokenKind) (make : Expressions → Bool → Expression) (deeper : ℕ → List Lexeme → Reading Expression) → ReadsSoundly literals most deeper room → (ws : List Lexeme) (t : Expression) (rest : List Lexeme)
+    → (values deeper close most ws >>= λ all. Ok (with_rest (make (expressions all.0.0) all.0.1) all.1)) ≡ Ok (with_rest t rest) → IsCollected literals most room close make ws t rest
+collected_sound literals most room close make deeper sound ws t rest e =
+    let a = bind_ok (values deeper close most ws) (λ all. Ok (with_rest (make (expressions all.0.0) all.0.1) all.1)) (with_rest t rest) e in
     let vs = a.0.0.0 in
     let trailing = a.0.0.1 in
-    let v = values_sound true most room kinds.RightBrace deeper sound ws vs trailing a.0.1 a.1 in
-    let same = ap (λ (xs : List Expression). joined before (behind kinds.Comma) xs (closing kinds.Comma kinds.RightBrace trailing a.0.1)) (expressions_in-expressions vs) in
-    let parts = v.parts ∙ sym same ∙ sym (composite_words (expressions vs) trailing a.0.1) in
-    subst (λ (x : Expression × List Lexeme). IsOperand true most (suc room) (Name name ∷ Mark kinds.LeftBrace ∷ ws) x.0 x.1) (ok_is (with_rest (Composite name (expressions vs) trailing) a.0.1) (with_rest t rest) a.2) (record {
-      parts = ap (λ (x : List Lexeme). Name name ∷ Mark kinds.LeftBrace ∷ x) parts;
-      grouped = (refl, plain, grouped_of true vs v.are, last_of vs trailing v.last);
+    let v = values_sound literals most room close deeper sound ws vs trailing a.0.1 a.1 in
+    let made = ok_is (with_rest (make (expressions vs) trailing) a.0.1) (with_rest t rest) a.2 in
+    let same = ap (λ (xs : List Expression). joined before (behind kinds.Comma) xs (closing kinds.Comma close trailing a.0.1)) (expressions_in-expressions vs) in
+    subst (λ (x : Expression × List Lexeme). IsCollected literals most room close make ws x.0 x.1) made (record {
+      vs = expressions vs;
+      trailing = trailing;
+      is = refl;
+      parts = v.parts ∙ sym same ∙ sym (closed_words close (expressions vs) trailing a.0.1);
+      grouped = grouped_of literals vs v.are;
+      last = last_of vs trailing v.last;
       low = omega (arith, v.low, expressions_height-of vs);
       few = λ listing. subst (λ (n : ℕ). max (entries listing n) (expressions_longest listing (expressions vs)) ≤ most) (sym (expressions_count-of vs)) (omega (arith, v.few listing, expressions_longest-of listing vs));
+    })
+
+composite_sound : (literals : Bool) (most : ℕ) (deeper : ℕ → List Lexeme → Reading Expression) (room : ℕ) → ReadsSoundly literals most deeper room → (name : List ℕ) (ws : List Lexeme) (t : Expression) (rest : List Lexeme) → IsTrue literals → is_builtin name ≡ false → composite deeper most name ws ≡ Ok (with_rest t rest) → IsOperand literals most (suc room) (Name name ∷ Mark kinds.LeftBrace ∷ ws) t rest
+unfolding composite
+composite_sound literals most deeper room sound name ws t rest here plain e =
+    let c = collected_sound literals most room kinds.RightBrace (Composite name) deeper sound ws t rest e in
+    subst (λ (x : Expression). IsOperand literals most (suc room) (Name name ∷ Mark kinds.LeftBrace ∷ ws) x rest) c.is (record {
+      parts = ap (λ (x : List Lexeme). Name name ∷ Mark kinds.LeftBrace ∷ x) c.parts;
+      grouped = (here, plain, c.grouped, c.last);
+      low = omega (arith, c.low);
+      few = c.few;
       strong = omega arith;
-      none = none_strong a.0.1;
+      none = none_strong rest;
+    })
+
+called_sound : (literals : Bool) (most : ℕ) (deeper : ℕ → List Lexeme → Reading Expression) (room : ℕ) → ReadsSoundly literals most deeper room → (name : List ℕ) (ws : List Lexeme) (t : Expression) (rest : List Lexeme) → is_builtin name ≡ false → called deeper most name ws ≡ Ok (with_rest t rest) → IsOperand literals most (suc room) (Name name ∷ Mark kinds.LeftParenthesis ∷ ws) t rest
+unfolding called
+called_sound literals most deeper room sound name ws t rest plain e =
+    let c = collected_sound literals most room kinds.RightParenthesis (Call name) deeper sound ws t rest e in
+    subst (λ (x : Expression). IsOperand literals most (suc room) (Name name ∷ Mark kinds.LeftParenthesis ∷ ws) x rest) c.is (record {
+      parts = ap (λ (x : List Lexeme). Name name ∷ Mark kinds.LeftParenthesis ∷ x) c.parts;
+      grouped = (plain, c.grouped, c.last);
+      low = omega (arith, c.low);
+      few = c.few;
+      strong = omega arith;
+      none = none_strong rest;
     })
 
 name_sound : (literals : Bool) (most : ℕ) (room : ℕ) (name : List ℕ) (ws : List Lexeme) (t : Expression) (rest : List Lexeme) → is_builtin name ≡ false → with_rest (Named name) ws ≡ with_rest t rest → IsOperand literals most (suc room) (Name name ∷ ws) t rest
@@ -316,43 +389,189 @@ name_sound literals most room name ws t rest plain e =
       none = none_strong ws;
     })
 
-brace_sound : (most : ℕ) (deeper : ℕ → List Lexeme → Reading Expression) (room : ℕ) → ReadsSoundly true most deeper room → (name : List ℕ) (kind : TokenKind) (b : Bool) (ws : List Lexeme) (t : Expression) (rest : List Lexeme) → is_builtin name ≡ false → is_kind kind kinds.LeftBrace ≡ b
-    → cond b (composite deeper most name ws) (Ok (with_rest (Named name) (Mark kind ∷ ws))) ≡ Ok (with_rest t rest) → IsOperand true most (suc room) (Name name ∷ Mark kind ∷ ws) t rest
-brace_sound most deeper room sound name kind true ws t rest plain is e =
-    subst (λ (k : TokenKind). IsOperand true most (suc room) (Name name ∷ Mark k ∷ ws) t rest) (sym (kind_is kind kinds.LeftBrace is)) (composite_sound most deeper room sound name ws t rest plain e)
-brace_sound most deeper room sound name kind false ws t rest plain is e = name_sound true most room name (Mark kind ∷ ws) t rest plain (ok_is (with_rest (Named name) (Mark kind ∷ ws)) (with_rest t rest) e)
+both_hold : (a b : Bool) → (a && b) ≡ true → IsTrue a × (b ≡ true)
+both_hold true b e = (refl, e)
+both_hold false b e = absurd cc
+
+mark_behind_sound : (literals : Bool) (most : ℕ) (deeper : ℕ → List Lexeme → Reading Expression) (room : ℕ) → ReadsSoundly literals most deeper room → (name : List ℕ) (kind : TokenKind) (ws : List Lexeme) (t : Expression) (rest : List Lexeme) → is_builtin name ≡ false
+    → cond (is_kind kind kinds.LeftParenthesis) (called deeper most name ws) (cond (literals && is_kind kind kinds.LeftBrace) (composite deeper most name ws) (Ok (with_rest (Named name) (Mark kind ∷ ws)))) ≡ Ok (with_rest t rest)
+    → IsOperand literals most (suc room) (Name name ∷ Mark kind ∷ ws) t rest
+mark_behind_sound literals most deeper room sound name kind ws t rest plain e =
+    let on = λ (k : TokenKind). IsOperand literals most (suc room) (Name name ∷ Mark k ∷ ws) t rest in
+    let alone = Ok (with_rest (Named name) (Mark kind ∷ ws)) in
+    elim (either (is_kind kind kinds.LeftParenthesis) (called deeper most name ws) (cond (literals && is_kind kind kinds.LeftBrace) (composite deeper most name ws) alone) (with_rest t rest) e) [
+      | inl c ↦ subst on (sym (kind_is kind kinds.LeftParenthesis c.0)) (called_sound literals most deeper room sound name ws t rest plain c.1)
+      | inr other ↦ elim (either (literals && is_kind kind kinds.LeftBrace) (composite deeper most name ws) alone (with_rest t rest) other.1) [
+        | inl c ↦
+            let both = both_hold literals (is_kind kind kinds.LeftBrace) c.0 in
+            subst on (sym (kind_is kind kinds.LeftBrace both.1)) (composite_sound literals most deeper room sound name ws t rest both.0 plain c.1)
+        | inr n ↦ name_sound literals most room name (Mark kind ∷ ws) t rest plain (ok_is (with_rest (Named name) (Mark kind ∷ ws)) (with_rest t rest) n.1)
+      ]
+    ]
 
 named_sound : (literals : Bool) (most : ℕ) (deeper : ℕ → List Lexeme → Reading Expression) (room : ℕ) → ReadsSoundly literals most deeper room → (name : List ℕ) (ws : List Lexeme) (t : Expression) (rest : List Lexeme) → is_builtin name ≡ false → named literals deeper most name ws ≡ Ok (with_rest t rest) → IsOperand literals most (suc room) (Name name ∷ ws) t rest
 unfolding named
-named_sound false most deeper room sound name ws t rest plain e = name_sound false most room name ws t rest plain (ok_is (with_rest (Named name) ws) (with_rest t rest) e)
-named_sound true most deeper room sound name [] t rest plain e = name_sound true most room name [] t rest plain (ok_is (with_rest (Named name) []) (with_rest t rest) e)
-named_sound true most deeper room sound name (Literal value ∷ ws) t rest plain e = name_sound true most room name (Literal value ∷ ws) t rest plain (ok_is (with_rest (Named name) (Literal value ∷ ws)) (with_rest t rest) e)
-named_sound true most deeper room sound name (Name bytes ∷ ws) t rest plain e = name_sound true most room name (Name bytes ∷ ws) t rest plain (ok_is (with_rest (Named name) (Name bytes ∷ ws)) (with_rest t rest) e)
-named_sound true most deeper room sound name (Text bytes ∷ ws) t rest plain e = name_sound true most room name (Text bytes ∷ ws) t rest plain (ok_is (with_rest (Named name) (Text bytes ∷ ws)) (with_rest t rest) e)
-named_sound true most deeper room sound name (Mark kind ∷ ws) t rest plain e = brace_sound most deeper room sound name kind (is_kind kind kinds.LeftBrace) ws t rest plain refl e
+named_sound literals most deeper room sound name [] t rest plain e = name_sound literals most room name [] t rest plain (ok_is (with_rest (Named name) []) (with_rest t rest) e)
+named_sound literals most deeper room sound name (Literal value ∷ ws) t rest plain e = name_sound literals most room name (Literal value ∷ ws) t rest plain (ok_is (with_rest (Named name) (Literal value ∷ ws)) (with_rest t rest) e)
+named_sound literals most deeper room sound name (Name bytes ∷ ws) t rest plain e = name_sound literals most room name (Name bytes ∷ ws) t rest plain (ok_is (with_rest (Named name) (Name bytes ∷ ws)) (with_rest t rest) e)
+named_sound literals most deeper room sound name (Text bytes ∷ ws) t rest plain e = name_sound literals most room name (Text bytes ∷ ws) t rest plain (ok_is (with_rest (Named name) (Text bytes ∷ ws)) (with_rest t rest) e)
+named_sound literals most deeper room sound name (Mark kind ∷ ws) t rest plain e = mark_behind_sound literals most deeper room sound name kind ws t rest plain e
+
+-- ---- calls of built-in functions
+
+-- one argument in parentheses
+pub argument_sound : (literals : Bool) (most : ℕ) (deeper : ℕ → List Lexeme → Reading Expression) (room : ℕ) → ReadsSoundly literals most deeper room → (ws : List Lexeme) (t : Expression) (rest : List Lexeme) → argument deeper ws ≡ Ok (with_rest t rest)
+    → (ws ≡ Mark kinds.LeftParenthesis ∷ (expression_words t ++ (Mark kinds.RightParenthesis ∷ rest))) × IsGrouped literals t × (expression_height t ≤ room) × AreFew (λ listing. expression_longest listing t) most
+unfolding argument
+argument_sound literals most deeper room sound ws t rest e =
+    let a = bind_ok (expect kinds.LeftParenthesis ws) (to_parenthesis deeper) (with_rest t rest) e in
+    let s = to_parenthesis_sound literals most deeper room sound a.0 t rest a.2 in
+    (expect_is kinds.LeftParenthesis ws a.0 a.1 ∙ ap (λ (x : List Lexeme). Mark kinds.LeftParenthesis ∷ x) s.parts, s.grouped, s.low, s.few)
+
+length_sound : (literals : Bool) (most : ℕ) (deeper : ℕ → List Lexeme → Reading Expression) (room : ℕ) → ReadsSoundly literals most deeper room → (ws : List Lexeme) (t : Expression) (rest : List Lexeme) → as_one Length (argument deeper ws) ≡ Ok (with_rest t rest) → IsOperand literals most (suc room) (Name (codes "len") ∷ ws) t rest
+length_sound literals most deeper room sound ws t rest e =
+    let a = made_is Length (argument deeper ws) t rest e in
+    let s = argument_sound literals most deeper room sound ws a.0 rest a.1 in
+    subst (λ (x : Expression). IsOperand literals most (suc room) (Name (codes "len") ∷ ws) x rest) a.2 (record {
+      parts = ap (λ (x : List Lexeme). Name (codes "len") ∷ x) (s.0 ∙ ap (λ (x : List Lexeme). Mark kinds.LeftParenthesis ∷ x) (closed_parts a.0 rest));
+      grouped = s.1;
+      low = omega (arith, s.2);
+      few = s.3;
+      strong = omega arith;
+      none = none_strong rest;
+    })
+
+capacity_sound : (literals : Bool) (most : ℕ) (deeper : ℕ → List Lexeme → Reading Expression) (room : ℕ) → ReadsSoundly literals most deeper room → (ws : List Lexeme) (t : Expression) (rest : List Lexeme) → as_one Capacity (argument deeper ws) ≡ Ok (with_rest t rest) → IsOperand literals most (suc room) (Name (codes "cap") ∷ ws) t rest
+capacity_sound literals most deeper room sound ws t rest e =
+    let a = made_is Capacity (argument deeper ws) t rest e in
+    let s = argument_sound literals most deeper room sound ws a.0 rest a.1 in
+    subst (λ (x : Expression). IsOperand literals most (suc room) (Name (codes "cap") ∷ ws) x rest) a.2 (record {
+      parts = ap (λ (x : List Lexeme). Name (codes "cap") ∷ x) (s.0 ∙ ap (λ (x : List Lexeme). Mark kinds.LeftParenthesis ∷ x) (closed_parts a.0 rest));
+      grouped = s.1;
+      low = omega (arith, s.2);
+      few = s.3;
+      strong = omega arith;
+      none = none_strong rest;
+    })
+
+-- a `make` behind its type
+record IsMade (literals : Bool) (most room : ℕ) (channel : TypeExpression) (ws : List Lexeme) (t : Expression) (rest : List Lexeme) : Type 0 where
+  parts : Name (codes "make") ∷ Mark kinds.LeftParenthesis ∷ (type_words channel ++ ws) ≡ expression_words t ++ rest
+  grouped : IsType channel → IsGrouped literals t
+  low : type_height channel ≤ room → expression_height t ≤ suc room
+  few : AreFew (λ listing. expression_longest listing t) most
+  strong : outer_precedence t ≡ 7
+
+plain_made : (literals : Bool) (most room : ℕ) (channel : TypeExpression) (rest : List Lexeme) → IsMade literals most room channel (Mark kinds.RightParenthesis ∷ rest) (Make channel) rest
+plain_made literals most room channel rest = record {
+  parts = ap (λ (x : List Lexeme). Name (codes "make") ∷ Mark kinds.LeftParenthesis ∷ x) (sym (append_assoc (type_words channel) (Mark kinds.RightParenthesis ∷ []) rest));
+  grouped = λ is. is;
+  low = λ low. omega (arith, low);
+  few = λ listing. omega arith;
+  strong = refl;
+}
+
+sized_words : (channel : TypeExpression) (size : Expression) (rest : List Lexeme)
+    → type_words channel ++ (Mark kinds.Comma ∷ (expression_words size ++ (Mark kinds.RightParenthesis ∷ rest))) ≡ ((type_words channel ++ (Mark kinds.Comma ∷ expression_words size)) ++ (Mark kinds.RightParenthesis ∷ [])) ++ rest
+sized_words channel size rest =
+    sym (append_assoc (type_words channel ++ (Mark kinds.Comma ∷ expression_words size)) (Mark kinds.RightParenthesis ∷ []) rest
+    ∙ append_assoc (type_words channel) (Mark kinds.Comma ∷ expression_words size) (Mark kinds.RightParenthesis ∷ rest))
+
+with_size : (literals : Bool) (most : ℕ) (deeper : ℕ → List Lexeme → Reading Expression) (room : ℕ) → ReadsSoundly literals most deeper room → (channel : TypeExpression) (ws : List Lexeme) (t : Expression) (rest : List Lexeme)
+    → as_one (MakeSized channel) (to_parenthesis deeper ws) ≡ Ok (with_rest t rest) → IsMade literals most room channel (Mark kinds.Comma ∷ ws) t rest
+with_size literals most deeper room sound channel ws t rest e =
+    let a = made_is (MakeSized channel) (to_parenthesis deeper ws) t rest e in
+    let s = to_parenthesis_sound literals most deeper room sound ws a.0 rest a.1 in
+    let behind_type = ap (λ (x : List Lexeme). type_words channel ++ (Mark kinds.Comma ∷ x)) s.parts ∙ sized_words channel a.0 rest in
+    subst (λ (x : Expression). IsMade literals most room channel (Mark kinds.Comma ∷ ws) x rest) a.2 (record {
+      parts = ap (λ (x : List Lexeme). Name (codes "make") ∷ Mark kinds.LeftParenthesis ∷ x) behind_type;
+      grouped = λ is. (is, s.grouped);
+      low = λ low. omega (arith, low, s.low);
+      few = s.few;
+      strong = refl;
+    })
+
+sized_sound : (literals : Bool) (most : ℕ) (deeper : ℕ → List Lexeme → Reading Expression) (room : ℕ) → ReadsSoundly literals most deeper room → (channel : TypeExpression) (ws : List Lexeme) (t : Expression) (rest : List Lexeme) → sized deeper channel ws ≡ Ok (with_rest t rest) → IsMade literals most room channel ws t rest
+unfolding sized
+sized_sound literals most deeper room sound channel [] t rest e = absurd cc
+sized_sound literals most deeper room sound channel (Literal value ∷ ws) t rest e = absurd cc
+sized_sound literals most deeper room sound channel (Name bytes ∷ ws) t rest e = absurd cc
+sized_sound literals most deeper room sound channel (Text bytes ∷ ws) t rest e = absurd cc
+sized_sound literals most deeper room sound channel (Mark kind ∷ ws) t rest e =
+    elim (either (is_kind kind kinds.Comma) (as_one (MakeSized channel) (to_parenthesis deeper ws)) (expect kinds.RightParenthesis (Mark kind ∷ ws) >>= λ after. Ok (with_rest (Make channel) after)) (with_rest t rest) e) [
+      | inl c ↦ subst (λ (k : TokenKind). IsMade literals most room channel (Mark k ∷ ws) t rest) (sym (kind_is kind kinds.Comma c.0)) (with_size literals most deeper room sound channel ws t rest c.1)
+      | inr p ↦
+          let a = bind_ok (expect kinds.RightParenthesis (Mark kind ∷ ws)) (λ after. Ok (with_rest (Make channel) after)) (with_rest t rest) p.1 in
+          subst (λ (x : List Lexeme). IsMade literals most room channel x t rest) (sym (expect_is kinds.RightParenthesis (Mark kind ∷ ws) a.0 a.1))
+          (subst (λ (x : Expression × List Lexeme). IsMade literals most room channel (Mark kinds.RightParenthesis ∷ a.0) x.0 x.1) (ok_is (with_rest (Make channel) a.0) (with_rest t rest) a.2) (plain_made literals most room channel a.0))
+    ]
+
+made_sound : (literals : Bool) (most : ℕ) (deeper : ℕ → List Lexeme → Reading Expression) (room : ℕ) → ReadsSoundly literals most deeper room → (ws : List Lexeme) (t : Expression) (rest : List Lexeme) → made deeper room ws ≡ Ok (with_rest t rest) → IsOperand literals most (suc room) (Name (codes "make") ∷ ws) t rest
+unfolding made
+made_sound literals most deeper room sound ws t rest e =
+    let a = bind_ok (expect kinds.LeftParenthesis ws) (λ inside. type_at room inside >>= λ channel. sized deeper channel.0 channel.1) (with_rest t rest) e in
+    let b = bind_ok (type_at room a.0) (λ channel. sized deeper channel.0 channel.1) (with_rest t rest) a.2 in
+    let y = type_sound room a.0 b.0.0 b.0.1 b.1 in
+    let m = sized_sound literals most deeper room sound b.0.0 b.0.1 t rest b.2 in
+    record {
+      parts = ap (λ (x : List Lexeme). Name (codes "make") ∷ x) (expect_is kinds.LeftParenthesis ws a.0 a.1 ∙ ap (λ (x : List Lexeme). Mark kinds.LeftParenthesis ∷ x) y.parts) ∙ m.parts;
+      grouped = m.grouped y.is;
+      low = m.low y.low;
+      few = m.few;
+      strong = omega (arith, m.strong);
+      none = subst (λ (n : ℕ). step_at (suc n) rest ≡ None) (sym m.strong) (none_strong rest);
+    }
+
+builtin_sound : (literals : Bool) (most : ℕ) (deeper : ℕ → List Lexeme → Reading Expression) (room : ℕ) → ReadsSoundly literals most deeper room → (name : List ℕ) (ws : List Lexeme) (t : Expression) (rest : List Lexeme) → builtin deeper room name ws ≡ Ok (with_rest t rest) → IsOperand literals most (suc room) (Name name ∷ ws) t rest
+unfolding builtin
+builtin_sound literals most deeper room sound name ws t rest e =
+    let on = λ (x : List ℕ). IsOperand literals most (suc room) (Name x ∷ ws) t rest in
+    let makes = needing 1 room (made deeper room ws) in
+    let measures = needing 1 room (as_one Length (argument deeper ws)) in
+    let holds = needing 1 room (as_one Capacity (argument deeper ws)) in
+    elim (either (bytes_eq name (codes "make")) makes (cond (bytes_eq name (codes "len")) measures (cond (bytes_eq name (codes "cap")) holds (Err Syntax))) (with_rest t rest) e) [
+      | inl m ↦ subst on (sym (bytes_are name (codes "make") m.0)) (made_sound literals most deeper room sound ws t rest (needing_ok 1 room (made deeper room ws) (with_rest t rest) m.1))
+      | inr other ↦ elim (either (bytes_eq name (codes "len")) measures (cond (bytes_eq name (codes "cap")) holds (Err Syntax)) (with_rest t rest) other.1) [
+        | inl l ↦ subst on (sym (bytes_are name (codes "len") l.0)) (length_sound literals most deeper room sound ws t rest (needing_ok 1 room (as_one Length (argument deeper ws)) (with_rest t rest) l.1))
+        | inr neither ↦
+            let w = when_ok (bytes_eq name (codes "cap")) Syntax holds (with_rest t rest) neither.1 in
+            subst on (sym (bytes_are name (codes "cap") w.0)) (capacity_sound literals most deeper room sound ws t rest (needing_ok 1 room (as_one Capacity (argument deeper ws)) (with_rest t rest) w.1))
+      ]
+    ]
 
 -- ---- operands and what follows
 
-mark_sound : (literals : Bool) (most : ℕ) (deeper : ℕ → List Lexeme → Reading Expression) (room : ℕ) → ReadsSoundly literals most deeper room → (kind : TokenKind) (ws : List Lexeme) (b : Bool) (t : Expression) (rest : List Lexeme) → is_kind kind kinds.LeftParenthesis ≡ b → cond b (parenthesized deeper ws) (negated deeper ws (unary_of kind)) ≡ Ok (t, rest) → IsOperand literals most (suc room) (Mark kind ∷ ws) t rest
-mark_sound literals most deeper room sound kind ws true t rest is e =
-    subst (λ (k : TokenKind). IsOperand literals most (suc room) (Mark k ∷ ws) t rest) (sym (kind_is kind kinds.LeftParenthesis is)) (parenthesized_sound literals most deeper room sound ws t rest e)
-mark_sound literals most deeper room sound kind ws false t rest is e = negated_sound literals most deeper room sound kind ws (unary_of kind) t rest refl e
+mark_sound : (literals : Bool) (most : ℕ) (deeper : ℕ → List Lexeme → Reading Expression) (room : ℕ) → ReadsSoundly literals most deeper room → (kind : TokenKind) (ws : List Lexeme) (t : Expression) (rest : List Lexeme)
+    → cond (is_kind kind kinds.LeftParenthesis) (as_one Parenthesized (to_parenthesis deeper ws)) (cond (is_kind kind kinds.Arrow) (as_one Receive (deeper 6 ws)) (negated deeper ws (unary_of kind))) ≡ Ok (with_rest t rest)
+    → IsOperand literals most (suc room) (Mark kind ∷ ws) t rest
+mark_sound literals most deeper room sound kind ws t rest e =
+    let on = λ (k : TokenKind). IsOperand literals most (suc room) (Mark k ∷ ws) t rest in
+    elim (either (is_kind kind kinds.LeftParenthesis) (as_one Parenthesized (to_parenthesis deeper ws)) (cond (is_kind kind kinds.Arrow) (as_one Receive (deeper 6 ws)) (negated deeper ws (unary_of kind))) (with_rest t rest) e) [
+      | inl p ↦ subst on (sym (kind_is kind kinds.LeftParenthesis p.0)) (parenthesized_sound literals most deeper room sound ws t rest p.1)
+      | inr other ↦ elim (either (is_kind kind kinds.Arrow) (as_one Receive (deeper 6 ws)) (negated deeper ws (unary_of kind)) (with_rest t rest) other.1) [
+        | inl r ↦ subst on (sym (kind_is kind kinds.Arrow r.0)) (receive_sound literals most deeper room sound ws t rest r.1)
+        | inr u ↦ negated_sound literals most deeper room sound kind ws (unary_of kind) t rest refl u.1
+      ]
+    ]
 
-operand_sound : (literals : Bool) (most : ℕ) (deeper : ℕ → List Lexeme → Reading Expression) (room : ℕ) → ReadsSoundly literals most deeper room → (ws : List Lexeme) (t : Expression) (rest : List Lexeme) → operand literals deeper most ws ≡ Ok (t, rest) → IsOperand literals most (suc room) ws t rest
+pub operand_sound : (literals : Bool) (most : ℕ) (deeper : ℕ → List Lexeme → Reading Expression) (room : ℕ) → ReadsSoundly literals most deeper room → (ws : List Lexeme) (t : Expression) (rest : List Lexeme) → operand literals deeper room most ws ≡ Ok (t, rest) → IsOperand literals most (suc room) ws t rest
 unfolding operand
 operand_sound literals most deeper room sound [] t rest e = absurd cc
 operand_sound literals most deeper room sound (Literal value ∷ ws) t rest e =
     subst (λ (x : Expression × List Lexeme). IsOperand literals most (suc room) (Literal value ∷ ws) x.0 x.1) (ok_is (with_rest (Integer value) ws) (t, rest) e)
     (record { parts = refl; grouped = tt; low = omega arith; few = λ listing. omega arith; strong = omega arith; none = none_strong ws })
 operand_sound literals most deeper room sound (Name name ∷ ws) t rest e =
-    let w = unless_ok (is_builtin name) Syntax (named literals deeper most name ws) (with_rest t rest) e in
-    named_sound literals most deeper room sound name ws t rest w.0 w.1
+    elim (either (is_builtin name) (builtin deeper room name ws) (named literals deeper most name ws) (with_rest t rest) e) [
+      | inl b ↦ builtin_sound literals most deeper room sound name ws t rest b.1
+      | inr n ↦ named_sound literals most deeper room sound name ws t rest n.0 n.1
+    ]
 operand_sound literals most deeper room sound (Text bytes ∷ ws) t rest e = absurd cc
-operand_sound literals most deeper room sound (Mark kind ∷ ws) t rest e = mark_sound literals most deeper room sound kind ws (is_kind kind kinds.LeftParenthesis) t rest refl e
+operand_sound literals most deeper room sound (Mark kind ∷ ws) t rest e = mark_sound literals most deeper room sound kind ws t rest e
 
-abbrev GoesOn : Bool → ℕ → (Expression → List Lexeme → Reading Expression) → (room least : ℕ) → Type 0
-GoesOn literals most next room least = (left : Expression) (ws : List Lexeme) (t : Expression) (rest : List Lexeme) → IsGrouped literals left → expression_height left ≤ room → AreFew (λ listing. expression_longest listing left) most → min least 6 ≤ outer_precedence left → step_at (suc (outer_precedence left)) ws ≡ None → next left ws ≡ Ok (t, rest)
-    → IsSound literals most room least (expression_words left ++ ws) t rest
+-- what follows an operand, which may itself be as high as a limit
+abbrev pub GoesOn : Bool → ℕ → (Expression → List Lexeme → Reading Expression) → (limit least : ℕ) → Type 0
+GoesOn literals most next limit least = (left : Expression) (ws : List Lexeme) (t : Expression) (rest : List Lexeme) → IsGrouped literals left → expression_height left ≤ limit → AreFew (λ listing. expression_longest listing left) most → min least 6 ≤ outer_precedence left → step_at (suc (outer_precedence left)) ws ≡ None → next left ws ≡ Ok (t, rest)
+    → IsSound literals most limit least (expression_words left ++ ws) t rest
 
 -- what a step makes of what was read before
 record IsApplied (literals : Bool) (most room : ℕ) (left : Expression) (s : Infix) (after : List Lexeme) (t : Expression) (rest : List Lexeme) : Type 0 where
@@ -389,13 +608,13 @@ applied_sound literals most deeper room sound left Period after t rest grouped l
       none = none_strong a.0.1;
     })
 
-operation_sound : (literals : Bool) (most : ℕ) (deeper : ℕ → List Lexeme → Reading Expression) (next : Expression → List Lexeme → Reading Expression) (room least : ℕ) → ReadsSoundly literals most deeper room → GoesOn literals most next (suc room) least
-    → (left : Expression) (ws : List Lexeme) (found : Option (Infix × List Lexeme)) (t : Expression) (rest : List Lexeme) → IsGrouped literals left → expression_height left ≤ suc room → AreFew (λ listing. expression_longest listing left) most → min least 6 ≤ outer_precedence left → step_at (suc (outer_precedence left)) ws ≡ None
-    → step_at least ws ≡ found → operation deeper next (suc room) left ws found ≡ Ok (t, rest) → IsSound literals most (suc room) least (expression_words left ++ ws) t rest
+operation_sound : (literals : Bool) (most : ℕ) (deeper : ℕ → List Lexeme → Reading Expression) (next : Expression → List Lexeme → Reading Expression) (room limit least : ℕ) → suc room ≤ limit → ReadsSoundly literals most deeper room → GoesOn literals most next limit least
+    → (left : Expression) (ws : List Lexeme) (found : Option (Infix × List Lexeme)) (t : Expression) (rest : List Lexeme) → IsGrouped literals left → expression_height left ≤ limit → AreFew (λ listing. expression_longest listing left) most → min least 6 ≤ outer_precedence left → step_at (suc (outer_precedence left)) ws ≡ None
+    → step_at least ws ≡ found → operation deeper next (suc room) left ws found ≡ Ok (t, rest) → IsSound literals most limit least (expression_words left ++ ws) t rest
 unfolding operation
-operation_sound literals most deeper next room least sound goes left ws None t rest grouped low few strong none is e =
-    subst (λ (x : Expression × List Lexeme). IsSound literals most (suc room) least (expression_words left ++ ws) x.0 x.1) (ok_is (with_rest left ws) (t, rest) e) (record { parts = refl; grouped = grouped; low = low; few = few; strong = strong; none = is })
-operation_sound literals most deeper next room least sound goes left ws (Some found) t rest grouped low few strong none is e =
+operation_sound literals most deeper next room limit least enough sound goes left ws None t rest grouped low few strong none is e =
+    subst (λ (x : Expression × List Lexeme). IsSound literals most limit least (expression_words left ++ ws) x.0 x.1) (ok_is (with_rest left ws) (t, rest) e) (record { parts = refl; grouped = grouped; low = low; few = few; strong = strong; none = is })
+operation_sound literals most deeper next room limit least enough sound goes left ws (Some found) t rest grouped low few strong none is e =
     let s = found.0 in
     let after = found.1 in
     let at = step_is least ws s after is in
@@ -404,7 +623,7 @@ operation_sound literals most deeper next room least sound goes left ws (Some fo
     let b = bind_ok (applied deeper left (s, after)) (λ more. next more.0 more.1) (t, rest) g.1 in
     let order = order_of (outer_precedence left) ws s after at.0 none in
     let a = applied_sound literals most deeper room sound left s after b.0.0 b.0.1 grouped (omega arith) few order b.1 in
-    let r = goes b.0.0 b.0.1 t rest a.grouped a.low a.few (omega (arith, a.strong, at.1)) a.none b.2 in
+    let r = goes b.0.0 b.0.1 t rest a.grouped (omega (arith, a.low, enough)) a.few (omega (arith, a.strong, at.1)) a.none b.2 in
     record {
       parts = ap (λ (x : List Lexeme). expression_words left ++ x) at.0 ∙ a.parts ∙ r.parts;
       grouped = r.grouped;
@@ -414,17 +633,18 @@ operation_sound literals most deeper next room least sound goes left ws (Some fo
       none = r.none;
     }
 
-operations_sound : (literals : Bool) (most : ℕ) (deeper : ℕ → List Lexeme → Reading Expression) (room least : ℕ) → ReadsSoundly literals most deeper room → (turns : ℕ) → GoesOn literals most (operations deeper (suc room) least turns) (suc room) least
+pub operations_sound : (literals : Bool) (most : ℕ) (deeper : ℕ → List Lexeme → Reading Expression) (room limit least : ℕ) → suc room ≤ limit → ReadsSoundly literals most deeper room → (turns : ℕ) → GoesOn literals most (operations deeper (suc room) least turns) limit least
 unfolding operations
-operations_sound literals most deeper room least sound zero left ws t rest grouped low few strong none e = absurd cc
-operations_sound literals most deeper room least sound (suc turns) left ws t rest grouped low few strong none e =
-    operation_sound literals most deeper (operations deeper (suc room) least turns) room least sound (operations_sound literals most deeper room least sound turns) left ws (step_at least ws) t rest grouped low few strong none refl e
+operations_sound literals most deeper room limit least enough sound zero left ws t rest grouped low few strong none e = absurd cc
+operations_sound literals most deeper room limit least enough sound (suc turns) left ws t rest grouped low few strong none e =
+    operation_sound literals most deeper (operations deeper (suc room) least turns) room limit least enough sound (operations_sound literals most deeper room limit least enough sound turns) left ws (step_at least ws) t rest grouped low few strong none refl e
 
 pub expression_sound : (literals : Bool) (most room : ℕ) → ReadsSoundly literals most (expression literals most room) room
 unfolding expression
 expression_sound literals most zero least ws t rest e = absurd cc
 expression_sound literals most (suc room) least ws t rest e =
-    let a = bind_ok (operand literals (expression literals most room) most ws) (λ first. operations (expression literals most room) (suc room) least (suc room) first.0 first.1) (t, rest) e in
-    let first = operand_sound literals most (expression literals most room) room (expression_sound literals most room) ws a.0.0 a.0.1 a.1 in
-    let s = operations_sound literals most (expression literals most room) room least (expression_sound literals most room) (suc room) a.0.0 a.0.1 t rest first.grouped first.low first.few (omega (arith, first.strong)) first.none a.2 in
+    let deeper = expression literals most room in
+    let a = bind_ok (operand literals deeper room most ws) (λ first. operations deeper (suc room) least (suc room) first.0 first.1) (t, rest) e in
+    let first = operand_sound literals most deeper room (expression_sound literals most room) ws a.0.0 a.0.1 a.1 in
+    let s = operations_sound literals most deeper room (suc room) least (omega arith) (expression_sound literals most room) (suc room) a.0.0 a.0.1 t rest first.grouped first.low first.few (omega (arith, first.strong)) first.none a.2 in
     record { parts = first.parts ∙ s.parts; grouped = s.grouped; low = s.low; few = s.few; strong = s.strong; none = s.none }

@@ -7,6 +7,7 @@ pub mod Operations
 pub mod ListLaws
 pub mod ExpressionAgain
 pub mod ExpressionSound
+pub mod Resumed
 pub mod Sizes
 pub mod TypeLaws
 pub mod Steps

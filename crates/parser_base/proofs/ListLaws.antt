@@ -1,6 +1,6 @@
 -- Lists: what is spelt is read, and what is read is spelt so.
 use Rattle.std.proofs.Common.{◌≡◌, ℕ, zero, suc, ◌<◌, ◌≤◌, Bool, List, [], ◌∷◌, length, Ok, Err, refl, sym, ap, ◌∙◌, subst, arith}
-use Rattle.syntax.specs.Measures.{Listing, highest}
+use Rattle.syntax.specs.Measures.{Listing, Entries as EntriesLimit, SelectClauses, entries, highest}
 use Rattle.parser_base.specs.declared.list.Next.{Next}
 use Rattle.parser_base.specs.declared.list.Next.TheVariants.{More, End}
 use Rattle.parser_base.specs.Lexemes.{Lexeme}
@@ -19,6 +19,10 @@ goes_on_with rest = (More, rest)
 -- no list in it is longer
 abbrev pub AreFew : (Listing → ℕ) → ℕ → Type 0
 AreFew longest most = (listing : Listing) → longest listing ≤ most
+
+pub entries-le : (listing : Listing) (n : ℕ) → entries listing n ≤ n
+entries-le EntriesLimit n = omega arith
+entries-le SelectClauses n = omega arith
 
 -- ---- what is read of words that spell something: that, or a refusal of what is too high or has too long a list
 

@@ -6,22 +6,37 @@ use Rattle.syntax.specs.Tree.{Expression}
 use Rattle.syntax.specs.Measures.{expression_height}
 use Rattle.parser_base.specs.declared.operator.Infix.{Infix}
 use Rattle.parser_base.specs.Lexemes.{Lexeme}
-use Rattle.parser_base.specs.Reading.{Reading, TooDeep, Fails, ◌>>=◌, step_at, operand, applied, operation, operations, expression}
+use Rattle.parser_base.specs.Reading.{Reading, TooDeep, Fails, ◌>>=◌, step_at, operand, applied, operation, operations, expression, resumed}
 use Rattle.parser_base.proofs.Results.{fails_on}
 
-expression_begins : (literals : Bool) (most room least : ℕ) (ws : List Lexeme) → 1 ≤ room
-    → expression literals most room least ws ≡ (operand literals (expression literals most (room - 1)) most ws >>= λ first. operations (expression literals most (room - 1)) room least room first.0 first.1)
-unfolding expression
-expression_begins literals most zero least ws h = absurd (omega arith)
-expression_begins literals most (suc room) least ws h =
-    let e : room ≡ suc room - 1 = omega arith in
-    ap (λ (r : ℕ). operand literals (expression literals most r) most ws >>= λ first. operations (expression literals most r) (suc room) least (suc room) first.0 first.1) e
+-- an expression is what is read from its first operand on
+pub opens : (literals : Bool) (most room least : ℕ) (ws : List Lexeme) (left : Expression) (rest : List Lexeme) → 1 ≤ room → operand literals (expression literals most (room - 1)) (room - 1) most ws ≡ Ok (left, rest)
+    → expression literals most room least ws ≡ resumed literals most room least left rest
+unfolding expression resumed
+opens literals most zero least ws left rest h e = absurd (omega arith)
+opens literals most (suc room) least ws left rest h e =
+    let same : suc room - 1 ≡ room = omega arith in
+    let first = rw same at e in
+    ap (λ (r : Reading Expression). r >>= λ x. operations (expression literals most room) (suc room) least (suc room) x.0 x.1) first
 
-pub opens : (literals : Bool) (most room least : ℕ) (ws : List Lexeme) (left : Expression) (rest : List Lexeme) → 1 ≤ room → operand literals (expression literals most (room - 1)) most ws ≡ Ok (left, rest)
-    → operations (expression literals most (room - 1)) room least (room - 0) left rest ≡ expression literals most room least ws
-opens literals most room least ws left rest h e =
-    let k : room - 0 ≡ room = omega arith in
-    rw k (sym (expression_begins literals most room least ws h ∙ rw e refl))
+-- and fails where that fails
+pub opens_fails : (fault : ParseFault) (literals : Bool) (most room least : ℕ) (ws : List Lexeme) → 1 ≤ room → Fails fault (operand literals (expression literals most (room - 1)) (room - 1) most ws) → Fails fault (expression literals most room least ws)
+unfolding expression
+opens_fails fault literals most zero least ws h e = absurd (omega arith)
+opens_fails fault literals most (suc room) least ws h e =
+    let same : suc room - 1 ≡ room = omega arith in
+    let first = rw same at e in
+    fails_on fault (operand literals (expression literals most room) room most ws) (expression literals most (suc room) least ws) first
+    (λ r is. ap (λ (x : Reading Expression). x >>= λ y. operations (expression literals most room) (suc room) least (suc room) y.0 y.1) is)
+
+-- all turns are still to come
+pub resumes : (literals : Bool) (most room least : ℕ) (left : Expression) (ws : List Lexeme) → operations (expression literals most (room - 1)) room least (room - 0) left ws ≡ resumed literals most room least left ws
+unfolding operations resumed
+resumes literals most zero least left ws = refl
+resumes literals most (suc room) least left ws =
+    let same : suc room - 1 ≡ room = omega arith in
+    let all : suc room - 0 ≡ suc room = omega arith in
+    rw (same, all) refl
 
 turn : (deeper : ℕ → List Lexeme → Reading Expression) (room least turns i : ℕ) (left : Expression) (ws : List Lexeme) → i < turns
     → operations deeper room least (turns - i) left ws ≡ operation deeper (operations deeper room least (turns - (i + 1))) room left ws (step_at least ws)

@@ -1,11 +1,11 @@
 -- Readings one after the other.
-use Rattle.std.proofs.Common.{◌≡◌, ℕ, ◌<◌, ◌≤◌, Bool, true, false, cond, max, length, List, [], ◌∷◌, Result, Ok, Err, ◌⊎◌, inl, inr, refl, ap, subst, sym, arith}
+use Rattle.std.proofs.Common.{◌≡◌, ℕ, ◌<◌, ◌≤◌, Bool, true, false, cond, max, length, List, [], ◌∷◌, Result, Ok, Err, nat_le, ◌⊎◌, inl, inr, refl, ap, ◌∙◌, subst, sym, arith}
+use Rattle.std.proofs.lemmas.Bool.{leb-false}
 use Rattle.syntax.specs.Measures.{Listing, Entries, entries, highest}
 use Rattle.parser_base.specs.Lexemes.{Lexeme}
-use Rattle.parser_base.specs.Reading.{Refusal, TooMany, Reading, ◌>>=◌}
-use Rattle.parser_base.proofs.Marks.{ok_is}
-use Rattle.parser_base.proofs.ListLaws.{AreFew, ReadBack, Found, High, Many, ListOutcome, Found as AllFound, High as AllHigh, Many as AllMany, Full}
-use Rattle.parser_base.proofs.ExpressionAgain.{entries-le}
+use Rattle.parser_base.specs.Reading.{Refusal, TooDeep, TooMany, Reading, ◌>>=◌, needing}
+use Rattle.parser_base.proofs.Marks.{when_ok, ok_is}
+use Rattle.parser_base.proofs.ListLaws.{AreFew, ReadBack, Found, High, Many, entries-le, ListOutcome, Found as AllFound, High as AllHigh, Many as AllMany, Full}
 
 -- a part, and what is read behind it
 pub then_again : {A B : Type 0} (f : A × List Lexeme → Reading B) {read : Reading A} {x : A} {mid : List Lexeme} {y : B} {rest : List Lexeme} {part room height room' : ℕ} {longest longest' : Listing → ℕ} {most : ℕ}
@@ -31,6 +31,25 @@ listed_outcome {xs = xs} (AllFound low few count e) = Found low (λ listing. ome
 listed_outcome (AllHigh high e) = High high e
 listed_outcome (AllMany listing many e) = Many listing (omega (arith, many)) e
 listed_outcome (Full count e) = Many Entries (omega (arith, count)) e
+
+-- the same reading in other words
+pub read_as : {A : Type 0} {read read' : Reading A} {x : A} {rest : List Lexeme} {height room : ℕ} {longest : Listing → ℕ} {most : ℕ} → read ≡ read' → ReadBack read' x rest height room longest most → ReadBack read x rest height room longest most
+read_as same (Found low few e) = Found low few (same ∙ e)
+read_as same (High high e) = High high (same ∙ e)
+read_as same (Many listing many e) = Many listing many (same ∙ e)
+
+-- what is found has the levels that it needs, and what has them not is too high
+needed : {A : Type 0} (b : Bool) {read : Reading A} {x : A} {rest : List Lexeme} {height room : ℕ} {longest : Listing → ℕ} {most : ℕ}
+    → (b ≡ false → room < height) → ReadBack read x rest height room longest most → ReadBack (cond b read (Err TooDeep)) x rest height room longest most
+needed true high again = again
+needed false high again = High (high refl) refl
+
+pub needing_again : {A : Type 0} (least have : ℕ) {read : Reading A} {x : A} {rest : List Lexeme} {height room : ℕ} {longest : Listing → ℕ} {most : ℕ}
+    → (have < least → room < height) → ReadBack read x rest height room longest most → ReadBack (needing least have read) x rest height room longest most
+needing_again least have high again = needed (nat_le least have) (λ none. high (leb-false least have none)) again
+
+pub needing_ok : {A : Type 0} (least room : ℕ) (read : Result A Refusal) (y : A) → needing least room read ≡ Ok y → read ≡ Ok y
+needing_ok least room read y e = (when_ok (nat_le least room) TooDeep read y e).1
 
 -- the highest of what has no height
 pub highest_none : {X : Type 0} (xs : List X) → highest (λ x. 0) xs ≡ 0

@@ -7,9 +7,8 @@ use Rattle.syntax.specs.declared.node.Direction.TheVariants as directions
 use Rattle.syntax.specs.Tree.{TypeExpression, NamedType, ParenthesizedType, Channel}
 use Rattle.syntax.specs.Measures.{type_height, type_size}
 use Rattle.parser_base.specs.Lexemes.{Lexeme, Literal, Name, Text, Mark}
-use Rattle.parser_base.specs.Spelling.{is_builtin}
-use Rattle.parser_base.specs.Reading.{Syntax, TooDeep, Reading, ◌>>=◌, is_kind, expect}
-use Rattle.parser_base.specs.TypeReading.{direction_words, type_words, is_receiver, IsElement, IsType, parenthesized_type, channel, behind_chan, behind_arrow, type_at}
+use Rattle.parser_base.specs.Spelling.{is_builtin, direction_words, type_words, is_receiver, IsElement, IsType}
+use Rattle.parser_base.specs.Reading.{Syntax, TooDeep, Reading, ◌>>=◌, is_kind, expect, parenthesized_type, channel_type, behind_chan, behind_arrow, type_at}
 use Rattle.parser_base.proofs.Marks.{bind_ok, unless_ok, ok_is, kind_is, expect_is, expect_again}
 
 -- ---- what is spelt is read
@@ -25,7 +24,7 @@ type_height_positive (ParenthesizedType inner) = omega arith
 type_height_positive (Channel direction element) = omega arith
 
 -- behind `chan`, a type that is no channel to receive from stands for the elements
-both_again : (deeper : List Lexeme → Reading TypeExpression) (element : TypeExpression) (rest : List Lexeme) → is_receiver element ≡ false → behind_chan deeper (type_words element ++ rest) ≡ channel directions.Both deeper (type_words element ++ rest)
+both_again : (deeper : List Lexeme → Reading TypeExpression) (element : TypeExpression) (rest : List Lexeme) → is_receiver element ≡ false → behind_chan deeper (type_words element ++ rest) ≡ channel_type directions.Both deeper (type_words element ++ rest)
 unfolding behind_chan
 both_again deeper (NamedType name) rest other = refl
 both_again deeper (ParenthesizedType inner) rest other = refl
@@ -33,17 +32,17 @@ both_again deeper (Channel directions.Both element) rest other = refl
 both_again deeper (Channel directions.Send element) rest other = refl
 both_again deeper (Channel directions.Receive element) rest other = absurd cc
 
-send_again : (deeper : List Lexeme → Reading TypeExpression) (rest : List Lexeme) → behind_chan deeper (Mark kinds.Arrow ∷ rest) ≡ channel directions.Send deeper rest
+send_again : (deeper : List Lexeme → Reading TypeExpression) (rest : List Lexeme) → behind_chan deeper (Mark kinds.Arrow ∷ rest) ≡ channel_type directions.Send deeper rest
 unfolding behind_chan
 send_again deeper rest = refl
 
-receive_again : (deeper : List Lexeme → Reading TypeExpression) (rest : List Lexeme) → behind_arrow deeper (Mark kinds.Chan ∷ rest) ≡ channel directions.Receive deeper rest
+receive_again : (deeper : List Lexeme → Reading TypeExpression) (rest : List Lexeme) → behind_arrow deeper (Mark kinds.Chan ∷ rest) ≡ channel_type directions.Receive deeper rest
 unfolding behind_arrow
 receive_again deeper rest = rw (expect_again kinds.Chan rest) refl
 
 -- a channel type is read by what it begins with
 direction_again : (room : ℕ) (direction : Direction) (element : TypeExpression) (rest : List Lexeme) → IsElement direction element
-    → type_at (suc room) (type_words (Channel direction element) ++ rest) ≡ channel direction (type_at room) (type_words element ++ rest)
+    → type_at (suc room) (type_words (Channel direction element) ++ rest) ≡ channel_type direction (type_at room) (type_words element ++ rest)
 unfolding type_at
 direction_again room directions.Both element rest is = both_again (type_at room) element rest is
 direction_again room directions.Send element rest is = send_again (type_at room) (type_words element ++ rest)
@@ -60,7 +59,7 @@ unfolding parenthesized_type
 closed_again room inner rest read is (Found low e) = Found (omega arith) (is ∙ rw (e, expect_again kinds.RightParenthesis rest) refl)
 closed_again room inner rest read is (High high e) = High (omega arith) (is ∙ rw e refl)
 
-element_again : (room : ℕ) (direction : Direction) (element : TypeExpression) (rest : List Lexeme) (read : Reading TypeExpression) → read ≡ channel direction (type_at room) (type_words element ++ rest)
+element_again : (room : ℕ) (direction : Direction) (element : TypeExpression) (rest : List Lexeme) (read : Reading TypeExpression) → read ≡ channel_type direction (type_at room) (type_words element ++ rest)
     → TypeOutcome (type_at room (type_words element ++ rest)) element rest (type_height element) room → TypeOutcome read (Channel direction element) rest (suc (type_height element)) (suc room)
 element_again room direction element rest read is (Found low e) = Found (omega arith) (is ∙ rw e refl)
 element_again room direction element rest read is (High high e) = High (omega arith) (is ∙ rw e refl)
@@ -116,7 +115,7 @@ words_behind directions.Send element rest = refl
 words_behind directions.Receive element rest = refl
 
 channel_sound : (direction : Direction) (deeper : List Lexeme → Reading TypeExpression) (room : ℕ) → ReadsTypes deeper room → (ws : List Lexeme) (t : TypeExpression) (rest : List Lexeme)
-    → ((element : TypeExpression) (after : List Lexeme) → ws ≡ type_words element ++ after → IsElement direction element) → channel direction deeper ws ≡ Ok (with_rest t rest) → IsTypeSound (suc room) (direction_words direction ws) t rest
+    → ((element : TypeExpression) (after : List Lexeme) → ws ≡ type_words element ++ after → IsElement direction element) → channel_type direction deeper ws ≡ Ok (with_rest t rest) → IsTypeSound (suc room) (direction_words direction ws) t rest
 channel_sound direction deeper room sound ws t rest element e =
     let a = bind_ok (deeper ws) (λ found. Ok (with_rest (Channel direction found.0) found.1)) (with_rest t rest) e in
     let s = sound ws a.0.0 a.0.1 a.1 in
@@ -141,12 +140,12 @@ no_receiver (Channel directions.Both element) after is = refl
 no_receiver (Channel directions.Send element) after is = refl
 no_receiver (Channel directions.Receive element) after is = absurd cc
 
-both_sound : (deeper : List Lexeme → Reading TypeExpression) (room : ℕ) → ReadsTypes deeper room → (ws : List Lexeme) (t : TypeExpression) (rest : List Lexeme) → is_arrow ws ≡ false → channel directions.Both deeper ws ≡ Ok (with_rest t rest) → IsTypeSound (suc room) (Mark kinds.Chan ∷ ws) t rest
+both_sound : (deeper : List Lexeme → Reading TypeExpression) (room : ℕ) → ReadsTypes deeper room → (ws : List Lexeme) (t : TypeExpression) (rest : List Lexeme) → is_arrow ws ≡ false → channel_type directions.Both deeper ws ≡ Ok (with_rest t rest) → IsTypeSound (suc room) (Mark kinds.Chan ∷ ws) t rest
 both_sound deeper room sound ws t rest other e =
     channel_sound directions.Both deeper room sound ws t rest (λ element after is. no_receiver element after (sym (ap is_arrow is) ∙ other)) e
 
 arrow_sound : (deeper : List Lexeme → Reading TypeExpression) (room : ℕ) → ReadsTypes deeper room → (kind : TokenKind) (b : Bool) (ws : List Lexeme) (t : TypeExpression) (rest : List Lexeme) → is_kind kind kinds.Arrow ≡ b
-    → cond b (channel directions.Send deeper ws) (channel directions.Both deeper (Mark kind ∷ ws)) ≡ Ok (with_rest t rest) → IsTypeSound (suc room) (Mark kinds.Chan ∷ Mark kind ∷ ws) t rest
+    → cond b (channel_type directions.Send deeper ws) (channel_type directions.Both deeper (Mark kind ∷ ws)) ≡ Ok (with_rest t rest) → IsTypeSound (suc room) (Mark kinds.Chan ∷ Mark kind ∷ ws) t rest
 arrow_sound deeper room sound kind true ws t rest is e =
     subst (λ (k : TokenKind). IsTypeSound (suc room) (Mark kinds.Chan ∷ Mark k ∷ ws) t rest) (sym (kind_is kind kinds.Arrow is)) (channel_sound directions.Send deeper room sound ws t rest (λ element after is. tt) e)
 arrow_sound deeper room sound kind false ws t rest is e = both_sound deeper room sound (Mark kind ∷ ws) t rest is e
@@ -163,7 +162,7 @@ receive_sound : (deeper : List Lexeme → Reading TypeExpression) (room : ℕ) �
     → cond b (behind_arrow deeper ws) (Err Syntax) ≡ Ok (with_rest t rest) → IsTypeSound (suc room) (Mark kind ∷ ws) t rest
 unfolding behind_arrow
 receive_sound deeper room sound kind true ws t rest is e =
-    let a = bind_ok (expect kinds.Chan ws) (channel directions.Receive deeper) (with_rest t rest) e in
+    let a = bind_ok (expect kinds.Chan ws) (channel_type directions.Receive deeper) (with_rest t rest) e in
     let both : Mark kind ∷ ws ≡ Mark kinds.Arrow ∷ Mark kinds.Chan ∷ a.0 = λ i. Mark (kind_is kind kinds.Arrow is i) ∷ expect_is kinds.Chan ws a.0 a.1 i in
     subst (λ (x : List Lexeme). IsTypeSound (suc room) x t rest) (sym both) (channel_sound directions.Receive deeper room sound a.0 t rest (λ element after is. tt) a.2)
 receive_sound deeper room sound kind false ws t rest is e = absurd cc

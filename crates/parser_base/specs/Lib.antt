@@ -3,4 +3,3 @@ pub mod Cursor
 pub mod Spelling
 pub mod Reading
 pub mod Faults
-pub mod TypeReading

@@ -1,6 +1,6 @@
--- Reading expressions from left to right, as the code does: these words are proved against the grammar (`Spelling`), and
--- claim nothing themselves.
-use Rattle.std.specs.Prelude.{◌≡◌, ℕ, zero, suc, ◌+◌, Bool, true, false, ◌||◌, List, [], ◌∷◌, Option, Some, None, Result, Ok, Err, nat_le, if◌then◌else◌, bytes_eq}
+-- Reading types and expressions from left to right, as the code does: these words are proved against the grammar
+-- (`Spelling`), and claim nothing themselves.
+use Rattle.std.specs.Prelude.{◌≡◌, ℕ, zero, suc, ◌+◌, Bool, true, false, ◌||◌, ◌&&◌, List, [], ◌∷◌, Option, Some, None, Result, Ok, Err, nat_le, if◌then◌else◌, bytes_eq, codes}
 use denote.Enum.Bare.{sameb}
 use Rattle.go_text.specs.declared.fault.Fault.{Fault}
 use Rattle.go_text.specs.declared.fault.Fault.TheVariants as faults
@@ -13,7 +13,9 @@ use Rattle.syntax.specs.declared.node.BinaryOperator.{BinaryOperator}
 use Rattle.syntax.specs.declared.node.BinaryOperator.TheVariants as binaries
 use Rattle.syntax.specs.declared.node.UnaryOperator.{UnaryOperator}
 use Rattle.syntax.specs.declared.node.UnaryOperator.TheVariants as unaries
-use Rattle.syntax.specs.Tree.{Expression, Integer, Named, Parenthesized, Selection, Composite, Unary, Binary, expressions}
+use Rattle.syntax.specs.declared.node.Direction.{Direction}
+use Rattle.syntax.specs.declared.node.Direction.TheVariants as directions
+use Rattle.syntax.specs.Tree.{TypeExpression, NamedType, ParenthesizedType, Channel, Expression, Integer, Named, Parenthesized, Selection, Composite, Unary, Binary, Call, Receive, Make, MakeSized, Length, Capacity, expressions}
 use Rattle.syntax.specs.Measures.{Listing, Entries, SelectClauses, expression_height}
 use Rattle.parser_base.specs.declared.fault.ParseFault.{ParseFault}
 use Rattle.parser_base.specs.declared.fault.ParseFault.TheVariants as parse
@@ -22,7 +24,7 @@ use Rattle.parser_base.specs.declared.operator.Infix.TheVariants.{Operator, Peri
 use Rattle.parser_base.specs.declared.list.Next.{Next}
 use Rattle.parser_base.specs.declared.list.Next.TheVariants.{More, End}
 use Rattle.parser_base.specs.Lexemes.{Lexeme, Literal, Name, Text, Mark}
-use Rattle.parser_base.specs.Spelling.{precedence, is_builtin}
+use Rattle.parser_base.specs.Spelling.{precedence, makes_value, is_builtin}
 
 -- ---- results
 
@@ -74,6 +76,14 @@ abbrev pub ◌>>=◌ : {A B : Type 0} → Result A Refusal → (A → Result B R
 (Ok x) >>= f = f x
 (Err e) >>= f = Err e
 
+-- what was read, as one of several
+abbrev pub as_one : {A B : Type 0} → (A → B) → Reading A → Reading B
+as_one make read = read >>= λ found. Ok (make found.0, found.1)
+
+-- what needs at least so many levels
+abbrev pub needing : {A : Type 0} → (least room : ℕ) → Result A Refusal → Result A Refusal
+needing least room read = if nat_le least room then read else Err TooDeep
+
 -- ---- marks
 
 abbrev pub is_kind : TokenKind → TokenKind → Bool
@@ -109,10 +119,11 @@ listed one next full (suc most) words = one words >>= λ first. next first.1 >>=
 unfoldable pub begins : List Lexeme → Bool
 begins [] = false
 begins (Literal value ∷ rest) = true
-begins (Name name ∷ rest) = if is_builtin name then false else true
+begins (Name name ∷ rest) = if is_builtin name then makes_value name else true
 begins (Text bytes ∷ rest) = false
 begins (Mark kind ∷ rest) =
     is_kind kind kinds.LeftParenthesis || is_kind kind kinds.Plus || is_kind kind kinds.Minus || is_kind kind kinds.Not || is_kind kind kinds.Caret
+    || is_kind kind kinds.Arrow
 
 -- the end of a list
 abbrev pub closed : TokenKind → Bool → List Lexeme → Reading Next
@@ -131,6 +142,42 @@ entry_next separator starts close words = Err Syntax
 -- what follows a value of a list to a closing mark
 abbrev pub value_next : TokenKind → List Lexeme → Reading Next
 value_next close = entry_next kinds.Comma begins close
+
+-- ---- types
+
+-- what stands in parentheses, behind the first one
+unfoldable pub parenthesized_type : (List Lexeme → Reading TypeExpression) → List Lexeme → Reading TypeExpression
+parenthesized_type deeper rest = do
+  inner ← deeper rest
+  after ← expect kinds.RightParenthesis inner.1
+  Ok (ParenthesizedType inner.0, after)
+
+-- a channel type of this direction, from its elements' type on
+abbrev pub channel_type : Direction → (List Lexeme → Reading TypeExpression) → List Lexeme → Reading TypeExpression
+channel_type direction deeper rest = deeper rest >>= λ element. Ok (Channel direction element.0, element.1)
+
+-- a channel type behind `chan`
+unfoldable pub behind_chan : (List Lexeme → Reading TypeExpression) → List Lexeme → Reading TypeExpression
+behind_chan deeper (Mark kind ∷ rest) =
+    if is_kind kind kinds.Arrow then channel_type directions.Send deeper rest else channel_type directions.Both deeper (Mark kind ∷ rest)
+behind_chan deeper words = channel_type directions.Both deeper words
+
+-- a channel type behind `<-`
+unfoldable pub behind_arrow : (List Lexeme → Reading TypeExpression) → List Lexeme → Reading TypeExpression
+behind_arrow deeper rest = expect kinds.Chan rest >>= λ after. channel_type directions.Receive deeper after
+
+-- a type of at most so many levels
+unfoldable pub type_at : ℕ → List Lexeme → Reading TypeExpression
+type_at zero words = Err TooDeep
+type_at (suc room) [] = Err Syntax
+type_at (suc room) (Literal value ∷ rest) = Err Syntax
+type_at (suc room) (Text bytes ∷ rest) = Err Syntax
+type_at (suc room) (Name name ∷ rest) = if is_builtin name then Err Syntax else Ok (NamedType name, rest)
+type_at (suc room) (Mark kind ∷ rest) =
+    if is_kind kind kinds.LeftParenthesis then parenthesized_type (type_at room) rest
+    else (if is_kind kind kinds.Chan then behind_chan (type_at room) rest
+    else (if is_kind kind kinds.Arrow then behind_arrow (type_at room) rest
+    else Err Syntax))
 
 -- ---- expressions
 
@@ -191,12 +238,12 @@ negated deeper rest (Some operator) = do
   operand ← deeper 6 rest
   Ok (Unary operator operand.0, operand.1)
 
--- what stands in parentheses, behind the first one
-unfoldable pub parenthesized : (ℕ → List Lexeme → Reading Expression) → List Lexeme → Reading Expression
-parenthesized deeper rest = do
-  inner ← deeper 0 rest
+-- an expression and a closing parenthesis
+unfoldable pub to_parenthesis : (ℕ → List Lexeme → Reading Expression) → List Lexeme → Reading Expression
+to_parenthesis deeper words = do
+  inner ← deeper 0 words
   after ← expect kinds.RightParenthesis inner.1
-  Ok (Parenthesized inner.0, after)
+  Ok (inner.0, after)
 
 -- values to a closing mark, behind the opening one
 unfoldable pub values : (ℕ → List Lexeme → Reading Expression) → TokenKind → ℕ → List Lexeme → Reading (List Expression × Bool)
@@ -208,20 +255,55 @@ values deeper close most words =
 unfoldable pub composite : (ℕ → List Lexeme → Reading Expression) → ℕ → List ℕ → List Lexeme → Reading Expression
 composite deeper most name words = values deeper kinds.RightBrace most words >>= λ all. Ok (Composite name (expressions all.0.0) all.0.1, all.1)
 
--- an operand name, or a composite literal of a type of this name
-unfoldable pub named : Bool → (ℕ → List Lexeme → Reading Expression) → ℕ → List ℕ → List Lexeme → Reading Expression
-named true deeper most name (Mark kind ∷ rest) =
-    if is_kind kind kinds.LeftBrace then composite deeper most name rest else Ok (Named name, Mark kind ∷ rest)
-named literals deeper most name rest = Ok (Named name, rest)
+-- the rest of a call, behind its first parenthesis
+unfoldable pub called : (ℕ → List Lexeme → Reading Expression) → ℕ → List ℕ → List Lexeme → Reading Expression
+called deeper most name words = values deeper kinds.RightParenthesis most words >>= λ all. Ok (Call name (expressions all.0.0) all.0.1, all.1)
 
--- what is no operation and no selection
-unfoldable pub operand : Bool → (ℕ → List Lexeme → Reading Expression) → ℕ → List Lexeme → Reading Expression
-operand literals deeper most [] = Err Syntax
-operand literals deeper most (Literal value ∷ rest) = Ok (Integer value, rest)
-operand literals deeper most (Name name ∷ rest) = if is_builtin name then Err Syntax else named literals deeper most name rest
-operand literals deeper most (Text bytes ∷ rest) = Err Syntax
-operand literals deeper most (Mark kind ∷ rest) =
-    if is_kind kind kinds.LeftParenthesis then parenthesized deeper rest else negated deeper rest (unary_of kind)
+-- an operand name, a call of a function of this name, or a composite literal of a type of this name
+unfoldable pub named : Bool → (ℕ → List Lexeme → Reading Expression) → ℕ → List ℕ → List Lexeme → Reading Expression
+named literals deeper most name (Mark kind ∷ rest) =
+    if is_kind kind kinds.LeftParenthesis then called deeper most name rest
+    else (if literals && is_kind kind kinds.LeftBrace then composite deeper most name rest
+    else Ok (Named name, Mark kind ∷ rest))
+named literals deeper most name words = Ok (Named name, words)
+
+-- one argument in parentheses
+unfoldable pub argument : (ℕ → List Lexeme → Reading Expression) → List Lexeme → Reading Expression
+argument deeper words = expect kinds.LeftParenthesis words >>= to_parenthesis deeper
+
+-- the rest of a `make` of this type: a comma and the size of the buffer, if there is one, and the closing parenthesis
+unfoldable pub sized : (ℕ → List Lexeme → Reading Expression) → TypeExpression → List Lexeme → Reading Expression
+sized deeper channel (Mark kind ∷ rest) =
+    if is_kind kind kinds.Comma then as_one (MakeSized channel) (to_parenthesis deeper rest)
+    else (expect kinds.RightParenthesis (Mark kind ∷ rest) >>= λ after. Ok (Make channel, after))
+sized deeper channel words = Err Syntax
+
+-- what stands behind `make`
+unfoldable pub made : (ℕ → List Lexeme → Reading Expression) → (room : ℕ) → List Lexeme → Reading Expression
+made deeper room words = do
+  inside ← expect kinds.LeftParenthesis words
+  channel ← type_at room inside
+  sized deeper channel.0 channel.1
+
+-- a call of a built-in function that makes or measures a channel, behind its name
+unfoldable pub builtin : (ℕ → List Lexeme → Reading Expression) → (room : ℕ) → List ℕ → List Lexeme → Reading Expression
+builtin deeper room name rest =
+    if bytes_eq name (codes "make") then needing 1 room (made deeper room rest)
+    else (if bytes_eq name (codes "len") then needing 1 room (as_one Length (argument deeper rest))
+    else (if bytes_eq name (codes "cap") then needing 1 room (as_one Capacity (argument deeper rest))
+    else Err Syntax))
+
+-- what is no operation and no selection, below which there are at most so many levels
+unfoldable pub operand : Bool → (ℕ → List Lexeme → Reading Expression) → (room : ℕ) → ℕ → List Lexeme → Reading Expression
+operand literals deeper room most [] = Err Syntax
+operand literals deeper room most (Literal value ∷ rest) = Ok (Integer value, rest)
+operand literals deeper room most (Name name ∷ rest) =
+    if is_builtin name then builtin deeper room name rest else named literals deeper most name rest
+operand literals deeper room most (Text bytes ∷ rest) = Err Syntax
+operand literals deeper room most (Mark kind ∷ rest) =
+    if is_kind kind kinds.LeftParenthesis then as_one Parenthesized (to_parenthesis deeper rest)
+    else (if is_kind kind kinds.Arrow then as_one Receive (deeper 6 rest)
+    else negated deeper rest (unary_of kind))
 
 -- what was read so far as the left operand, or as that of a selection
 abbrev pub applied : (ℕ → List Lexeme → Reading Expression) → Expression → Infix × List Lexeme → Reading Expression
@@ -246,5 +328,10 @@ operations deeper room least (suc turns) left words =
 unfoldable pub expression : Bool → ℕ → ℕ → ℕ → List Lexeme → Reading Expression
 expression literals most zero least words = Err TooDeep
 expression literals most (suc room) least words =
-    operand literals (expression literals most room) most words >>= λ first.
+    operand literals (expression literals most room) room most words >>= λ first.
     operations (expression literals most room) (suc room) least (suc room) first.0 first.1
+
+-- the same, from behind an operand on that was read before, and may itself be a level higher
+unfoldable pub resumed : Bool → ℕ → ℕ → ℕ → Expression → List Lexeme → Reading Expression
+resumed literals most zero least left words = Err TooDeep
+resumed literals most (suc room) least left words = operations (expression literals most room) (suc room) least (suc room) left words

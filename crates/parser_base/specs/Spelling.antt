@@ -6,16 +6,20 @@ use Rattle.syntax.specs.declared.node.BinaryOperator.{BinaryOperator}
 use Rattle.syntax.specs.declared.node.BinaryOperator.TheVariants as binaries
 use Rattle.syntax.specs.declared.node.UnaryOperator.{UnaryOperator}
 use Rattle.syntax.specs.declared.node.UnaryOperator.TheVariants as unaries
-use Rattle.syntax.specs.Tree.{Expression, Integer, Named, Parenthesized, Selection, Composite, Unary, Binary, Expressions, NoMore, Behind}
+use Rattle.syntax.specs.declared.node.Direction.{Direction}
+use Rattle.syntax.specs.declared.node.Direction.TheVariants as directions
+use Rattle.syntax.specs.Tree.{TypeExpression, NamedType, ParenthesizedType, Channel, Expression, Integer, Named, Parenthesized, Selection, Composite, Unary, Binary, Call, Receive, Make, MakeSized, Length, Capacity, Expressions, NoMore, Behind}
 use Rattle.parser_base.specs.Lexemes.{Lexeme, Literal, Name, Mark}
 
 -- ---- names
 
+-- the names of built-in functions whose calls are expressions
+abbrev pub makes_value : List ℕ → Bool
+makes_value name = bytes_eq name (codes "make") || bytes_eq name (codes "len") || bytes_eq name (codes "cap")
+
 -- the names that stand only in calls of their own
 abbrev pub is_builtin : List ℕ → Bool
-is_builtin name =
-    bytes_eq name (codes "make") || bytes_eq name (codes "len") || bytes_eq name (codes "cap") || bytes_eq name (codes "close")
-    || bytes_eq name (codes "print") || bytes_eq name (codes "println")
+is_builtin name = makes_value name || bytes_eq name (codes "close") || bytes_eq name (codes "print") || bytes_eq name (codes "println")
 
 -- ---- lists
 
@@ -52,6 +56,34 @@ closing separator close false rest = Mark close ∷ rest
 abbrev pub IsTrailing : {A : Type 0} → List A → (trailing : Bool) → Type 0
 IsTrailing [] trailing = trailing ≡ false
 IsTrailing (first ∷ rest) trailing = Unit {0}
+
+-- ---- types
+
+-- what a channel type begins with
+abbrev pub direction_words : Direction → List Lexeme → List Lexeme
+direction_words directions.Both rest = Mark kinds.Chan ∷ rest
+direction_words directions.Send rest = Mark kinds.Chan ∷ Mark kinds.Arrow ∷ rest
+direction_words directions.Receive rest = Mark kinds.Arrow ∷ Mark kinds.Chan ∷ rest
+
+abbrev pub type_words : TypeExpression → List Lexeme
+type_words (NamedType name) = Name name ∷ []
+type_words (ParenthesizedType inner) = Mark kinds.LeftParenthesis ∷ (type_words inner ++ (Mark kinds.RightParenthesis ∷ []))
+type_words (Channel direction element) = direction_words direction (type_words element)
+
+-- whether the type is a channel to receive from alone
+abbrev pub is_receiver : TypeExpression → Bool
+is_receiver (Channel directions.Receive element) = true
+is_receiver kind = false
+
+-- `chan` `<-` always begins a channel to send on, so that what `chan` alone stands before doesn't begin with `<-`
+abbrev pub IsElement : Direction → TypeExpression → Type 0
+IsElement directions.Both element = is_receiver element ≡ false
+IsElement direction element = Unit {0}
+
+abbrev pub IsType : TypeExpression → Type 0
+IsType (NamedType name) = is_builtin name ≡ false
+IsType (ParenthesizedType inner) = IsType inner
+IsType (Channel direction element) = IsType element × IsElement direction element
 
 -- ---- expressions
 
@@ -98,11 +130,17 @@ precedence binaries.LogicalAnd = 2
 precedence binaries.LogicalOr = 1
 precedence operator = 5
 
--- how strongly the outermost operator binds: 1 to 5 a binary one, 6 a unary one; 7 where there is none, or a selection
+-- how strongly the outermost operator binds: 1 to 5 a binary one, 6 a unary one or the arrow of a receive; 7 where there is
+-- none, or a selection
 abbrev pub outer_precedence : Expression → ℕ
 outer_precedence (Unary operator operand) = 6
+outer_precedence (Receive channel) = 6
 outer_precedence (Binary operator left right) = precedence operator
 outer_precedence expression = 7
+
+-- a built-in function of this name, with what is passed to it
+abbrev pub builtin_value_words : List ℕ → List Lexeme → List Lexeme
+builtin_value_words name passed = Name name ∷ Mark kinds.LeftParenthesis ∷ (passed ++ (Mark kinds.RightParenthesis ∷ []))
 
 abbrev mutual
   pub expression_words : Expression → List Lexeme
@@ -114,6 +152,13 @@ abbrev mutual
       Name name ∷ Mark kinds.LeftBrace ∷ (expressions_words values ++ closing kinds.Comma kinds.RightBrace trailing [])
   expression_words (Unary operator operand) = Mark (unary_kind operator) ∷ expression_words operand
   expression_words (Binary operator left right) = expression_words left ++ (Mark (binary_kind operator) ∷ expression_words right)
+  expression_words (Call function values trailing) =
+      Name function ∷ Mark kinds.LeftParenthesis ∷ (expressions_words values ++ closing kinds.Comma kinds.RightParenthesis trailing [])
+  expression_words (Receive channel) = Mark kinds.Arrow ∷ expression_words channel
+  expression_words (Make channel) = builtin_value_words (codes "make") (type_words channel)
+  expression_words (MakeSized channel size) = builtin_value_words (codes "make") (type_words channel ++ (Mark kinds.Comma ∷ expression_words size))
+  expression_words (Length channel) = builtin_value_words (codes "len") (expression_words channel)
+  expression_words (Capacity channel) = builtin_value_words (codes "cap") (expression_words channel)
 
   -- expressions, with a comma between each two
   pub expressions_words : Expressions → List Lexeme
@@ -125,7 +170,7 @@ abbrev mutual
   more_words NoMore = []
   more_words (Behind first rest) = Mark kinds.Comma ∷ (expression_words first ++ more_words rest)
 
--- A comma stands only behind a value of a literal.
+-- A comma stands only behind a value of a literal or a call.
 abbrev pub HasLast : Expressions → (trailing : Bool) → Type 0
 HasLast NoMore trailing = trailing ≡ false
 HasLast (Behind first rest) trailing = Unit {0}
@@ -146,6 +191,12 @@ abbrev mutual
   IsGrouped literals (Unary operator operand) = IsGrouped literals operand × (6 ≤ outer_precedence operand)
   IsGrouped literals (Binary operator left right) =
       IsGrouped literals left × IsGrouped literals right × (precedence operator ≤ outer_precedence left) × (precedence operator < outer_precedence right)
+  IsGrouped literals (Call function values trailing) = (is_builtin function ≡ false) × AreGrouped literals values × HasLast values trailing
+  IsGrouped literals (Receive channel) = IsGrouped literals channel × (6 ≤ outer_precedence channel)
+  IsGrouped literals (Make channel) = IsType channel
+  IsGrouped literals (MakeSized channel size) = IsType channel × IsGrouped literals size
+  IsGrouped literals (Length channel) = IsGrouped literals channel
+  IsGrouped literals (Capacity channel) = IsGrouped literals channel
 
   pub AreGrouped : (literals : Bool) → Expressions → Type 0
   AreGrouped literals NoMore = Unit {0}

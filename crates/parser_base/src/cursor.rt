@@ -3,7 +3,7 @@
 ghost use Rattle.std.specs.Prelude.{◌≡◌, ◌∷◌, [], IfOk, IfErr, MatchOption, length};
 ghost use Rattle.go_text.specs.Source.{bytes_of};
 ghost use Rattle.parser_base.specs.Lexemes.{lexemes, piece};
-ghost use Rattle.parser_base.specs.Spelling.{is_builtin};
+ghost use Rattle.parser_base.specs.Spelling.{makes_value, is_builtin};
 ghost use Rattle.parser_base.specs.Reading.{Gives, expect, expect_name, plain_name};
 
 use crate::fault::ParseFault;
@@ -39,13 +39,18 @@ fn piece(text: &[u8], span: Span) -> &[u8]
     &rest[..count.min(rest.len())]
 }
 
+/// Whether a name is that of a built-in function whose calls are expressions.
+pub fn makes_value(name: &[u8]) -> bool
+    ensures { result ≡ makes_value name.now }
+{
+    is_word(name, b"make") || is_word(name, b"len") || is_word(name, b"cap")
+}
+
 /// Whether a name stands only in calls of its own.
 pub fn is_builtin(name: &[u8]) -> bool
     ensures { result ≡ is_builtin name.now }
 {
-    is_word(name, b"make")
-        || is_word(name, b"len")
-        || is_word(name, b"cap")
+    makes_value(name)
         || is_word(name, b"close")
         || is_word(name, b"print")
         || is_word(name, b"println")

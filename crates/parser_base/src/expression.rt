@@ -1,32 +1,38 @@
 //! Expressions, by the strength of their operators.
 
-ghost use Rattle.std.specs.Prelude.{◌≡◌, ℕ, ◌<◌, ◌≤◌, ◌+◌, ◌-◌, true, List as Lists, IfOk, IfErr, option_map, map};
-ghost use Rattle.parser_base.specs.declared.fault.ParseFault.TheVariants as faults;
-ghost use Rattle.syntax.specs.Tree.{Expression, Named, Parenthesized, Selection, Composite, Unary, Binary, expressions};
-ghost use Rattle.syntax.specs.Measures.{Entries, highest, expression_height};
-ghost use Rattle.syntax.specs.View.{expression_of};
+ghost use Rattle.std.specs.Prelude.{◌≡◌, ℕ, ◌<◌, ◌≤◌, ◌+◌, ◌-◌, true, List as Lists, IfOk, option_map, map};
+ghost use Rattle.syntax.specs.Tree.{Expression, Parenthesized, Receive, MakeSized, Length, Capacity};
+ghost use Rattle.syntax.specs.Measures.{Entries, highest, type_height, expression_height};
+ghost use Rattle.syntax.specs.View.{type_of, expression_of};
 ghost use Rattle.parser_base.specs.Cursor.{ahead};
 ghost use Rattle.parser_base.specs.Lexemes.{Lexeme};
-ghost use Rattle.parser_base.specs.Reading.{Gives, Reading, TooMany, begins, closed, value_next, listed, values, composite, named, step_at, parenthesized, negated, operand, applied, expression};
+ghost use Rattle.parser_base.specs.Reading.{Gives, Reading, TooMany, as_one, begins, closed, value_next, listed, values, composite, called, named, to_parenthesis, argument, sized, made, builtin, step_at, negated, operand, applied, expression, resumed};
 
-use crate::cursor::{Cursor, Word, is_builtin};
+use crate::beside::beside;
+use crate::cursor::{Cursor, Word, is_builtin, makes_value};
 use crate::fault::ParseFault;
 use crate::found::Found;
 use crate::list::{List, Next};
 use crate::literal::literal;
+use crate::node::{
+    binary_node, call_node, capacity_node, composite_node, length_node, make_node, make_sized_node,
+    named_node, parenthesized_node, receive_node, selection_node, unary_node,
+};
 use crate::operator::{Infix, infix_of, precedence, strength, unary_of};
+use crate::types::{type_at, type_height};
+use go_text::is_word;
 use scanner::TokenKind;
 use std::alloc::Global;
 use syntax::limits::MAX_ENTRIES;
-use syntax::{BinaryOperator, ExpressionNode, Name, UnaryOperator};
+use syntax::{BinaryOperator, ExpressionNode, TypeNode, UnaryOperator};
 
 /// An expression that was read, with its height, and what follows it.
 #[derive(Drop)]
-struct Measured<'a> {
-    node: ExpressionNode,
+pub struct Measured<'a> {
+    pub node: ExpressionNode,
     /// Its height, which is 1 at a leaf.
-    height: u32,
-    rest: Cursor<'a>,
+    pub height: usize,
+    pub rest: Cursor<'a>,
 }
 
 /// The step here, if it binds at least so strongly, and the place behind its mark.
@@ -52,13 +58,14 @@ pub fn begins(cursor: Cursor<'_>) -> bool
 {
     match cursor.next() {
         Some((Word::Literal(_), _)) => true,
-        Some((Word::Name(name), _)) => !is_builtin(name),
+        Some((Word::Name(name), _)) => !is_builtin(name) || makes_value(name),
         Some((Word::Mark(kind), _)) => {
             kind == TokenKind::LeftParenthesis
                 || kind == TokenKind::Plus
                 || kind == TokenKind::Minus
                 || kind == TokenKind::Not
                 || kind == TokenKind::Caret
+                || kind == TokenKind::Arrow
         }
         _ => false,
     }
@@ -94,84 +101,6 @@ pub fn value_next(close: TokenKind, cursor: Cursor<'_>) -> Result<(Next, Cursor<
     }
 }
 
-/// A name in memory of its own.
-pub fn name_node(alloc: Global, name: &[u8]) -> Result<Name, ParseFault>
-    ensures ok { IfOk result (λ x. x.bytes.items ≡ name.now) }
-    ensures err { IfErr result (λ e. e ≡ faults.Memory) }
-{
-    Ok(Name {
-        bytes: Vec::from_slice(alloc, name)?,
-    })
-}
-
-/// An expression in parentheses, as a node.
-fn parenthesized_node(alloc: Global, inner: ExpressionNode) -> Result<ExpressionNode, ParseFault>
-    ensures ok { IfOk result (λ tree. expression_of tree ≡ Parenthesized (expression_of inner)) }
-    ensures err { IfErr result (λ e. e ≡ faults.Memory) }
-{
-    Ok(ExpressionNode::Parenthesized(Box::new(alloc, inner)?))
-}
-
-/// A unary operation, as a node.
-fn unary_node(
-    alloc: Global,
-    operator: UnaryOperator,
-    operand: ExpressionNode,
-) -> Result<ExpressionNode, ParseFault>
-    ensures ok { IfOk result (λ tree. expression_of tree ≡ Unary operator (expression_of operand)) }
-    ensures err { IfErr result (λ e. e ≡ faults.Memory) }
-{
-    Ok(ExpressionNode::Unary(operator, Box::new(alloc, operand)?))
-}
-
-/// A binary operation, as a node.
-fn binary_node(
-    alloc: Global,
-    operator: BinaryOperator,
-    left: ExpressionNode,
-    right: ExpressionNode,
-) -> Result<ExpressionNode, ParseFault>
-    ensures ok { IfOk result (λ tree. expression_of tree ≡ Binary operator (expression_of left) (expression_of right)) }
-    ensures err { IfErr result (λ e. e ≡ faults.Memory) }
-{
-    Ok(ExpressionNode::Binary(operator, Box::new(alloc, left)?, Box::new(alloc, right)?))
-}
-
-/// A selection, as a node.
-fn selection_node(
-    alloc: Global,
-    whole: ExpressionNode,
-    field: &[u8],
-) -> Result<ExpressionNode, ParseFault>
-    ensures ok { IfOk result (λ tree. expression_of tree ≡ Selection (expression_of whole) field.now) }
-    ensures err { IfErr result (λ e. e ≡ faults.Memory) }
-{
-    let field = name_node(alloc, field)?;
-    Ok(ExpressionNode::Selection(Box::new(alloc, whole)?, field))
-}
-
-/// An operand name, as a node.
-fn named_node(alloc: Global, name: &[u8]) -> Result<ExpressionNode, ParseFault>
-    ensures ok { IfOk result (λ tree. expression_of tree ≡ Named name.now) }
-    ensures err { IfErr result (λ e. e ≡ faults.Memory) }
-{
-    Ok(ExpressionNode::Named(name_node(alloc, name)?))
-}
-
-/// A composite literal, as a node.
-fn composite_node(
-    alloc: Global,
-    name: &[u8],
-    values: Vec<ExpressionNode>,
-    trailing: bool,
-) -> Result<ExpressionNode, ParseFault>
-    ensures ok { IfOk result (λ tree. expression_of tree ≡ Composite name.now (expressions (map expression_of values.items)) trailing) }
-    ensures err { IfErr result (λ e. e ≡ faults.Memory) }
-{
-    let name = name_node(alloc, name)?;
-    Ok(ExpressionNode::Composite(name, values, trailing))
-}
-
 /// The values of a list to its closing mark, behind the opening one, and the height of the highest of them, or 0.
 #[cycle(expression)]
 #[tactic(auto, unfolding(crate::specs::Reading::values))]
@@ -181,7 +110,7 @@ pub fn values(
     room: u32,
     close: TokenKind,
     cursor: Cursor<'_>,
-) -> Result<(List<'_, ExpressionNode>, u32), ParseFault>
+) -> Result<(List<'_, ExpressionNode>, usize), ParseFault>
     ensures values { Gives (λ x. ((map expression_of x.0.entries.items, x.0.trailing), ahead x.0.rest)) result (values (expression literals MAX_ENTRIES room) close MAX_ENTRIES (ahead cursor.entry)) }
     ensures height { IfOk result (λ x. x.1 ≡ highest expression_height (map expression_of x.0.entries.items)) }
     ensures within { IfOk result (λ x. x.1 ≤ room) }
@@ -206,7 +135,7 @@ fn expression_list(
     room: u32,
     close: TokenKind,
     cursor: Cursor<'_>,
-) -> Result<(List<'_, ExpressionNode>, u32), ParseFault>
+) -> Result<(List<'_, ExpressionNode>, usize), ParseFault>
     ensures values { Gives (λ x. ((map expression_of x.0.entries.items, x.0.trailing), ahead x.0.rest)) result (listed (expression literals MAX_ENTRIES room 0) (value_next close) (TooMany Entries) MAX_ENTRIES (ahead cursor.entry)) }
     ensures height { IfOk result (λ x. x.1 ≡ highest expression_height (map expression_of x.0.entries.items)) }
     ensures within { IfOk result (λ x. x.1 ≤ room) }
@@ -256,7 +185,31 @@ fn composite_literal<'a>(
     })
 }
 
-/// An operand name, or a composite literal of a type of this name.
+/// A call of a function of this name, behind its first parenthesis.
+#[cycle(expression)]
+#[tactic(auto, unfolding(crate::specs::Reading::called))]
+fn call<'a>(
+    alloc: Global,
+    literals: bool,
+    room: u32,
+    name: &[u8],
+    cursor: Cursor<'a>,
+) -> Result<Measured<'a>, ParseFault>
+    requires { 1 ≤ room }
+    ensures tree { Gives (λ x. (expression_of x.node, ahead x.rest)) result (called (expression literals MAX_ENTRIES (room - 1)) MAX_ENTRIES name.now (ahead cursor.entry)) }
+    ensures height { IfOk result (λ x. (x.height ≡ expression_height (expression_of x.node)) × (x.height ≤ room)) }
+{
+    let close = TokenKind::RightParenthesis;
+    let (values, highest) = values(alloc, literals, room - 1, close, cursor)?;
+    let node = call_node(alloc, name, values.entries, values.trailing)?;
+    Ok(Measured {
+        node,
+        height: highest + 1,
+        rest: values.rest,
+    })
+}
+
+/// An operand name, a call of a function of this name, or a composite literal of a type of this name.
 #[cycle(expression)]
 #[tactic(auto, unfolding(crate::specs::Reading::named))]
 fn operand_name<'a>(
@@ -270,8 +223,11 @@ fn operand_name<'a>(
     ensures tree { Gives (λ x. (expression_of x.node, ahead x.rest)) result (named literals (expression literals MAX_ENTRIES (room - 1)) MAX_ENTRIES name.now (ahead cursor.entry)) }
     ensures height { IfOk result (λ x. (x.height ≡ expression_height (expression_of x.node)) × (x.height ≤ room)) }
 {
-    if literals {
-        if let Some((Word::Mark(TokenKind::LeftBrace), rest)) = cursor.next() {
+    if let Some((Word::Mark(kind), rest)) = cursor.next() {
+        if kind == TokenKind::LeftParenthesis {
+            return call(alloc, literals, room, name, rest);
+        }
+        if literals && kind == TokenKind::LeftBrace {
             return composite_literal(alloc, room, name, rest);
         }
     }
@@ -282,9 +238,43 @@ fn operand_name<'a>(
     })
 }
 
+/// An expression and a closing parenthesis.
+#[cycle(expression)]
+#[tactic(auto, unfolding(crate::specs::Reading::to_parenthesis))]
+fn to_parenthesis(
+    alloc: Global,
+    literals: bool,
+    room: u32,
+    cursor: Cursor<'_>,
+) -> Result<Measured<'_>, ParseFault>
+    ensures tree { Gives (λ x. (expression_of x.node, ahead x.rest)) result (to_parenthesis (expression literals MAX_ENTRIES room) (ahead cursor.entry)) }
+    ensures height { IfOk result (λ x. (x.height ≡ expression_height (expression_of x.node)) × (x.height ≤ room)) }
+{
+    let inner = measured_expression(alloc, literals, room, 0, cursor)?;
+    let height = inner.height;
+    let (node, rest) = beside(inner.node, inner.rest.expect(TokenKind::RightParenthesis))?;
+    Ok(Measured { node, height, rest })
+}
+
+/// One argument in parentheses, without a comma behind it.
+#[cycle(expression)]
+#[tactic(auto, unfolding(crate::specs::Reading::argument))]
+pub fn argument(
+    alloc: Global,
+    literals: bool,
+    room: u32,
+    cursor: Cursor<'_>,
+) -> Result<Measured<'_>, ParseFault>
+    ensures tree { Gives (λ x. (expression_of x.node, ahead x.rest)) result (argument (expression literals MAX_ENTRIES room) (ahead cursor.entry)) }
+    ensures height { IfOk result (λ x. (x.height ≡ expression_height (expression_of x.node)) × (x.height ≤ room)) }
+{
+    let inside = cursor.expect(TokenKind::LeftParenthesis)?;
+    to_parenthesis(alloc, literals, room, inside)
+}
+
 /// An expression in parentheses, behind the first of them, which stands at `first`.
 #[cycle(expression)]
-#[tactic(auto, unfolding(crate::specs::Reading::parenthesized, crate::specs::Reading::expression))]
+#[tactic(auto, unfolding(crate::specs::Reading::to_parenthesis, crate::specs::Reading::expression))]
 fn parenthesized<'a>(
     alloc: Global,
     literals: bool,
@@ -293,19 +283,183 @@ fn parenthesized<'a>(
     cursor: Cursor<'a>,
 ) -> Result<Measured<'a>, ParseFault>
     requires { 1 ≤ room }
-    ensures tree { Gives (λ x. (expression_of x.node, ahead x.rest)) result (parenthesized (expression literals MAX_ENTRIES (room - 1)) (ahead cursor.entry)) }
+    ensures tree { Gives (λ x. (expression_of x.node, ahead x.rest)) result (as_one Parenthesized (to_parenthesis (expression literals MAX_ENTRIES (room - 1)) (ahead cursor.entry))) }
     ensures height { IfOk result (λ x. (x.height ≡ expression_height (expression_of x.node)) × (x.height ≤ room)) }
 {
     if room < 2 {
         return Err(ParseFault::TooDeep(first.place()));
     }
-    let inner = measured_expression(alloc, literals, room - 1, 0, cursor)?;
-    let rest = inner.rest.expect(TokenKind::RightParenthesis)?;
+    let inner = to_parenthesis(alloc, literals, room - 1, cursor)?;
     let node = parenthesized_node(alloc, inner.node)?;
     Ok(Measured {
         node,
         height: inner.height + 1,
-        rest,
+        rest: inner.rest,
+    })
+}
+
+/// A `make` with the size of the buffer, from behind the comma on.
+#[cycle(expression)]
+fn make_with_size<'a>(
+    alloc: Global,
+    literals: bool,
+    room: u32,
+    channel: TypeNode,
+    cursor: Cursor<'a>,
+) -> Result<Measured<'a>, ParseFault>
+    requires room { 1 ≤ room }
+    requires low { type_height (type_of channel) < room }
+    ensures tree { Gives (λ x. (expression_of x.node, ahead x.rest)) result (as_one (MakeSized (type_of channel)) (to_parenthesis (expression literals MAX_ENTRIES (room - 1)) (ahead cursor.entry))) }
+    ensures height { IfOk result (λ x. (x.height ≡ expression_height (expression_of x.node)) × (x.height ≤ room)) }
+{
+    let levels = type_height(&channel) as usize;
+    let (channel, size) = beside(channel, to_parenthesis(alloc, literals, room - 1, cursor))?;
+    let height = levels.max(size.height) + 1;
+    let rest = size.rest;
+    let node = make_sized_node(alloc, channel, size.node)?;
+    Ok(Measured { node, height, rest })
+}
+
+/// The rest of a `make` of this type: the size of the buffer, if there is one, and the closing parenthesis.
+#[cycle(expression)]
+#[tactic(auto, unfolding(crate::specs::Reading::sized))]
+fn make_of<'a>(
+    alloc: Global,
+    literals: bool,
+    room: u32,
+    channel: TypeNode,
+    cursor: Cursor<'a>,
+) -> Result<Measured<'a>, ParseFault>
+    requires room { 1 ≤ room }
+    requires low { type_height (type_of channel) < room }
+    ensures tree { Gives (λ x. (expression_of x.node, ahead x.rest)) result (sized (expression literals MAX_ENTRIES (room - 1)) (type_of channel) (ahead cursor.entry)) }
+    ensures height { IfOk result (λ x. (x.height ≡ expression_height (expression_of x.node)) × (x.height ≤ room)) }
+{
+    let Some((Word::Mark(kind), rest)) = cursor.next() else {
+        return Err(ParseFault::Syntax(cursor.place()));
+    };
+    if kind == TokenKind::Comma {
+        return make_with_size(alloc, literals, room, channel, rest);
+    }
+    let height = type_height(&channel) as usize + 1;
+    let (channel, rest) = beside(channel, cursor.expect(TokenKind::RightParenthesis))?;
+    let node = make_node(alloc, channel)?;
+    Ok(Measured { node, height, rest })
+}
+
+/// What stands behind `make`.
+#[cycle(expression)]
+#[tactic(auto, unfolding(crate::specs::Reading::made))]
+fn make_call(
+    alloc: Global,
+    literals: bool,
+    room: u32,
+    cursor: Cursor<'_>,
+) -> Result<Measured<'_>, ParseFault>
+    requires { 1 ≤ room }
+    ensures tree { Gives (λ x. (expression_of x.node, ahead x.rest)) result (made (expression literals MAX_ENTRIES (room - 1)) (room - 1) (ahead cursor.entry)) }
+    ensures height { IfOk result (λ x. (x.height ≡ expression_height (expression_of x.node)) × (x.height ≤ room)) }
+{
+    let inside = cursor.expect(TokenKind::LeftParenthesis)?;
+    let channel = type_at(alloc, room - 1, inside)?;
+    make_of(alloc, literals, room, channel.node, channel.rest)
+}
+
+/// What stands behind `len`.
+#[cycle(expression)]
+fn len_call(
+    alloc: Global,
+    literals: bool,
+    room: u32,
+    cursor: Cursor<'_>,
+) -> Result<Measured<'_>, ParseFault>
+    requires { 1 ≤ room }
+    ensures tree { Gives (λ x. (expression_of x.node, ahead x.rest)) result (as_one Length (argument (expression literals MAX_ENTRIES (room - 1)) (ahead cursor.entry))) }
+    ensures height { IfOk result (λ x. (x.height ≡ expression_height (expression_of x.node)) × (x.height ≤ room)) }
+{
+    let channel = argument(alloc, literals, room - 1, cursor)?;
+    let node = length_node(alloc, channel.node)?;
+    Ok(Measured {
+        node,
+        height: channel.height + 1,
+        rest: channel.rest,
+    })
+}
+
+/// What stands behind `cap`.
+#[cycle(expression)]
+fn cap_call(
+    alloc: Global,
+    literals: bool,
+    room: u32,
+    cursor: Cursor<'_>,
+) -> Result<Measured<'_>, ParseFault>
+    requires { 1 ≤ room }
+    ensures tree { Gives (λ x. (expression_of x.node, ahead x.rest)) result (as_one Capacity (argument (expression literals MAX_ENTRIES (room - 1)) (ahead cursor.entry))) }
+    ensures height { IfOk result (λ x. (x.height ≡ expression_height (expression_of x.node)) × (x.height ≤ room)) }
+{
+    let channel = argument(alloc, literals, room - 1, cursor)?;
+    let node = capacity_node(alloc, channel.node)?;
+    Ok(Measured {
+        node,
+        height: channel.height + 1,
+        rest: channel.rest,
+    })
+}
+
+/// A call of a built-in function that makes or measures a channel, behind its name, which stands at `first`.
+#[cycle(expression)]
+#[tactic(auto, unfolding(crate::specs::Reading::builtin))]
+fn builtin_call<'a>(
+    alloc: Global,
+    literals: bool,
+    room: u32,
+    name: &[u8],
+    first: Cursor<'a>,
+    cursor: Cursor<'a>,
+) -> Result<Measured<'a>, ParseFault>
+    requires { 1 ≤ room }
+    ensures tree { Gives (λ x. (expression_of x.node, ahead x.rest)) result (builtin (expression literals MAX_ENTRIES (room - 1)) (room - 1) name.now (ahead cursor.entry)) }
+    ensures height { IfOk result (λ x. (x.height ≡ expression_height (expression_of x.node)) × (x.height ≤ room)) }
+{
+    if room < 2 && makes_value(name) {
+        return Err(ParseFault::TooDeep(first.place()));
+    }
+    if is_word(name, b"make") {
+        return make_call(alloc, literals, room, cursor);
+    }
+    if is_word(name, b"len") {
+        return len_call(alloc, literals, room, cursor);
+    }
+    if is_word(name, b"cap") {
+        return cap_call(alloc, literals, room, cursor);
+    }
+    Err(ParseFault::Syntax(first.place()))
+}
+
+/// The operand of a receive, whose arrow stands at `first`.
+#[cycle(expression)]
+#[tactic(auto, unfolding(crate::specs::Reading::expression))]
+fn receive<'a>(
+    alloc: Global,
+    literals: bool,
+    room: u32,
+    first: Cursor<'a>,
+    cursor: Cursor<'a>,
+) -> Result<Measured<'a>, ParseFault>
+    requires { 1 ≤ room }
+    ensures tree { Gives (λ x. (expression_of x.node, ahead x.rest)) result (as_one Receive (expression literals MAX_ENTRIES (room - 1) 6 (ahead cursor.entry))) }
+    ensures height { IfOk result (λ x. (x.height ≡ expression_height (expression_of x.node)) × (x.height ≤ room)) }
+{
+    if room < 2 {
+        return Err(ParseFault::TooDeep(first.place()));
+    }
+    let channel = measured_expression(alloc, literals, room - 1, 6, cursor)?;
+    let node = receive_node(alloc, channel.node)?;
+    Ok(Measured {
+        node,
+        height: channel.height + 1,
+        rest: channel.rest,
     })
 }
 
@@ -346,7 +500,7 @@ fn operand(
     cursor: Cursor<'_>,
 ) -> Result<Measured<'_>, ParseFault>
     requires { 1 ≤ room }
-    ensures tree { Gives (λ x. (expression_of x.node, ahead x.rest)) result (operand literals (expression literals MAX_ENTRIES (room - 1)) MAX_ENTRIES (ahead cursor.entry)) }
+    ensures tree { Gives (λ x. (expression_of x.node, ahead x.rest)) result (operand literals (expression literals MAX_ENTRIES (room - 1)) (room - 1) MAX_ENTRIES (ahead cursor.entry)) }
     ensures height { IfOk result (λ x. (x.height ≡ expression_height (expression_of x.node)) × (x.height ≤ room)) }
 {
     let Some((word, rest)) = cursor.next() else {
@@ -360,7 +514,7 @@ fn operand(
         }),
         Word::Name(name) => {
             if is_builtin(name) {
-                return Err(ParseFault::Syntax(cursor.place()));
+                return builtin_call(alloc, literals, room, name, cursor, rest);
             }
             operand_name(alloc, literals, room, name, rest)
         }
@@ -368,6 +522,9 @@ fn operand(
         Word::Mark(kind) => {
             if kind == TokenKind::LeftParenthesis {
                 return parenthesized(alloc, literals, room, cursor, rest);
+            }
+            if kind == TokenKind::Arrow {
+                return receive(alloc, literals, room, cursor, rest);
             }
             let Some(operator) = unary_of(kind) else {
                 return Err(ParseFault::Syntax(cursor.place()));
@@ -445,10 +602,39 @@ fn selection<'a>(
     Ok(Measured { node, height, rest })
 }
 
-/// An expression of at most so many levels, as `expression` reads it.
+/// An expression of at most so many levels that begins with the operand `left`, which was read before. `left` may be a
+/// level higher where nothing goes on with it.
 #[cycle(expression)]
-#[tactic(auto, unfolding(crate::specs::Reading::expression, crate::specs::Reading::operation, crate::specs::Reading::operations))]
-fn measured_expression(
+#[tactic(auto, unfolding(crate::specs::Reading::resumed))]
+pub fn resumed_expression<'a>(
+    alloc: Global,
+    literals: bool,
+    room: u32,
+    least: u32,
+    left: Measured<'a>,
+) -> Result<Measured<'a>, ParseFault>
+    requires { left.height ≡ expression_height (expression_of left.node) }
+    ensures tree { Gives (λ x. (expression_of x.node, ahead x.rest)) result (resumed literals MAX_ENTRIES room least (expression_of left.entry.node) (ahead left.entry.rest)) }
+    ensures height { IfOk result (λ x. x.height ≡ expression_height (expression_of x.node)) }
+    ensures within { left.entry.height ≤ room → IfOk result (λ x. x.height ≤ room) }
+{
+    let mut left = left;
+    for _ in 0..room {
+        let Some((step, after)) = step_at(least, left.rest) else {
+            return Ok(left);
+        };
+        if left.height >= room as usize {
+            return Err(ParseFault::TooDeep(left.rest.place()));
+        }
+        left = applied(alloc, literals, room, left, step, after)?;
+    }
+    Err(ParseFault::TooDeep(left.rest.place()))
+}
+
+/// An expression of at most so many levels, as `expression` reads it, with its height.
+#[cycle(expression)]
+#[tactic(auto, unfolding(crate::specs::Reading::expression, crate::specs::Reading::resumed))]
+pub fn measured_expression(
     alloc: Global,
     literals: bool,
     room: u32,
@@ -461,17 +647,8 @@ fn measured_expression(
     if room == 0 {
         return Err(ParseFault::TooDeep(cursor.place()));
     }
-    let mut left = operand(alloc, literals, room, cursor)?;
-    for _ in 0..room {
-        let Some((step, after)) = step_at(least, left.rest) else {
-            return Ok(left);
-        };
-        if left.height >= room {
-            return Err(ParseFault::TooDeep(left.rest.place()));
-        }
-        left = applied(alloc, literals, room, left, step, after)?;
-    }
-    Err(ParseFault::TooDeep(left.rest.place()))
+    let left = operand(alloc, literals, room, cursor)?;
+    resumed_expression(alloc, literals, room, least, left)
 }
 
 /// An expression of at most so many levels, whose outermost operator binds at least so strongly. Composite literals stand

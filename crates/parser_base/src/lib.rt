@@ -8,6 +8,7 @@ pub mod fault;
 pub mod found;
 pub mod list;
 pub mod literal;
+pub mod node;
 pub mod operator;
 pub mod text;
 pub mod types;

@@ -1,20 +1,32 @@
 //! Types.
 
-ghost use Rattle.std.specs.Prelude.{◌≡◌, ◌≤◌, ◌-◌, IfOk, IfErr};
+ghost use Rattle.std.specs.Prelude.{◌≡◌, ◌≤◌, ◌<◌, ◌^◌, ◌-◌, IfOk, IfErr};
 ghost use Rattle.parser_base.specs.declared.fault.ParseFault.TheVariants as faults;
 ghost use Rattle.syntax.specs.Tree.{NamedType, ParenthesizedType, Channel};
+ghost use Rattle.syntax.specs.Measures.{type_height};
 ghost use Rattle.syntax.specs.View.{type_of};
 ghost use Rattle.parser_base.specs.Cursor.{ahead};
-ghost use Rattle.parser_base.specs.Reading.{Gives};
-ghost use Rattle.parser_base.specs.TypeReading.{parenthesized_type, channel, behind_chan, behind_arrow, type_at};
+ghost use Rattle.parser_base.specs.Reading.{Gives, parenthesized_type, channel_type, behind_chan, behind_arrow, type_at};
 
 use crate::cursor::{Cursor, Word, is_builtin};
-use crate::expression::name_node;
 use crate::fault::ParseFault;
 use crate::found::Found;
+use crate::node::name_node;
 use scanner::TokenKind;
 use std::alloc::Global;
 use syntax::{Direction, TypeNode};
+
+/// How many levels a type has.
+pub fn type_height(kind: &TypeNode) -> u32
+    requires { type_height (type_of kind.now) < 2 ^ 32 }
+    ensures { result ≡ type_height (type_of kind.now) }
+{
+    match kind {
+        TypeNode::Named(_) => 1,
+        TypeNode::Parenthesized(inner) => type_height(inner) + 1,
+        TypeNode::Channel(_, element) => type_height(element) + 1,
+    }
+}
 
 /// A type's name, as a node.
 fn named_node(alloc: Global, name: &[u8]) -> Result<TypeNode, ParseFault>
@@ -46,7 +58,7 @@ fn channel_node(
 
 /// A type in parentheses, behind the first of them, which stands at `first`.
 #[cycle(type_at)]
-#[tactic(auto, unfolding(crate::specs::TypeReading::parenthesized_type, crate::specs::TypeReading::type_at))]
+#[tactic(auto, unfolding(crate::specs::Reading::parenthesized_type, crate::specs::Reading::type_at))]
 fn parenthesized_type<'a>(
     alloc: Global,
     room: u32,
@@ -67,7 +79,7 @@ fn parenthesized_type<'a>(
 
 /// A channel type of this direction, from the type of its elements on; its first token stands at `first`.
 #[cycle(type_at)]
-#[tactic(auto, unfolding(crate::specs::TypeReading::type_at))]
+#[tactic(auto, unfolding(crate::specs::Reading::type_at))]
 fn channel_type<'a>(
     alloc: Global,
     room: u32,
@@ -76,7 +88,7 @@ fn channel_type<'a>(
     cursor: Cursor<'a>,
 ) -> Result<Found<'a, TypeNode>, ParseFault>
     requires { 1 ≤ room }
-    ensures { Gives (λ x. (type_of x.node, ahead x.rest)) result (channel direction (type_at (room - 1)) (ahead cursor.entry)) }
+    ensures { Gives (λ x. (type_of x.node, ahead x.rest)) result (channel_type direction (type_at (room - 1)) (ahead cursor.entry)) }
 {
     if room < 2 {
         return Err(ParseFault::TooDeep(first.place()));
@@ -91,7 +103,7 @@ fn channel_type<'a>(
 
 /// A channel type behind `chan`, which stands at `first`: one to send alone where `<-` follows.
 #[cycle(type_at)]
-#[tactic(auto, unfolding(crate::specs::TypeReading::behind_chan))]
+#[tactic(auto, unfolding(crate::specs::Reading::behind_chan))]
 fn behind_chan<'a>(
     alloc: Global,
     room: u32,
@@ -111,7 +123,7 @@ fn behind_chan<'a>(
 
 /// A channel type to receive from alone, behind `<-`, which stands at `first`.
 #[cycle(type_at)]
-#[tactic(auto, unfolding(crate::specs::TypeReading::behind_arrow))]
+#[tactic(auto, unfolding(crate::specs::Reading::behind_arrow))]
 fn behind_arrow<'a>(
     alloc: Global,
     room: u32,
@@ -127,7 +139,7 @@ fn behind_arrow<'a>(
 
 /// A type of at most so many levels ("Types" of the Go specification: a name, a channel type, or one in parentheses).
 #[cycle(type_at)]
-#[tactic(auto, unfolding(crate::specs::TypeReading::type_at))]
+#[tactic(auto, unfolding(crate::specs::Reading::type_at))]
 pub fn type_at(
     alloc: Global,
     room: u32,

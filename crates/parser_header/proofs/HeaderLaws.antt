@@ -1,40 +1,45 @@
--- Headers of an if and a for, and what a clause of a select waits for: what is spelt is read, and what is read is spelt so.
-use Rattle.std.proofs.Common.{◌≡◌, ℕ, suc, ◌≤◌, Bool, true, false, cond, ◌&&◌, ◌==◌, Option, Some, None, max, List, [], ◌∷◌, Ok, inl, inr, refl, sym, ap, ◌∙◌, subst, arith}
-use Rattle.std.proofs.lemmas.Bool.{eqb-true}
+-- Headers of an if and a for: what is spelt is read, and what is read is spelt so.
+use Rattle.std.proofs.Common.{◌≡◌, ℕ, suc, ◌≤◌, Bool, true, false, cond, ◌&&◌, ◌==◌, Option, Some, None, max, List, [], ◌∷◌, Result, Ok, Err, nat_le, ◌<◌, inl, inr, refl, sym, ap, ◌∙◌, subst, arith}
+use Rattle.std.proofs.lemmas.Bool.{eqb-true, lt-leb, leb-true}
 use Rattle.scanner.specs.declared.kind.TokenKind.{TokenKind}
 use Rattle.scanner.specs.declared.kind.TokenKind.TheVariants as kinds
 use Rattle.syntax.specs.declared.node.BinaryOperator.{BinaryOperator}
-use Rattle.syntax.specs.Tree.{Expression, Call, Receive, Make, Length, Capacity, Right, RightOperation, Values, Place, Simple, CallAlone, Close, Print, ReceiveAlone, Send, Increment, Decrement, Assign, Define, Update, Comm, CommSend, CommReceive, CommDefine, CommAssign, IfHead, Bare, Semicolon, First, Target, NoTarget, DefineTarget, AssignTarget, ForHead, Forever, While, ForClauses, Range}
-use Rattle.syntax.specs.Measures.{Listing, if_any, expression_height, expression_longest, simple_height, simple_longest, if_head_height, if_head_longest, for_head_height, for_head_longest, comm_height, comm_longest}
-use Rattle.parser_base.specs.Lexemes.{Lexeme, Literal, Name, Text, Mark}
+use Rattle.syntax.specs.Tree.{Expression, Receive, Arguments, Place, Simple, CallAlone, Close, Print, ReceiveAlone, Send, Increment, Decrement, Assign, Define, Update, IfHead, Bare, Semicolon, First, Target, NoTarget, DefineTarget, AssignTarget, ForHead, Forever, While, ForClauses, Range}
+use Rattle.syntax.specs.Measures.{Listing, if_any, expression_height, expression_longest, simple_height, simple_longest, if_head_height, if_head_longest, for_head_height, for_head_longest}
+use Rattle.parser_base.specs.Lexemes.{Lexeme, Name, Mark}
 use Rattle.parser_base.specs.Spelling.{behind, separated, joined, before, outer_precedence, precedence, IsGrouped}
-use Rattle.parser_base.specs.Reading.{Reading, ◌>>=◌, is_kind, expect, plain_name, begins, step_at, expression}
-use Rattle.parser_base.proofs.Marks.{bind_ok, ok_is, kind_is, expect_is, plain_name_is, plain_name_again}
-use Rattle.parser_base.proofs.ListLaws.{AreFew, ReadBack, Found}
-use Rattle.parser_base.proofs.ExpressionAgain.{EndsExpression, shut}
-use Rattle.parser_base.proofs.Steps.{then_again, made_again, gave, Sound, made_is, either}
-use Rattle.parser_simple.specs.declared.form.Form.{Form}
+use Rattle.syntax.specs.declared.node.BinaryOperator.TheVariants as binaries
+use Rattle.parser_base.specs.declared.operator.Infix.{Infix}
+use Rattle.parser_base.specs.declared.operator.Infix.TheVariants.{Operator, Period}
+use Rattle.parser_base.specs.Reading.{Refusal, Syntax, TooDeep, Reading, ◌>>=◌, as_one, is_kind, expect, plain_name, begins, step_at, expression, resumed}
+use Rattle.parser_base.proofs.Marks.{bind_ok, ok_is, expect_is, plain_name_is, plain_name_again}
+use Rattle.parser_base.proofs.ListLaws.{AreFew, ReadBack, Found, High}
+use Rattle.parser_base.proofs.ExpressionAgain.{step_kind, IsLone, EndsExpression, shut, none_unary, begins_again}
+use Rattle.parser_base.proofs.ExpressionSound.{IsOperand}
+use Rattle.parser_base.proofs.Resumed.{Begun, begun, FromFirst, Again, Alone, from_first}
+use Rattle.parser_base.proofs.Steps.{then_again, made_again, read_as, gave, Sound, made_is, either}
 use Rattle.parser_simple.specs.declared.form.Form.TheVariants as forms
-use Rattle.parser_simple.specs.Spelling.{name_words, IsName, place_words, IsPlace, IsPrimary, right_words, IsRight, update_kind, simple_words, IsSimple}
-use Rattle.parser_header.specs.Spelling.{IsAny, second_name_words, second_place_words, comm_words, IsComm, if_head_words, IsIfHead, optional, target_words, IsTarget, for_head_words, IsForHead}
-use Rattle.parser_simple.specs.Reading.{as_one, behind_mark, before_mark, begins_with, begins_operation, defines, form_of, place, primary, sent, simple, led, fits}
+use Rattle.parser_simple.specs.Spelling.{IsName, place_words, IsPlace, IsPrimary, IsUnary, arguments_words, AreArguments, right_words, IsRight, update_kind, simple_words, IsSimple}
+use Rattle.parser_header.specs.Spelling.{IsAny, if_head_words, IsIfHead, optional, target_words, IsTarget, for_head_words, IsForHead}
+use Rattle.parser_simple.specs.Reading.{behind_mark, before_mark, begins_with, begins_call, defines, form_of, received, arguments, call_of, simple, led, within, fits}
 use Rattle.parser_simple.proofs.BeginLaws.{value_not}
-use Rattle.parser_header.specs.Reading.{Head, HeadSimple, HeadCondition, is_primary, condition_or_sent, led_or_condition, head, second, received, comm_defined, comm_assigned, comm_formed, comm, condition, behind_semicolon, behind_head, if_headed, if_header, unless_next, post_behind, for_clauses, ranged, range_defined, range_assigned, for_headed, ranges, for_begun, for_header}
-use Rattle.parser_simple.proofs.PlaceLaws.{place_again, place_sound}
+use Rattle.parser_header.specs.Reading.{Head, HeadSimple, HeadCondition, is_primary, condition_or_sent, led_or_condition, ends_condition, headed_on, alone_or_on, received_head, head_received, called_head, head_called, head, condition, behind_semicolon, behind_head, if_headed, if_header, unless_next, post_behind, for_clauses, ranged, range_defined, range_assigned, for_headed, ranges, for_begun, for_header}
+use Rattle.parser_simple.proofs.PlaceLaws.{place_again}
 use Rattle.parser_simple.proofs.FormLaws.{update_again, fields_form, no_defines, no_form, led_none}
-use Rattle.parser_simple.proofs.FitLaws.{fits_again, operand_fits, condition_fits}
-use Rattle.parser_simple.proofs.RightLaws.{Stops, value_again, primary_again, no_operation, value_sound, primary_sound}
-use Rattle.parser_simple.proofs.SimpleLaws.{SimpleSound, before_mark_sound, is_send, led_again, led_channel, LedSound, led_sound, sent_again, sent_sound, simple_again, simple_sound}
+use Rattle.parser_simple.proofs.FitLaws.{Fits, within_fits, fits_again, operand_fits, condition_fits}
+use Rattle.parser_simple.proofs.RightLaws.{Stops, EndsAt, ends_at, value_again, received_again, arguments_again, value_sound, received_sound}
+use Rattle.parser_simple.proofs.CallLaws.{Starts, WithCall, WithReceive, WithNeither, starts, BeginsCall, begins_call_as, call_operand_sound, receive_operand_sound, call_alone_sound, resumed_is}
+use Rattle.parser_simple.proofs.SimpleLaws.{SimpleSound, before_mark_sound, is_led, led_again, BeginsOther, led_begins, LedSound, led_sound, simple_again, simple_sound}
 
 -- ---- simple statements and conditions
 
 semicolon_stops : (literals : Bool) (ws : List Lexeme) → Stops literals (Mark kinds.Semicolon ∷ ws)
 unfolding step_at begins_with
-semicolon_stops literals ws = record { ends = record { none = refl; shut = shut literals kinds.Semicolon ws refl }; comma = refl; open' = refl }
+semicolon_stops literals ws = record { ends = record { none = refl; shut = shut literals kinds.Semicolon ws refl refl }; comma = refl; arrow = refl }
 
 brace_stops : (ws : List Lexeme) → Stops false (Mark kinds.LeftBrace ∷ ws)
 unfolding step_at begins_with
-brace_stops ws = record { ends = record { none = refl; shut = tt }; comma = refl; open' = refl }
+brace_stops ws = record { ends = record { none = refl; shut = (refl, refl) }; comma = refl; arrow = refl }
 
 semicolon_ends : (ws : List Lexeme) → EndsExpression false (Mark kinds.Semicolon ∷ ws)
 semicolon_ends ws = (semicolon_stops false ws).ends
@@ -44,44 +49,207 @@ brace_ends ws = (brace_stops ws).ends
 
 arrow_ends : (ws : List Lexeme) → EndsExpression false (Mark kinds.Arrow ∷ ws)
 unfolding step_at
-arrow_ends ws = record { none = refl; shut = tt }
+arrow_ends ws = record { none = refl; shut = shut false kinds.Arrow ws refl refl }
+
+-- ---- what begins with a call or a receive
+
+step_no_semicolon : (s : Infix) → is_kind (step_kind s) kinds.Semicolon ≡ false
+step_no_semicolon Period = refl
+step_no_semicolon (Operator binaries.Add) = refl
+step_no_semicolon (Operator binaries.Subtract) = refl
+step_no_semicolon (Operator binaries.Multiply) = refl
+step_no_semicolon (Operator binaries.Divide) = refl
+step_no_semicolon (Operator binaries.Remainder) = refl
+step_no_semicolon (Operator binaries.And) = refl
+step_no_semicolon (Operator binaries.Or) = refl
+step_no_semicolon (Operator binaries.ExclusiveOr) = refl
+step_no_semicolon (Operator binaries.AndNot) = refl
+step_no_semicolon (Operator binaries.ShiftLeft) = refl
+step_no_semicolon (Operator binaries.ShiftRight) = refl
+step_no_semicolon (Operator binaries.Equal) = refl
+step_no_semicolon (Operator binaries.NotEqual) = refl
+step_no_semicolon (Operator binaries.Less) = refl
+step_no_semicolon (Operator binaries.LessEqual) = refl
+step_no_semicolon (Operator binaries.Greater) = refl
+step_no_semicolon (Operator binaries.GreaterEqual) = refl
+step_no_semicolon (Operator binaries.LogicalAnd) = refl
+step_no_semicolon (Operator binaries.LogicalOr) = refl
+
+-- the first operand of an expression that no semicolon follows doesn't stand before one
+tail_no_semicolon : (literals : Bool) (c : Expression) (rest : List Lexeme) (b : Begun literals c rest) → begins_with kinds.Semicolon rest ≡ false → begins_with kinds.Semicolon b.tail ≡ false
+unfolding begins_with
+tail_no_semicolon literals c rest b none =
+    elim b.goes [
+      | inl all ↦ ap (begins_with kinds.Semicolon) all.1 ∙ none
+      | inr more ↦ ap (begins_with kinds.Semicolon) more.2 ∙ step_no_semicolon more.0
+    ]
+
+within_high : (height room : ℕ) → room < height → within height room true ≡ Err TooDeep
+within_high height room high = rw (lt-leb height room high) refl
+
+-- what is read of a condition and what follows it is read from its first operand on
+headed_from : (most room : ℕ) (c : Expression) (rest : List Lexeme) (x : Head) (after : List Lexeme) (height : ℕ) (longest : Listing → ℕ) (first : Expression) (tail : List Lexeme) → FromFirst false most room 0 c rest first tail
+    → ends_condition c rest ≡ true → expression_height c ≤ height → ((listing : Listing) → expression_longest listing c ≤ longest listing)
+    → (expression_height c ≤ room → AreFew (λ listing. expression_longest listing c) most → ReadBack (condition_or_sent most room (c, rest)) x after height room longest most)
+    → ReadBack (headed_on most room first tail) x after height room longest most
+unfolding headed_on
+headed_from most room c rest x after height longest first tail (Again again) ends low few next =
+    then_again _ again (λ high. omega (arith, high, low)) few (λ low' few'.
+    rw ends (fits_again _ _ (within_fits (expression_height c) (expression_height c) room (omega arith)) (λ high. omega (arith, high, low)) (next low' few')))
+headed_from most room c rest x after height longest first tail (Alone high e) ends low few next =
+    High (omega (arith, high, low)) (rw (e, ends, within_high (expression_height c) room high) refl)
+
+on_again : (most room : ℕ) (alone : Simple) (left : Expression) (ws : List Lexeme) → begins_with kinds.Semicolon ws ≡ false → alone_or_on most room alone left ws ≡ headed_on most room left ws
+on_again most room alone left ws none = rw none refl
+
+called_again : (most room : ℕ) (c : Expression) (rest : List Lexeme) (x : Head) (after : List Lexeme) (height : ℕ) (longest : Listing → ℕ) (function : List ℕ) (all : Arguments) (tail : List Lexeme) → BeginsCall false most room 0 c rest function all tail
+    → IsName function → AreArguments false all → begins_with kinds.Semicolon tail ≡ false
+    → ends_condition c rest ≡ true → expression_height c ≤ height → ((listing : Listing) → expression_longest listing c ≤ longest listing)
+    → (expression_height c ≤ room → AreFew (λ listing. expression_longest listing c) most → ReadBack (condition_or_sent most room (c, rest)) x after height room longest most)
+    → ReadBack (head_called most room (Name function ∷ arguments_words all tail)) x after height room longest most
+unfolding head_called
+called_again most room c rest x after height longest function all tail begins plain are none ends low few next =
+    rw (plain_name_again function (arguments_words all tail) plain)
+    (then_again _ (arguments_again false most room all tail are) (λ high. omega (arith, high, begins.low, low)) (λ listing. omega (arith, begins.few listing, few listing)) (λ low' few'.
+    read_as (on_again most room (CallAlone function all) (call_of function all) tail none)
+    (headed_from most room c rest x after height longest (call_of function all) tail (begins.from few') ends low few next)))
+
+head_by_call : (most room : ℕ) (function : List ℕ) (ws : List Lexeme) → IsName function → head most room (Name function ∷ Mark kinds.LeftParenthesis ∷ ws) ≡ head_called most room (Name function ∷ Mark kinds.LeftParenthesis ∷ ws)
+unfolding head begins_with begins_call
+head_by_call most room function ws plain = rw plain refl
+
+head_by_receive : (most room : ℕ) (ws : List Lexeme) → head most room (Mark kinds.Arrow ∷ ws) ≡ head_received most room (Mark kinds.Arrow ∷ ws)
+unfolding head begins_with
+head_by_receive most room ws = refl
+
+head_other : (most room : ℕ) (ws : List Lexeme) → BeginsOther ws → head most room ws ≡ (led false true most room ws >>= led_or_condition most room)
+unfolding head
+head_other most room ws other = rw (other.receive, other.call) refl
+
+-- the receive with which a condition begins
+receive_is : (c channel first : Expression) → first ≡ Receive channel → IsGrouped false first → expression_height first ≤ expression_height c → ((listing : Listing) → expression_longest listing first ≤ expression_longest listing c)
+    → IsUnary false channel × (expression_height channel < expression_height c) × ((listing : Listing) → expression_longest listing channel ≤ expression_longest listing c)
+receive_is c channel first is g low few =
+    (subst (IsGrouped false) is g, omega (arith, ap expression_height is, low), λ listing. omega (arith, ap (expression_longest listing) is, few listing))
+
+begins_receive : (most room : ℕ) (c : Expression) (rest : List Lexeme) (x : Head) (after : List Lexeme) (height : ℕ) (longest : Listing → ℕ) (channel : Expression) (tail : List Lexeme) → (AreFew (λ listing. expression_longest listing channel) most → FromFirst false most room 0 c rest (Receive channel) tail)
+    → IsUnary false channel → expression_height channel < expression_height c → ((listing : Listing) → expression_longest listing channel ≤ expression_longest listing c) → EndsAt false 6 tail → begins_with kinds.Semicolon tail ≡ false
+    → ends_condition c rest ≡ true → expression_height c ≤ height → ((listing : Listing) → expression_longest listing c ≤ longest listing)
+    → (expression_height c ≤ room → AreFew (λ listing. expression_longest listing c) most → ReadBack (condition_or_sent most room (c, rest)) x after height room longest most)
+    → ReadBack (head_received most room (Mark kinds.Arrow ∷ before channel tail)) x after height room longest most
+begins_receive most room c rest x after height longest channel tail from unary lower fewer at none ends low few next =
+    then_again _ (received_again false most room channel tail unary at) (λ high. omega (arith, high, lower, low)) (λ listing. omega (arith, fewer listing, few listing)) (λ low' few'.
+    read_as (on_again most room (ReceiveAlone channel) (Receive channel) tail none)
+    (headed_from most room c rest x after height longest (Receive channel) tail (from few') ends low few next))
+
+-- a condition, and what follows it, where that is no semicolon
+head_begun : (most room : ℕ) (c : Expression) (rest : List Lexeme) (x : Head) (after : List Lexeme) (height : ℕ) (longest : Listing → ℕ) → IsGrouped false c → EndsExpression false rest → begins_with kinds.Semicolon rest ≡ false
+    → ends_condition c rest ≡ true → form_of false rest ≡ forms.Other → Fits (expression_height c) room (fits true false true 0 room (before c rest)) → expression_height c ≤ height → ((listing : Listing) → expression_longest listing c ≤ longest listing)
+    → (expression_height c ≤ room → AreFew (λ listing. expression_longest listing c) most → ReadBack (condition_or_sent most room (c, rest)) x after height room longest most)
+    → (b : Begun false c rest) → Starts false b.first b.tail → ReadBack (head most room (before c rest)) x after height room longest most
+head_begun most room c rest x after height longest is end none ends form fit low few next b (WithCall function all first plain are words) =
+    read_as (ap (head most room) (b.parts ∙ words) ∙ head_by_call most room function _ plain)
+    (called_again most room c rest x after height longest function all b.tail (begins_call_as false most room 0 c rest b function all first is (omega arith) (ends_at false 0 rest end)) plain are (tail_no_semicolon false c rest b none) ends low few next)
+head_begun most room c rest x after height longest is end none ends form fit low few next b (WithReceive channel first) =
+    let r = receive_is c channel b.first first b.grouped b.low b.few in
+    let words = ap (λ (e : Expression). before e b.tail) first in
+    let step = subst (λ (e : Expression). step_at (suc (outer_precedence e)) b.tail ≡ None) first b.none in
+    let at : EndsAt false 6 b.tail = record { none = none_unary b.tail step; is_shut = b.is_shut } in
+    read_as (ap (head most room) (b.parts ∙ words) ∙ head_by_receive most room (before channel b.tail))
+    (begins_receive most room c rest x after height longest channel b.tail
+    (λ short. subst (λ (e : Expression). FromFirst false most room 0 c rest e b.tail) first (from_first false most room 0 c rest b (subst IsLone (sym first) tt) is (omega arith) end.none end.shut (λ listing. omega (arith, ap (expression_longest listing) first, short listing))))
+    r.0 r.1 r.2 at (tail_no_semicolon false c rest b none) ends low few next)
+head_begun most room c rest x after height longest is end none ends form fit low few next b (WithNeither receive call) =
+    let words = before c rest in
+    let other : BeginsOther words = record { receive = ap (begins_with kinds.Arrow) b.parts ∙ receive; call = ap begins_call b.parts ∙ call } in
+    read_as (head_other most room words other ∙ ap (λ (r : Reading (Option Simple)). r >>= led_or_condition most room) (led_none false true most room words (begins_again false c rest is) (no_form c rest form)))
+    (fits_again _ _ fit (λ high. omega (arith, high, low))
+    (then_again _ (value_again false most room c rest is end) (λ high. omega (arith, high, low)) few next))
+
+head_value : (most room : ℕ) (c : Expression) (rest : List Lexeme) (x : Head) (after : List Lexeme) (height : ℕ) (longest : Listing → ℕ) → IsGrouped false c → EndsExpression false rest → begins_with kinds.Semicolon rest ≡ false
+    → ends_condition c rest ≡ true → form_of false rest ≡ forms.Other → Fits (expression_height c) room (fits true false true 0 room (before c rest)) → expression_height c ≤ height → ((listing : Listing) → expression_longest listing c ≤ longest listing)
+    → (expression_height c ≤ room → AreFew (λ listing. expression_longest listing c) most → ReadBack (condition_or_sent most room (c, rest)) x after height room longest most)
+    → ReadBack (head most room (before c rest)) x after height room longest most
+head_value most room c rest x after height longest is end none ends form fit low few next =
+    let at = ends_at false (suc (outer_precedence c)) rest end in
+    let b = begun false c rest is at.none at.is_shut in
+    head_begun most room c rest x after height longest is end none ends form fit low few next b (starts false b.first b.tail b.is_first b.grouped b.is_shut)
+
+-- ---- simple statements and conditions
 
 abbrev HeadOutcome : (most room : ℕ) → Reading Head → Simple → List Lexeme → Type 0
 HeadOutcome most room read s rest = ReadBack read (HeadSimple s) rest (simple_height s) room (λ listing. simple_longest listing s) most
 
-head_led : (most room : ℕ) (s : Simple) (ws : List Lexeme) → IsSimple false true s → is_send s ≡ false → HeadOutcome most room (head most room (simple_words s (Mark kinds.Semicolon ∷ ws))) s (Mark kinds.Semicolon ∷ ws)
-unfolding head
-head_led most room s ws is other =
-    then_again _ (led_again false true most room s (Mark kinds.Semicolon ∷ ws) is other (semicolon_stops false ws)) (λ high. high) (λ listing. omega arith) (λ low few. Found low few refl)
+head_led : (most room : ℕ) (s : Simple) (ws : List Lexeme) → IsSimple false true s → is_led s ≡ true → HeadOutcome most room (head most room (simple_words s (Mark kinds.Semicolon ∷ ws))) s (Mark kinds.Semicolon ∷ ws)
+head_led most room s ws is begins =
+    let rest = Mark kinds.Semicolon ∷ ws in
+    read_as (head_other most room (simple_words s rest) (led_begins false true s rest is begins))
+    (then_again _ (led_again false true most room s rest is begins (semicolon_stops false ws)) (λ high. high) (λ listing. omega arith) (λ low few. Found low few refl))
+
+sent_after : (most room : ℕ) (c v : Expression) (ws : List Lexeme) → IsPrimary false c → IsGrouped false v → expression_height c ≤ room → AreFew (λ listing. expression_longest listing c) most
+    → HeadOutcome most room (condition_or_sent most room (c, Mark kinds.Arrow ∷ before v (Mark kinds.Semicolon ∷ ws))) (Send c v) (Mark kinds.Semicolon ∷ ws)
+unfolding begins_with expect
+sent_after most room c v ws is grouped low few =
+    rw is.1 (then_again _ (value_again false most room v (Mark kinds.Semicolon ∷ ws) grouped (semicolon_ends ws)) (λ high. omega arith) (λ listing. omega arith) (λ low' few'.
+    Found (omega arith) (λ listing. omega (arith, few listing, few' listing)) refl))
+
+send_ends : (c : Expression) (ws : List Lexeme) → outer_precedence c ≡ 7 → ends_condition c (Mark kinds.Arrow ∷ ws) ≡ true
+unfolding begins_with
+send_ends c ws is = rw is refl
+
+no_semicolon : (kind : TokenKind) (ws : List Lexeme) → is_kind kind kinds.Semicolon ≡ false → begins_with kinds.Semicolon (Mark kind ∷ ws) ≡ false
+unfolding begins_with
+no_semicolon kind ws is = is
 
 head_sent : (most room : ℕ) (c v : Expression) (ws : List Lexeme) → IsSimple false true (Send c v) → HeadOutcome most room (head most room (simple_words (Send c v) (Mark kinds.Semicolon ∷ ws))) (Send c v) (Mark kinds.Semicolon ∷ ws)
-unfolding head begins_with expect
+unfolding form_of
 head_sent most room c v ws is =
-    rw (led_channel false true most room c (before v (Mark kinds.Semicolon ∷ ws)) is.0)
-    (fits_again _ _ (operand_fits true false room c (before v (Mark kinds.Semicolon ∷ ws)) is.0.0 is.0.1) (λ high. omega (arith, high))
-    (then_again _ (value_again false most room c (Mark kinds.Arrow ∷ before v (Mark kinds.Semicolon ∷ ws)) is.0.0 (arrow_ends (before v (Mark kinds.Semicolon ∷ ws)))) (λ high. omega arith) (λ listing. omega arith) (λ low few.
-    rw is.0.1 (then_again _ (value_again false most room v (Mark kinds.Semicolon ∷ ws) is.1 (semicolon_ends ws)) (λ high. omega arith) (λ listing. omega arith) (λ low' few'.
-    Found (omega arith) (λ listing. omega (arith, few listing, few' listing)) refl)))))
+    let value = before v (Mark kinds.Semicolon ∷ ws) in
+    head_value most room c (Mark kinds.Arrow ∷ value) (HeadSimple (Send c v)) (Mark kinds.Semicolon ∷ ws) (max (expression_height c) (expression_height v)) (λ listing. max (expression_longest listing c) (expression_longest listing v))
+    is.0.0 (arrow_ends value) (no_semicolon kinds.Arrow value refl) (send_ends c value is.0.1) refl (operand_fits true false room c value is.0.0 is.0.1) (omega arith) (λ listing. omega arith) (sent_after most room c v ws is.0 is.1)
+
+head_call : (most room : ℕ) (f : List ℕ) (all : Arguments) (ws : List Lexeme) → IsSimple false true (CallAlone f all) → HeadOutcome most room (head most room (simple_words (CallAlone f all) (Mark kinds.Semicolon ∷ ws))) (CallAlone f all) (Mark kinds.Semicolon ∷ ws)
+unfolding head_called begins_with
+head_call most room f all ws is =
+    let rest = Mark kinds.Semicolon ∷ ws in
+    read_as (head_by_call most room f _ is.0)
+    (rw (plain_name_again f (arguments_words all rest) is.0)
+    (then_again _ (arguments_again false most room all rest is.1) (λ high. high) (λ listing. omega arith) (λ low few. Found low few refl)))
+
+head_receive : (most room : ℕ) (c : Expression) (ws : List Lexeme) → IsUnary false c → HeadOutcome most room (head most room (simple_words (ReceiveAlone c) (Mark kinds.Semicolon ∷ ws))) (ReceiveAlone c) (Mark kinds.Semicolon ∷ ws)
+unfolding begins_with
+head_receive most room c ws is =
+    let rest = Mark kinds.Semicolon ∷ ws in
+    read_as (head_by_receive most room (before c rest))
+    (then_again _ (received_again false most room c rest is (ends_at false 6 rest (semicolon_ends ws))) (λ high. high) (λ listing. omega arith) (λ low few. Found low few refl))
 
 head_simple : (most room : ℕ) (s : Simple) (ws : List Lexeme) → IsSimple false true s → HeadOutcome most room (head most room (simple_words s (Mark kinds.Semicolon ∷ ws))) s (Mark kinds.Semicolon ∷ ws)
 head_simple most room (Send c v) ws is = head_sent most room c v ws is
-head_simple most room (CallAlone f all) ws is = head_led most room (CallAlone f all) ws is refl
+head_simple most room (CallAlone f all) ws is = head_call most room f all ws is
 head_simple most room (Close c) ws is = head_led most room (Close c) ws is refl
 head_simple most room (Print line ps trailing) ws is = head_led most room (Print line ps trailing) ws is refl
-head_simple most room (ReceiveAlone c) ws is = head_led most room (ReceiveAlone c) ws is refl
+head_simple most room (ReceiveAlone c) ws is = head_receive most room c ws is
 head_simple most room (Increment p) ws is = head_led most room (Increment p) ws is refl
 head_simple most room (Decrement p) ws is = head_led most room (Decrement p) ws is refl
 head_simple most room (Assign ps r) ws is = head_led most room (Assign ps r) ws is refl
 head_simple most room (Define ns r) ws is = head_led most room (Define ns r) ws is refl
 head_simple most room (Update p o v) ws is = head_led most room (Update p o v) ws is refl
 
+condition_alone : (most room : ℕ) (c : Expression) (ws : List Lexeme) → expression_height c ≤ room → AreFew (λ listing. expression_longest listing c) most
+    → ReadBack (condition_or_sent most room (c, Mark kinds.LeftBrace ∷ ws)) (HeadCondition c) (Mark kinds.LeftBrace ∷ ws) (expression_height c) room (λ listing. expression_longest listing c) most
+unfolding begins_with
+condition_alone most room c ws low few = Found low few refl
+
+brace_after : (c : Expression) (ws : List Lexeme) → ends_condition c (Mark kinds.LeftBrace ∷ ws) ≡ true
+unfolding begins_with
+brace_after c ws = refl
+
 head_condition : (most room : ℕ) (c : Expression) (ws : List Lexeme) → IsGrouped false c
     → ReadBack (head most room (before c (Mark kinds.LeftBrace ∷ ws))) (HeadCondition c) (Mark kinds.LeftBrace ∷ ws) (expression_height c) room (λ listing. expression_longest listing c) most
-unfolding head begins_with form_of
+unfolding form_of
 head_condition most room c ws is =
-    rw (led_none false true most room (before c (Mark kinds.LeftBrace ∷ ws)) (no_operation false c (Mark kinds.LeftBrace ∷ ws) is refl) (no_form c (Mark kinds.LeftBrace ∷ ws) refl))
-    (fits_again _ _ (condition_fits room c ws is) (λ high. high)
-    (then_again _ (value_again false most room c (Mark kinds.LeftBrace ∷ ws) is (brace_ends ws)) (λ high. high) (λ listing. omega arith) (λ low few. Found low few refl)))
+    head_value most room c (Mark kinds.LeftBrace ∷ ws) (HeadCondition c) (Mark kinds.LeftBrace ∷ ws) (expression_height c) (λ listing. expression_longest listing c)
+    is (brace_ends ws) (no_semicolon kinds.LeftBrace ws refl) (brace_after c ws) refl (condition_fits room c ws is) (omega arith) (λ listing. omega arith) (condition_alone most room c ws)
 
 -- a head that was read
 abbrev HeadSound : (most room : ℕ) → List Lexeme → Head → List Lexeme → Type 0
@@ -121,11 +289,69 @@ led_or_condition_sound most room ws None after same h rest e =
 led_or_condition_sound most room ws (Some s) after sound h rest e =
     subst (λ (x : Head × List Lexeme). HeadSound most room ws x.0 x.1) (ok_is (HeadSimple s, after) (h, rest) e) sound
 
+abbrev refused_by : Bool → Refusal → Refusal → Result (Unit {0}) Refusal
+refused_by b d f = cond b (Err d) (Err f)
+
+abbrev unit_ok : Result (Unit {0}) Refusal
+unit_ok = Ok tt
+
+neither : (b : Bool) (d f : Refusal) → refused_by b d f ≡ unit_ok → ⊥
+neither true d f e = absurd cc
+neither false d f e = absurd cc
+
+within_low : (height room : ℕ) (goes : Bool) → within height room goes ≡ unit_ok → height ≤ room
+within_low height room goes e =
+    elim (either (nat_le height room) (Ok tt) (cond goes (Err TooDeep) (Err Syntax)) tt e) [
+      | inl low ↦ leb-true height room low.0
+      | inr high ↦ absurd (neither goes TooDeep Syntax high.1)
+    ]
+
+headed_on_sound : (most room : ℕ) (ws : List Lexeme) (left : Expression) (after : List Lexeme) → IsOperand false most (suc room) ws left after → (h : Head) (rest : List Lexeme) → headed_on most room left after ≡ gave h rest → HeadSound most room ws h rest
+unfolding headed_on
+headed_on_sound most room ws left after o h rest e =
+    let a = bind_ok (resumed false most room 0 left after) (λ found. within (expression_height found.0) room (ends_condition found.0 found.1) >>= λ low. condition_or_sent most room found) (h, rest) e in
+    let w = bind_ok (within (expression_height a.0.0) room (ends_condition a.0.0 a.0.1)) (λ low. condition_or_sent most room a.0) (h, rest) a.2 in
+    let r = resumed_is false most room 0 ws left after a.0.0 a.0.1 o a.1 in
+    condition_or_sent_sound most room ws a.0.0 a.0.1 (record { parts = r.parts; is = r.grouped; low = within_low (expression_height a.0.0) room (ends_condition a.0.0 a.0.1) w.1; few = r.few }) h rest w.2
+
+alone_or_on_sound : (most room : ℕ) (ws : List Lexeme) (alone : Simple) (left : Expression) (after : List Lexeme) → SimpleSound false true most room ws alone after → IsOperand false most (suc room) ws left after
+    → (h : Head) (rest : List Lexeme) → alone_or_on most room alone left after ≡ gave h rest → HeadSound most room ws h rest
+alone_or_on_sound most room ws alone left after s o h rest e =
+    elim (either (begins_with kinds.Semicolon after) (gave (HeadSimple alone) after) (headed_on most room left after) (h, rest) e) [
+      | inl a ↦ subst (λ (x : Head × List Lexeme). HeadSound most room ws x.0 x.1) (ok_is (HeadSimple alone, after) (h, rest) a.1) s
+      | inr on ↦ headed_on_sound most room ws left after o h rest on.1
+    ]
+
+head_called_sound : (most room : ℕ) (ws : List Lexeme) (h : Head) (rest : List Lexeme) → head_called most room ws ≡ gave h rest → HeadSound most room ws h rest
+unfolding head_called
+head_called_sound most room ws h rest e =
+    let a = bind_ok (plain_name ws) (λ function. arguments false most room function.1 >>= called_head most room function.0) (h, rest) e in
+    let b = bind_ok (arguments false most room a.0.1) (called_head most room a.0.0) (h, rest) a.2 in
+    let n = plain_name_is ws a.0.0 a.0.1 a.1 in
+    subst (λ (x : List Lexeme). HeadSound most room x h rest) (sym n.0)
+    (alone_or_on_sound most room (Name a.0.0 ∷ a.0.1) (CallAlone a.0.0 b.0.0) (call_of a.0.0 b.0.0) b.0.1 (call_alone_sound false true most room a.0.0 a.0.1 b.0.0 b.0.1 n.1 b.1)
+    (call_operand_sound false most room a.0.0 a.0.1 b.0.0 b.0.1 n.1 b.1) h rest b.2)
+
+head_received_sound : (most room : ℕ) (ws : List Lexeme) (h : Head) (rest : List Lexeme) → head_received most room ws ≡ gave h rest → HeadSound most room ws h rest
+head_received_sound most room ws h rest e =
+    let a = bind_ok (received false most room ws) (received_head most room) (h, rest) e in
+    let r = received_sound false most room ws a.0.0 a.0.1 a.1 in
+    alone_or_on_sound most room ws (ReceiveAlone a.0.0) (Receive a.0.0) a.0.1 (record { parts = r.parts; is = r.is; low = r.low; few = r.few })
+    (receive_operand_sound false most room ws a.0.0 a.0.1 a.1) h rest a.2
+
 head_sound : (most room : ℕ) (ws : List Lexeme) (h : Head) (rest : List Lexeme) → head most room ws ≡ gave h rest → HeadSound most room ws h rest
 unfolding head
 head_sound most room ws h rest e =
-    let a = bind_ok (led false true most room ws) (led_or_condition most room) (h, rest) e in
-    led_or_condition_sound most room ws a.0.0 a.0.1 (led_sound false true most room ws a.0.0 a.0.1 a.1) h rest a.2
+    let others = led false true most room ws >>= led_or_condition most room in
+    elim (either (begins_with kinds.Arrow ws) (head_received most room ws) (cond (begins_call ws) (head_called most room ws) others) (h, rest) e) [
+      | inl r ↦ head_received_sound most room ws h rest r.1
+      | inr other ↦ elim (either (begins_call ws) (head_called most room ws) others (h, rest) other.1) [
+        | inl c ↦ head_called_sound most room ws h rest c.1
+        | inr o ↦
+            let a = bind_ok (led false true most room ws) (led_or_condition most room) (h, rest) o.1 in
+            led_or_condition_sound most room ws a.0.0 a.0.1 (led_sound false true most room ws a.0.0 a.0.1 a.1) h rest a.2
+      ]
+    ]
 
 -- ---- if
 
@@ -274,9 +500,9 @@ for_bare_range : (most room : ℕ) (c : Expression) (ws : List Lexeme) → IsGro
 unfolding for_header begins_with
 for_bare_range most room c ws is = ranged_again most room NoTarget c ws is
 
-begun : (most room : ℕ) (ws : List Lexeme) → begins_with kinds.LeftBrace ws ≡ false → begins_with kinds.Semicolon ws ≡ false → begins_with kinds.Range ws ≡ false → for_header most room ws ≡ for_begun most room ws
+unmarked : (most room : ℕ) (ws : List Lexeme) → begins_with kinds.LeftBrace ws ≡ false → begins_with kinds.Semicolon ws ≡ false → begins_with kinds.Range ws ≡ false → for_header most room ws ≡ for_begun most room ws
 unfolding for_header
-begun most room ws brace semicolon range = rw (brace, semicolon, range) refl
+unmarked most room ws brace semicolon range = rw (brace, semicolon, range) refl
 
 for_defined : (most room : ℕ) (name : List ℕ) (c : Expression) (ws : List Lexeme) → IsName name → IsGrouped false c
     → ForOutcome most room (for_begun most room (for_head_words (Range (DefineTarget name) c) (Mark kinds.LeftBrace ∷ ws))) (Range (DefineTarget name) c) (Mark kinds.LeftBrace ∷ ws)
@@ -296,22 +522,17 @@ for_assigned most room p c ws place_is is =
     rw (assign_form p (before c (Mark kinds.LeftBrace ∷ ws)), no_defines p [] behind', place_again p (Mark kinds.Assign ∷ behind') place_is refl) (ranged_again most room (AssignTarget p) c ws is)
 
 -- no right side begins with `range`
-right_no_range : (literals : Bool) (r : Right) (ws : List Lexeme) → IsRight literals r → begins_with kinds.Range (right_words r ws) ≡ false
-unfolding begins_with begins
-right_no_range literals (RightOperation (Call f all)) ws is = refl
-right_no_range literals (RightOperation (Receive c)) ws is = refl
-right_no_range literals (RightOperation (Make t s)) ws is = refl
-right_no_range literals (RightOperation (Length c)) ws is = refl
-right_no_range literals (RightOperation (Capacity c)) ws is = refl
-right_no_range literals (Values []) ws is = absurd is
-right_no_range literals (Values (v ∷ vs)) ws is = value_not kinds.Range literals v (separated before (behind kinds.Comma) vs ws) is.0 (λ rest. refl)
+right_no_range : (literals : Bool) (vs : List Expression) (ws : List Lexeme) → IsRight literals vs → begins_with kinds.Range (right_words vs ws) ≡ false
+unfolding begins
+right_no_range literals [] ws is = absurd is
+right_no_range literals (v ∷ vs) ws is = value_not kinds.Range literals v (separated before (behind kinds.Comma) vs ws) is.0 (λ rest. refl)
 
-no_range_places : (p : Place) (ps : List Place) (r : Right) (ws : List Lexeme) → IsRight false r → ranges (form_of true (simple_words (Assign (p ∷ ps) r) ws)) ≡ false
+no_range_places : (p : Place) (ps : List Place) (r : List Expression) (ws : List Lexeme) → IsRight false r → ranges (form_of true (simple_words (Assign (p ∷ ps) r) ws)) ≡ false
 unfolding form_of
 no_range_places p [] r ws is = rw (fields_form p.fields (Mark kinds.Assign ∷ right_words r ws)) (right_no_range false r ws is)
 no_range_places p (q ∷ ps) r ws is = rw (fields_form p.fields (Mark kinds.Comma ∷ joined place_words (behind kinds.Comma) (q ∷ ps) (Mark kinds.Assign ∷ right_words r ws))) refl
 
-no_range_names : (n : List ℕ) (ns : List (List ℕ)) (r : Right) (ws : List Lexeme) → IsRight false r → ranges (form_of true (simple_words (Define (n ∷ ns) r) ws)) ≡ false
+no_range_names : (n : List ℕ) (ns : List (List ℕ)) (r : List Expression) (ws : List Lexeme) → IsRight false r → ranges (form_of true (simple_words (Define (n ∷ ns) r) ws)) ≡ false
 unfolding form_of
 no_range_names n [] r ws is = right_no_range false r ws is
 no_range_names n (m ∷ ns) r ws is = refl
@@ -378,16 +599,16 @@ for_while most room c ws is =
 
 begun_place : (most room : ℕ) (p : Place) (ws : List Lexeme) → for_header most room (place_words p ws) ≡ for_begun most room (place_words p ws)
 unfolding begins_with
-begun_place most room p ws = begun most room (place_words p ws) refl refl refl
+begun_place most room p ws = unmarked most room (place_words p ws) refl refl refl
 
 begun_name : (most room : ℕ) (name : List ℕ) (ws : List Lexeme) → for_header most room (Name name ∷ ws) ≡ for_begun most room (Name name ∷ ws)
 unfolding begins_with
-begun_name most room name ws = begun most room (Name name ∷ ws) refl refl refl
+begun_name most room name ws = unmarked most room (Name name ∷ ws) refl refl refl
 
 begun_value : (most room : ℕ) (e : Expression) (ws : List Lexeme) → IsGrouped false e → for_header most room (before e ws) ≡ for_begun most room (before e ws)
 unfolding begins
 begun_value most room e ws is =
-    begun most room (before e ws) (value_not kinds.LeftBrace false e ws is (λ rest. refl)) (value_not kinds.Semicolon false e ws is (λ rest. refl)) (value_not kinds.Range false e ws is (λ rest. refl))
+    unmarked most room (before e ws) (value_not kinds.LeftBrace false e ws is (λ rest. refl)) (value_not kinds.Semicolon false e ws is (λ rest. refl)) (value_not kinds.Range false e ws is (λ rest. refl))
 
 pub for_header_again : (most room : ℕ) (h : ForHead) (ws : List Lexeme) → IsForHead h → ForOutcome most room (for_header most room (for_head_words h (Mark kinds.LeftBrace ∷ ws))) h (Mark kinds.LeftBrace ∷ ws)
 for_header_again most room Forever ws is = for_forever most room ws
@@ -395,7 +616,7 @@ for_header_again most room (While c) ws is = rw (begun_value most room c (Mark k
 for_header_again most room (ForClauses None test post) ws is = for_bare_clauses most room test post ws is
 for_header_again most room (ForClauses (Some s) test post) ws is =
     let after = Mark kinds.Semicolon ∷ optional before test (Mark kinds.Semicolon ∷ optional simple_words post (Mark kinds.LeftBrace ∷ ws)) in
-    rw (begun most room (simple_words s after) (simple_not_brace false true s after is.0) (simple_not_semicolon false true s after is.0) (simple_not_range s after is.0)) (for_simple most room s test post ws is)
+    rw (unmarked most room (simple_words s after) (simple_not_brace false true s after is.0) (simple_not_semicolon false true s after is.0) (simple_not_range s after is.0)) (for_simple most room s test post ws is)
 for_header_again most room (Range NoTarget c) ws is = for_bare_range most room c ws is.1
 for_header_again most room (Range (DefineTarget name) c) ws is =
     rw (begun_name most room name (Mark kinds.Define ∷ Mark kinds.Range ∷ before c (Mark kinds.LeftBrace ∷ ws))) (for_defined most room name c ws is.0 is.1)
@@ -500,202 +721,4 @@ for_header_sound most room ws h rest e =
           | inr other ↦ begun_sound most room ws h rest other.1
         ]
       ]
-    ]
-
--- ---- what a clause of a select waits for
-
--- the most levels below it
-abbrev pub comm_below : Comm → ℕ
-comm_below (CommSend c v) = max (expression_height c) (expression_height v)
-comm_below (CommReceive c) = expression_height c
-comm_below (CommDefine item ok c) = expression_height c
-comm_below (CommAssign item ok c) = expression_height c
-
-pub comm_below_is : (c : Comm) → comm_height c ≡ suc (comm_below c)
-comm_below_is (CommSend c v) = refl
-comm_below_is (CommReceive c) = refl
-comm_below_is (CommDefine item ok c) = refl
-comm_below_is (CommAssign item ok c) = refl
-
-abbrev pub CommOutcome : (most room : ℕ) → Reading Comm → Comm → List Lexeme → Type 0
-CommOutcome most room read c rest = ReadBack read c rest (comm_below c) room (λ listing. comm_longest listing c) most
-
-colon_ends : (ws : List Lexeme) → EndsExpression true (Mark kinds.Colon ∷ ws)
-unfolding step_at
-colon_ends ws = record { none = refl; shut = shut true kinds.Colon ws refl }
-
-comm_sent : (most room : ℕ) (c v : Expression) (ws : List Lexeme) → begins_operation ws ≡ false → form_of true ws ≡ forms.Other → comm most room ws ≡ sent CommSend true most room ws
-unfolding comm comm_formed begins_operation
-comm_sent most room c v [] none form = rw form refl
-comm_sent most room c v (Literal value ∷ ws) none form = rw form refl
-comm_sent most room c v (Name name ∷ ws) none form = rw form refl
-comm_sent most room c v (Text bytes ∷ ws) none form = rw form refl
-comm_sent most room c v (Mark kind ∷ ws) none form = rw (none, form) refl
-
-sends_again : (most room : ℕ) (c v : Expression) (ws : List Lexeme) → IsComm (CommSend c v) → CommOutcome most room (comm most room (comm_words (CommSend c v) (Mark kinds.Colon ∷ ws))) (CommSend c v) (Mark kinds.Colon ∷ ws)
-unfolding form_of begins_with
-sends_again most room c v ws is =
-    let behind' = Mark kinds.Arrow ∷ before v (Mark kinds.Colon ∷ ws) in
-    rw (comm_sent most room c v (before c behind') (no_operation true c behind' is.0.0 refl) (no_form c behind' refl)) (sent_again CommSend true most room c v (Mark kinds.Colon ∷ ws) is.0 is.1 (colon_ends ws))
-
-receives_again : (most room : ℕ) (c : Expression) (ws : List Lexeme) → IsPrimary true c → CommOutcome most room (comm most room (comm_words (CommReceive c) (Mark kinds.Colon ∷ ws))) (CommReceive c) (Mark kinds.Colon ∷ ws)
-unfolding comm
-receives_again most room c ws is = made_again CommReceive (primary_again true most room c (Mark kinds.Colon ∷ ws) is (colon_ends ws)) (λ high. high) (λ low. low) (λ listing. refl)
-
-second_name_again : (ok : Option (List ℕ)) (ws : List Lexeme) → IsAny IsName ok → second plain_name (second_name_words ok (Mark kinds.Define ∷ ws)) ≡ Ok (ok, Mark kinds.Define ∷ ws)
-unfolding second begins_with expect
-second_name_again None ws is = refl
-second_name_again (Some name) ws is = rw (plain_name_again name (Mark kinds.Define ∷ ws) is) refl
-
-second_place_again : (ok : Option Place) (ws : List Lexeme) → IsAny IsPlace ok → second place (second_place_words ok (Mark kinds.Assign ∷ ws)) ≡ Ok (ok, Mark kinds.Assign ∷ ws)
-unfolding second begins_with expect
-second_place_again None ws is = refl
-second_place_again (Some p) ws is = rw (place_again p (Mark kinds.Assign ∷ ws) is refl) refl
-
-define_form : (most room : ℕ) (item : List ℕ) (ok : Option (List ℕ)) (ws : List Lexeme) → comm most room (name_words item (second_name_words ok (Mark kinds.Define ∷ ws))) ≡ comm_defined most room (name_words item (second_name_words ok (Mark kinds.Define ∷ ws)))
-unfolding comm comm_formed form_of defines
-define_form most room item None ws = refl
-define_form most room item (Some name) ws = refl
-
-defines_again : (most room : ℕ) (item : List ℕ) (ok : Option (List ℕ)) (c : Expression) (ws : List Lexeme) → IsComm (CommDefine item ok c) → CommOutcome most room (comm_defined most room (comm_words (CommDefine item ok c) (Mark kinds.Colon ∷ ws))) (CommDefine item ok c) (Mark kinds.Colon ∷ ws)
-unfolding comm_defined expect
-defines_again most room item ok c ws is =
-    let received = Mark kinds.Arrow ∷ before c (Mark kinds.Colon ∷ ws) in
-    rw (plain_name_again item (second_name_words ok (Mark kinds.Define ∷ received)) is.0, second_name_again ok received is.1)
-    (then_again _ (primary_again true most room c (Mark kinds.Colon ∷ ws) is.2 (colon_ends ws)) (λ high. high) (λ listing. omega arith) (λ low few. Found low few refl))
-
-assign_comm : (most room : ℕ) (item : Place) (ok : Option Place) (ws : List Lexeme) → comm most room (place_words item (second_place_words ok (Mark kinds.Assign ∷ ws))) ≡ comm_assigned most room (place_words item (second_place_words ok (Mark kinds.Assign ∷ ws)))
-unfolding comm comm_formed form_of
-assign_comm most room item None ws = rw (fields_form item.fields (Mark kinds.Assign ∷ ws)) refl
-assign_comm most room item (Some p) ws = rw (fields_form item.fields (Mark kinds.Comma ∷ place_words p (Mark kinds.Assign ∷ ws)), no_defines item (p ∷ []) ws) refl
-
-second_no_field : (ok : Option Place) (ws : List Lexeme) → begins_with kinds.Period (second_place_words ok (Mark kinds.Assign ∷ ws)) ≡ false
-unfolding begins_with
-second_no_field None ws = refl
-second_no_field (Some p) ws = refl
-
-assigns_again : (most room : ℕ) (item : Place) (ok : Option Place) (c : Expression) (ws : List Lexeme) → IsComm (CommAssign item ok c) → CommOutcome most room (comm_assigned most room (comm_words (CommAssign item ok c) (Mark kinds.Colon ∷ ws))) (CommAssign item ok c) (Mark kinds.Colon ∷ ws)
-unfolding comm_assigned expect
-assigns_again most room item ok c ws is =
-    let received = Mark kinds.Arrow ∷ before c (Mark kinds.Colon ∷ ws) in
-    rw (place_again item (second_place_words ok (Mark kinds.Assign ∷ received)) is.0 (second_no_field ok received), second_place_again ok received is.1)
-    (then_again _ (primary_again true most room c (Mark kinds.Colon ∷ ws) is.2 (colon_ends ws)) (λ high. high) (λ listing. omega arith) (λ low few. Found low few refl))
-
-pub comm_again : (most room : ℕ) (c : Comm) (ws : List Lexeme) → IsComm c → CommOutcome most room (comm most room (comm_words c (Mark kinds.Colon ∷ ws))) c (Mark kinds.Colon ∷ ws)
-comm_again most room (CommSend c v) ws is = sends_again most room c v ws is
-comm_again most room (CommReceive c) ws is = receives_again most room c ws is
-comm_again most room (CommDefine item ok c) ws is = rw (define_form most room item ok (Mark kinds.Arrow ∷ before c (Mark kinds.Colon ∷ ws))) (defines_again most room item ok c ws is)
-comm_again most room (CommAssign item ok c) ws is = rw (assign_comm most room item ok (Mark kinds.Arrow ∷ before c (Mark kinds.Colon ∷ ws))) (assigns_again most room item ok c ws is)
-
-abbrev pub CommSound : (most room : ℕ) → List Lexeme → Comm → List Lexeme → Type 0
-CommSound most room = Sound comm_words IsComm comm_below room comm_longest most
-
-second_sound : {A : Type 0} (words : A → List Lexeme → List Lexeme) (Is : A → Type 0) (one : List Lexeme → Reading A) → ((ws : List Lexeme) (x : A) (rest : List Lexeme) → one ws ≡ gave x rest → (ws ≡ words x rest) × Is x)
-    → (ws : List Lexeme) (x : Option A) (rest : List Lexeme) → second one ws ≡ gave x rest → (ws ≡ optional (λ y after. Mark kinds.Comma ∷ words y after) x rest) × IsAny Is x
-unfolding second
-second_sound words Is one sound ws x rest e =
-    elim (either (begins_with kinds.Comma ws) (expect kinds.Comma ws >>= λ behind'. as_one (λ (y : _). Some y) (one behind')) (gave None ws) (x, rest) e) [
-      | inl some ↦
-          let a = bind_ok (expect kinds.Comma ws) (λ behind'. as_one (λ (y : _). Some y) (one behind')) (x, rest) some.1 in
-          let b = made_is (λ (y : _). Some y) (one a.0) x rest a.2 in
-          let s = sound a.0 b.0 rest b.1 in
-          subst (λ (y : Option _). (ws ≡ optional (λ z after. Mark kinds.Comma ∷ words z after) y rest) × IsAny Is y) b.2
-          (expect_is kinds.Comma ws a.0 a.1 ∙ ap (λ (z : List Lexeme). Mark kinds.Comma ∷ z) s.0, s.1)
-      | inr none ↦ subst (λ (y : Option _ × List Lexeme). (ws ≡ optional (λ z after. Mark kinds.Comma ∷ words z after) y.0 y.1) × IsAny Is y.0) (ok_is (None, ws) (x, rest) none.1) (refl, tt)
-    ]
-
-second_name_is : (ok : Option (List ℕ)) (rest : List Lexeme) → optional (λ y after. Mark kinds.Comma ∷ name_words y after) ok rest ≡ second_name_words ok rest
-second_name_is None rest = refl
-second_name_is (Some name) rest = refl
-
-second_place_is : (ok : Option Place) (rest : List Lexeme) → optional (λ y after. Mark kinds.Comma ∷ place_words y after) ok rest ≡ second_place_words ok rest
-second_place_is None rest = refl
-second_place_is (Some p) rest = refl
-
-abbrev received_words : TokenKind → Expression → List Lexeme → List Lexeme
-received_words mark channel rest = Mark mark ∷ Mark kinds.Arrow ∷ before channel rest
-
-received_sound : (mark : TokenKind) (most room : ℕ) (ws : List Lexeme) (c : Expression) (rest : List Lexeme) → received mark most room ws ≡ gave c rest → Sound (received_words mark) (IsPrimary true) expression_height room expression_longest most ws c rest
-received_sound mark most room ws c rest e =
-    let a = bind_ok (expect mark ws) (behind_mark kinds.Arrow (primary true most room)) (c, rest) e in
-    let b = bind_ok (expect kinds.Arrow a.0) (primary true most room) (c, rest) a.2 in
-    let p = primary_sound true most room b.0 c rest b.2 in
-    record {
-      parts = expect_is mark ws a.0 a.1 ∙ ap (λ (x : List Lexeme). Mark mark ∷ x) (expect_is kinds.Arrow a.0 b.0 b.1 ∙ ap (λ (x : List Lexeme). Mark kinds.Arrow ∷ x) p.parts);
-      is = p.is;
-      low = p.low;
-      few = p.few;
-    }
-
-comm_defined_sound : (most room : ℕ) (ws : List Lexeme) (c : Comm) (rest : List Lexeme) → comm_defined most room ws ≡ gave c rest → CommSound most room ws c rest
-unfolding comm_defined
-comm_defined_sound most room ws c rest e =
-    let a = bind_ok (plain_name ws) (λ item. second plain_name item.1 >>= λ ok. received kinds.Define most room ok.1 >>= λ channel. gave (CommDefine item.0 ok.0 channel.0) channel.1) (c, rest) e in
-    let b = bind_ok (second plain_name a.0.1) (λ ok. received kinds.Define most room ok.1 >>= λ channel. gave (CommDefine a.0.0 ok.0 channel.0) channel.1) (c, rest) a.2 in
-    let g = made_is (CommDefine a.0.0 b.0.0) (received kinds.Define most room b.0.1) c rest b.2 in
-    let r = received_sound kinds.Define most room b.0.1 g.0 rest g.1 in
-    let n = plain_name_is ws a.0.0 a.0.1 a.1 in
-    let s = second_sound name_words IsName plain_name plain_name_is a.0.1 b.0.0 b.0.1 b.1 in
-    subst (λ (x : Comm). CommSound most room ws x rest) g.2 (record {
-      parts = n.0 ∙ ap (λ (x : List Lexeme). Name a.0.0 ∷ x) (s.0 ∙ second_name_is b.0.0 b.0.1 ∙ ap (second_name_words b.0.0) r.parts);
-      is = (n.1, s.1, r.is);
-      low = r.low;
-      few = r.few;
-    })
-
-comm_assigned_sound : (most room : ℕ) (ws : List Lexeme) (c : Comm) (rest : List Lexeme) → comm_assigned most room ws ≡ gave c rest → CommSound most room ws c rest
-unfolding comm_assigned
-comm_assigned_sound most room ws c rest e =
-    let a = bind_ok (place ws) (λ item. second place item.1 >>= λ ok. received kinds.Assign most room ok.1 >>= λ channel. gave (CommAssign item.0 ok.0 channel.0) channel.1) (c, rest) e in
-    let b = bind_ok (second place a.0.1) (λ ok. received kinds.Assign most room ok.1 >>= λ channel. gave (CommAssign a.0.0 ok.0 channel.0) channel.1) (c, rest) a.2 in
-    let g = made_is (CommAssign a.0.0 b.0.0) (received kinds.Assign most room b.0.1) c rest b.2 in
-    let r = received_sound kinds.Assign most room b.0.1 g.0 rest g.1 in
-    let n = place_sound ws a.0.0 a.0.1 a.1 in
-    let s = second_sound place_words IsPlace place place_sound a.0.1 b.0.0 b.0.1 b.1 in
-    subst (λ (x : Comm). CommSound most room ws x rest) g.2 (record {
-      parts = n.0 ∙ ap (place_words a.0.0) (s.0 ∙ second_place_is b.0.0 b.0.1 ∙ ap (second_place_words b.0.0) r.parts);
-      is = (n.1, s.1, r.is);
-      low = r.low;
-      few = r.few;
-    })
-
-comm_sent_sound : (most room : ℕ) (ws : List Lexeme) (c : Comm) (rest : List Lexeme) → sent CommSend true most room ws ≡ gave c rest → CommSound most room ws c rest
-comm_sent_sound most room ws c rest e =
-    let a = sent_sound CommSend true most room ws c rest e in
-    subst (λ (x : Comm). CommSound most room ws x rest) a.made (record { parts = a.parts; is = a.is; low = a.low; few = a.few })
-
-comm_formed_sound : (most room : ℕ) (form : Form) (ws : List Lexeme) (c : Comm) (rest : List Lexeme) → comm_formed most room form ws ≡ gave c rest → CommSound most room ws c rest
-unfolding comm_formed
-comm_formed_sound most room (forms.Define is) ws c rest e =
-    elim (either (defines true ws) (comm_defined most room ws) (comm_assigned most room ws) (c, rest) e) [
-      | inl d ↦ comm_defined_sound most room ws c rest d.1
-      | inr a ↦ comm_assigned_sound most room ws c rest a.1
-    ]
-comm_formed_sound most room (forms.Assign is) ws c rest e = comm_assigned_sound most room ws c rest e
-comm_formed_sound most room forms.List ws c rest e =
-    elim (either (defines true ws) (comm_defined most room ws) (comm_assigned most room ws) (c, rest) e) [
-      | inl d ↦ comm_defined_sound most room ws c rest d.1
-      | inr a ↦ comm_assigned_sound most room ws c rest a.1
-    ]
-comm_formed_sound most room forms.Increment ws c rest e = comm_sent_sound most room ws c rest e
-comm_formed_sound most room forms.Decrement ws c rest e = comm_sent_sound most room ws c rest e
-comm_formed_sound most room (forms.Update o) ws c rest e = comm_sent_sound most room ws c rest e
-comm_formed_sound most room forms.Other ws c rest e = comm_sent_sound most room ws c rest e
-
-comm_receive_sound : (most room : ℕ) (ws : List Lexeme) (c : Comm) (rest : List Lexeme) → as_one CommReceive (primary true most room ws) ≡ gave c rest → CommSound most room (Mark kinds.Arrow ∷ ws) c rest
-comm_receive_sound most room ws c rest e =
-    let a = made_is CommReceive (primary true most room ws) c rest e in
-    let p = primary_sound true most room ws a.0 rest a.1 in
-    subst (λ (x : Comm). CommSound most room (Mark kinds.Arrow ∷ ws) x rest) a.2 (record { parts = ap (λ (x : List Lexeme). Mark kinds.Arrow ∷ x) p.parts; is = p.is; low = p.low; few = p.few })
-
-pub comm_sound : (most room : ℕ) (ws : List Lexeme) (c : Comm) (rest : List Lexeme) → comm most room ws ≡ gave c rest → CommSound most room ws c rest
-unfolding comm
-comm_sound most room [] c rest e = comm_formed_sound most room (form_of true []) [] c rest e
-comm_sound most room (Literal value ∷ ws) c rest e = comm_formed_sound most room (form_of true (Literal value ∷ ws)) (Literal value ∷ ws) c rest e
-comm_sound most room (Name name ∷ ws) c rest e = comm_formed_sound most room (form_of true (Name name ∷ ws)) (Name name ∷ ws) c rest e
-comm_sound most room (Text bytes ∷ ws) c rest e = comm_formed_sound most room (form_of true (Text bytes ∷ ws)) (Text bytes ∷ ws) c rest e
-comm_sound most room (Mark kind ∷ ws) c rest e =
-    elim (either (is_kind kind kinds.Arrow) (as_one CommReceive (primary true most room ws)) (comm_formed most room (form_of true (Mark kind ∷ ws)) (Mark kind ∷ ws)) (c, rest) e) [
-      | inl r ↦ subst (λ (x : TokenKind). CommSound most room (Mark x ∷ ws) c rest) (sym (kind_is kind kinds.Arrow r.0)) (comm_receive_sound most room ws c rest r.1)
-      | inr f ↦ comm_formed_sound most room (form_of true (Mark kind ∷ ws)) (Mark kind ∷ ws) c rest f.1
     ]

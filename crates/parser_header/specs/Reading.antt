@@ -1,15 +1,16 @@
 -- Reading what stands behind `if` and `for`, and what a clause of a select waits for, as the code does: these words are
 -- proved against the grammar (`Spelling`), and claim nothing themselves.
-use Rattle.std.specs.Prelude.{ℕ, Bool, true, false, ◌&&◌, ◌==◌, List, ◌∷◌, Option, Some, None, Ok, if◌then◌else◌}
+use Rattle.std.specs.Prelude.{ℕ, Bool, true, false, ◌&&◌, ◌||◌, ◌==◌, List, Option, Some, None, Ok, if◌then◌else◌}
 use Rattle.scanner.specs.declared.kind.TokenKind.{TokenKind}
 use Rattle.scanner.specs.declared.kind.TokenKind.TheVariants as kinds
-use Rattle.syntax.specs.Tree.{Expression, Simple, Send, Comm, CommSend, CommReceive, CommDefine, CommAssign, IfHead, Bare, Semicolon, First, Target, NoTarget, DefineTarget, AssignTarget, ForHead, Forever, While, ForClauses, Range}
-use Rattle.parser_base.specs.Lexemes.{Lexeme, Mark}
+use Rattle.syntax.specs.Tree.{Expression, Receive, Arguments, Simple, CallAlone, ReceiveAlone, Send, Comm, CommSend, CommReceive, CommDefine, CommAssign, IfHead, Bare, Semicolon, First, Target, NoTarget, DefineTarget, AssignTarget, ForHead, Forever, While, ForClauses, Range}
+use Rattle.syntax.specs.Measures.{expression_height}
+use Rattle.parser_base.specs.Lexemes.{Lexeme}
 use Rattle.parser_base.specs.Spelling.{outer_precedence}
-use Rattle.parser_base.specs.Reading.{Reading, ◌>>=◌, is_kind, expect, plain_name, expression}
+use Rattle.parser_base.specs.Reading.{Reading, ◌>>=◌, as_one, expect, plain_name, expression, resumed}
 use Rattle.parser_simple.specs.declared.form.Form.{Form}
 use Rattle.parser_simple.specs.declared.form.Form.TheVariants as forms
-use Rattle.parser_simple.specs.Reading.{as_one, behind_mark, before_mark, begins_with, form_of, defines, place, primary, led, sent, simple, fits}
+use Rattle.parser_simple.specs.Reading.{behind_mark, before_mark, begins_with, begins_call, form_of, defines, place, received, arguments, call_of, led, sent, simple, within, fits}
 
 -- ---- headers
 
@@ -33,9 +34,44 @@ abbrev pub led_or_condition : ℕ → ℕ → Option Simple × List Lexeme → R
 led_or_condition most room (Some simple, rest) = Ok (HeadSimple simple, rest)
 led_or_condition most room (None, rest) = fits true false true 0 room rest >>= λ low. expression false most room 0 rest >>= condition_or_sent most room
 
+-- whether a condition ends before these, or a send goes on with it
+abbrev pub ends_condition : Expression → List Lexeme → Bool
+ends_condition condition words = begins_with kinds.LeftBrace words || (begins_with kinds.Arrow words && is_primary condition)
+
+-- a condition that begins with this operand, which may be a level too high, or a send on such a one
+unfoldable pub headed_on : ℕ → ℕ → Expression → List Lexeme → Reading Head
+headed_on most room left words =
+    resumed false most room 0 left words >>= λ found.
+    within (expression_height found.0) room (ends_condition found.0 found.1) >>= λ low. condition_or_sent most room found
+
+-- a statement that is this operand alone, before a semicolon, or what begins with the operand
+abbrev pub alone_or_on : ℕ → ℕ → Simple → Expression → List Lexeme → Reading Head
+alone_or_on most room alone left words =
+    if begins_with kinds.Semicolon words then Ok (HeadSimple alone, words) else headed_on most room left words
+
+abbrev pub received_head : ℕ → ℕ → Expression × List Lexeme → Reading Head
+received_head most room (channel, words) = alone_or_on most room (ReceiveAlone channel) (Receive channel) words
+
+-- what begins with a receive
+abbrev pub head_received : ℕ → ℕ → List Lexeme → Reading Head
+head_received most room words = received false most room words >>= received_head most room
+
+abbrev pub called_head : ℕ → ℕ → List ℕ → Arguments × List Lexeme → Reading Head
+called_head most room function (all, words) = alone_or_on most room (CallAlone function all) (call_of function all) words
+
+-- what begins with a call
+unfoldable pub head_called : ℕ → ℕ → List Lexeme → Reading Head
+head_called most room words = do
+  function ← plain_name words
+  all ← arguments false most room function.1
+  called_head most room function.0 all
+
 -- a simple statement or a condition
 unfoldable pub head : ℕ → ℕ → List Lexeme → Reading Head
-head most room words = led false true most room words >>= led_or_condition most room
+head most room words =
+    if begins_with kinds.Arrow words then head_received most room words
+    else (if begins_call words then head_called most room words
+    else (led false true most room words >>= led_or_condition most room))
 
 -- ---- what a clause of a select waits for
 
@@ -44,15 +80,15 @@ second one words =
     if begins_with kinds.Comma words then (expect kinds.Comma words >>= λ behind. as_one (λ x. Some x) (one behind)) else Ok (None, words)
 
 -- a receive behind this mark
-abbrev pub received : TokenKind → ℕ → ℕ → List Lexeme → Reading Expression
-received mark most room words = expect mark words >>= behind_mark kinds.Arrow (primary true most room)
+abbrev pub received_behind : TokenKind → ℕ → ℕ → List Lexeme → Reading Expression
+received_behind mark most room words = behind_mark mark (received true most room) words
 
 -- a receive with a `:=` of one name or two
 unfoldable pub comm_defined : ℕ → ℕ → List Lexeme → Reading Comm
 comm_defined most room words = do
   item ← plain_name words
   ok ← second plain_name item.1
-  channel ← received kinds.Define most room ok.1
+  channel ← received_behind kinds.Define most room ok.1
   Ok (CommDefine item.0 ok.0 channel.0, channel.1)
 
 -- a receive with an assignment to one place or two
@@ -60,7 +96,7 @@ unfoldable pub comm_assigned : ℕ → ℕ → List Lexeme → Reading Comm
 comm_assigned most room words = do
   item ← place words
   ok ← second place item.1
-  channel ← received kinds.Assign most room ok.1
+  channel ← received_behind kinds.Assign most room ok.1
   Ok (CommAssign item.0 ok.0 channel.0, channel.1)
 
 unfoldable pub comm_formed : ℕ → ℕ → Form → List Lexeme → Reading Comm
@@ -71,9 +107,8 @@ comm_formed most room form words = sent CommSend true most room words
 
 -- what a clause of a select waits for, below which there are at most so many levels
 unfoldable pub comm : ℕ → ℕ → List Lexeme → Reading Comm
-comm most room (Mark kind ∷ rest) =
-    if is_kind kind kinds.Arrow then as_one CommReceive (primary true most room rest) else comm_formed most room (form_of true (Mark kind ∷ rest)) (Mark kind ∷ rest)
-comm most room words = comm_formed most room (form_of true words) words
+comm most room words =
+    if begins_with kinds.Arrow words then as_one CommReceive (received true most room words) else comm_formed most room (form_of true words) words
 
 -- ---- headers of an if and a for
 

@@ -6,7 +6,7 @@ use Rattle.scanner.specs.declared.kind.TokenKind.TheVariants as kinds
 use Rattle.syntax.specs.Tree.{Place, Comm, CommSend, CommReceive, CommDefine, CommAssign, IfHead, Bare, Semicolon, First, Target, NoTarget, DefineTarget, AssignTarget, ForHead, Forever, While, ForClauses, Range}
 use Rattle.parser_base.specs.Lexemes.{Lexeme, Name, Mark}
 use Rattle.parser_base.specs.Spelling.{before, IsGrouped}
-use Rattle.parser_simple.specs.Spelling.{name_words, IsName, place_words, IsPlace, IsPrimary, simple_words, IsSimple}
+use Rattle.parser_simple.specs.Spelling.{name_words, IsName, place_words, IsPlace, IsPrimary, IsUnary, simple_words, IsSimple}
 
 -- ---- what a clause of a select waits for
 
@@ -31,9 +31,9 @@ IsAny P (Some x) = P x
 
 abbrev pub IsComm : Comm → Type 0
 IsComm (CommSend channel value) = IsPrimary true channel × IsGrouped true value
-IsComm (CommReceive channel) = IsPrimary true channel
-IsComm (CommDefine item ok channel) = IsName item × IsAny IsName ok × IsPrimary true channel
-IsComm (CommAssign item ok channel) = IsPlace item × IsAny IsPlace ok × IsPrimary true channel
+IsComm (CommReceive channel) = IsUnary true channel
+IsComm (CommDefine item ok channel) = IsName item × IsAny IsName ok × IsUnary true channel
+IsComm (CommAssign item ok channel) = IsPlace item × IsAny IsPlace ok × IsUnary true channel
 
 -- ---- headers, without composite literals
 

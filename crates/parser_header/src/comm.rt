@@ -4,17 +4,17 @@ ghost use Rattle.std.specs.Prelude.{true, option_map};
 ghost use Rattle.syntax.specs.Tree.{CommSend, CommReceive};
 ghost use Rattle.syntax.specs.View.{name_of, expression_of, place_of, comm_of};
 ghost use Rattle.parser_base.specs.Cursor.{ahead};
-ghost use Rattle.parser_base.specs.Reading.{Gives, plain_name};
-ghost use Rattle.parser_simple.specs.Reading.{as_one, primary, place, sent};
-ghost use Rattle.parser_header.specs.Reading.{second, received, comm_defined, comm_assigned, comm_formed, comm};
+ghost use Rattle.parser_base.specs.Reading.{Gives, as_one, plain_name};
+ghost use Rattle.parser_simple.specs.Reading.{received, place, sent};
+ghost use Rattle.parser_header.specs.Reading.{second, received_behind, comm_defined, comm_assigned, comm_formed, comm};
 
 use parser_base::beside::beside;
-use parser_base::cursor::{Cursor, Word};
+use parser_base::cursor::Cursor;
 use parser_base::fault::ParseFault;
 use parser_base::found::Found;
 use parser_simple::form::{Form, begins_with, defines, form_of};
 use parser_simple::place::{name_at, place};
-use parser_simple::right::{expression_behind, primary_expression};
+use parser_simple::right::{expression_behind, receive_operand};
 use parser_simple::simple::send_operand;
 use scanner::TokenKind;
 use std::alloc::Global;
@@ -57,11 +57,14 @@ fn receive_behind(
     mark: TokenKind,
     cursor: Cursor<'_>,
 ) -> Result<Found<'_, ExpressionNode>, ParseFault>
-    ensures { Gives (λ x. (expression_of x.node, ahead x.rest)) result (received mark MAX_ENTRIES room (ahead cursor.entry)) }
+    ensures { Gives (λ x. (expression_of x.node, ahead x.rest)) result (received_behind mark MAX_ENTRIES room (ahead cursor.entry)) }
 {
     let arrow = cursor.expect(mark)?;
-    let rest = arrow.expect(TokenKind::Arrow)?;
-    primary_expression(alloc, true, room, rest)
+    let channel = receive_operand(alloc, true, room, arrow)?;
+    Ok(Found {
+        node: channel.node,
+        rest: channel.rest,
+    })
 }
 
 /// A receive with a `:=` of one name or two.
@@ -117,15 +120,15 @@ fn send_statement(
     Ok((CommNode::Send(channel, value.node), value.rest))
 }
 
-/// A receive alone, behind its arrow.
+/// A receive alone.
 fn lone_receive(
     alloc: Global,
     room: u32,
     cursor: Cursor<'_>,
 ) -> Result<(CommNode, Cursor<'_>), ParseFault>
-    ensures { Gives (λ x. (comm_of x.0, ahead x.1)) result (as_one CommReceive (primary true MAX_ENTRIES room (ahead cursor.entry))) }
+    ensures { Gives (λ x. (comm_of x.0, ahead x.1)) result (as_one CommReceive (received true MAX_ENTRIES room (ahead cursor.entry))) }
 {
-    let channel = primary_expression(alloc, true, room, cursor)?;
+    let channel = receive_operand(alloc, true, room, cursor)?;
     Ok((CommNode::Receive(channel.node), channel.rest))
 }
 
@@ -157,8 +160,8 @@ pub fn comm_statement(
 ) -> Result<(CommNode, Cursor<'_>), ParseFault>
     ensures { Gives (λ x. (comm_of x.0, ahead x.1)) result (comm MAX_ENTRIES room (ahead cursor.entry)) }
 {
-    if let Some((Word::Mark(TokenKind::Arrow), rest)) = cursor.next() {
-        return lone_receive(alloc, room, rest);
+    if begins_with(TokenKind::Arrow, cursor) {
+        return lone_receive(alloc, room, cursor);
     }
     form_statement(alloc, room, form_of(cursor), cursor)
 }

@@ -1,22 +1,26 @@
 //! What stands behind `if` or `for`.
 
-ghost use Rattle.std.specs.Prelude.{◌≡◌, true, false, option_map};
+ghost use Rattle.std.specs.Prelude.{◌≡◌, ◌<◌, ◌^◌, true, false, option_map, map};
+ghost use Rattle.syntax.specs.Measures.{highest, expression_height};
 ghost use Rattle.syntax.specs.View.{expression_of, simple_of, if_head_of, target_of, for_head_of};
 ghost use Rattle.parser_base.specs.Cursor.{ahead};
 ghost use Rattle.parser_base.specs.Reading.{Gives};
-ghost use Rattle.parser_simple.specs.Reading.{as_one, simple};
-ghost use Rattle.parser_header.specs.Reading.{is_primary, condition_or_sent, head, condition, if_header, unless_next, for_clauses, post_behind, ranged, range_defined, range_assigned, ranges, for_begun, for_header};
+ghost use Rattle.parser_simple.specs.Reading.{passed, simple};
+ghost use Rattle.parser_header.specs.Reading.{is_primary, condition_or_sent, ends_condition, headed_on, head_received, called_head, head_called, head, condition, if_header, unless_next, for_clauses, post_behind, ranged, range_defined, range_assigned, ranges, for_begun, for_header};
 ghost use Rattle.parser_header.specs.Heads.{head_of};
 
 use parser_base::beside::beside;
 use parser_base::cursor::Cursor;
-use parser_base::expression::expression;
+use parser_base::expression::{Measured, expression, resumed_expression};
 use parser_base::fault::ParseFault;
 use parser_base::found::Found;
-use parser_simple::form::{Form, begins_with, defines, fits, form_of};
+use parser_base::list::List;
+use parser_simple::form::{Form, begins_call, begins_with, defines, fits, form_of, within};
 use parser_simple::place::{name_at, place_before};
-use parser_simple::right::expression_behind;
-use parser_simple::simple::{simple_statement, statement_unless_value};
+use parser_simple::right::{
+    call_operand, expression_behind, measured_arguments, receive_from, receive_operand,
+};
+use parser_simple::simple::{call_alone, simple_statement, statement_unless_value};
 use scanner::TokenKind;
 use std::alloc::Global;
 use syntax::limits::MAX_ENTRIES;
@@ -35,7 +39,7 @@ fn is_primary(expression: &ExpressionNode) -> bool
 {
     !matches!(
         expression,
-        ExpressionNode::Unary(..) | ExpressionNode::Binary(..)
+        ExpressionNode::Unary(..) | ExpressionNode::Binary(..) | ExpressionNode::Receive(..)
     )
 }
 
@@ -58,6 +62,90 @@ fn condition_or_send(
     Ok((HeadNode::Simple(sent), value.rest))
 }
 
+/// Whether a condition ends here, or a send goes on with it.
+fn ends_condition(condition: &ExpressionNode, cursor: Cursor<'_>) -> bool
+    ensures { result ≡ ends_condition (expression_of condition.now) (ahead cursor.entry) }
+{
+    begins_with(TokenKind::LeftBrace, cursor)
+        || (begins_with(TokenKind::Arrow, cursor) && is_primary(condition))
+}
+
+/// A condition that begins with the operand `left`, which was read before and may be a level too high, or a send on such a
+/// one.
+#[tactic(auto, unfolding(crate::specs::Reading::headed_on))]
+fn condition_on(
+    alloc: Global,
+    room: u32,
+    left: Measured<'_>,
+) -> Result<(HeadNode, Cursor<'_>), ParseFault>
+    requires { left.height ≡ expression_height (expression_of left.node) }
+    ensures { Gives (λ x. (head_of x.0, ahead x.1)) result (headed_on MAX_ENTRIES room (expression_of left.entry.node) (ahead left.entry.rest)) }
+{
+    let found = resumed_expression(alloc, false, room, 0, left)?;
+    let goes = ends_condition(&found.node, found.rest);
+    let low = within(found.height, room, goes, found.rest);
+    let (found, ()) = beside(found, low)?;
+    condition_or_send(
+        alloc,
+        room,
+        Found {
+            node: found.node,
+            rest: found.rest,
+        },
+    )
+}
+
+/// A receive alone, or what begins with it.
+fn receive_or_condition(
+    alloc: Global,
+    room: u32,
+    cursor: Cursor<'_>,
+) -> Result<(HeadNode, Cursor<'_>), ParseFault>
+    ensures { Gives (λ x. (head_of x.0, ahead x.1)) result (head_received MAX_ENTRIES room (ahead cursor.entry)) }
+{
+    let channel = receive_operand(alloc, false, room, cursor)?;
+    if begins_with(TokenKind::Semicolon, channel.rest) {
+        let alone = SimpleNode::Receive(channel.node);
+        return Ok((HeadNode::Simple(alone), channel.rest));
+    }
+    let left = receive_from(alloc, channel)?;
+    condition_on(alloc, room, left)
+}
+
+/// A call alone, or what begins with the call, whose highest argument is `levels` high.
+fn call_or_condition<'a>(
+    alloc: Global,
+    room: u32,
+    name: &[u8],
+    all: List<'a, ExpressionNode>,
+    levels: usize,
+) -> Result<(HeadNode, Cursor<'a>), ParseFault>
+    requires height { levels ≡ highest expression_height (map expression_of all.entries.items) }
+    requires low { levels < 2 ^ 32 }
+    ensures { Gives (λ x. (head_of x.0, ahead x.1)) result (called_head MAX_ENTRIES room name.now (passed (map expression_of all.entry.entries.items) all.entry.trailing, ahead all.entry.rest)) }
+{
+    if begins_with(TokenKind::Semicolon, all.rest) {
+        let found = call_alone(alloc, name, all)?;
+        return Ok((HeadNode::Simple(found.node), found.rest));
+    }
+    let left = call_operand(alloc, name, all, levels)?;
+    condition_on(alloc, room, left)
+}
+
+/// What begins with a call.
+#[tactic(auto, unfolding(crate::specs::Reading::head_called))]
+fn begun_by_call(
+    alloc: Global,
+    room: u32,
+    cursor: Cursor<'_>,
+) -> Result<(HeadNode, Cursor<'_>), ParseFault>
+    ensures { Gives (λ x. (head_of x.0, ahead x.1)) result (head_called MAX_ENTRIES room (ahead cursor.entry)) }
+{
+    let (name, behind) = cursor.plain_name()?;
+    let (all, levels) = measured_arguments(alloc, false, room, behind)?;
+    call_or_condition(alloc, room, name, all, levels)
+}
+
 /// A simple statement or a condition, without composite literals, below which there are at most so many levels.
 #[tactic(auto, unfolding(crate::specs::Reading::head))]
 pub fn simple_or_condition(
@@ -67,6 +155,12 @@ pub fn simple_or_condition(
 ) -> Result<(HeadNode, Cursor<'_>), ParseFault>
     ensures { Gives (λ x. (head_of x.0, ahead x.1)) result (head MAX_ENTRIES room (ahead cursor.entry)) }
 {
+    if begins_with(TokenKind::Arrow, cursor) {
+        return receive_or_condition(alloc, room, cursor);
+    }
+    if begins_call(cursor) {
+        return begun_by_call(alloc, room, cursor);
+    }
     let found = statement_unless_value(alloc, false, true, room, cursor)?;
     let rest = found.rest;
     match found.node {

@@ -4,7 +4,7 @@ use Rattle.std.proofs.lemmas.Bool.{leb-false}
 use Rattle.scanner.specs.declared.kind.TokenKind.TheVariants as kinds
 use Rattle.syntax.specs.declared.node.BinaryOperator.{BinaryOperator}
 use Rattle.syntax.specs.declared.node.BinaryOperator.TheVariants as binaries
-use Rattle.syntax.specs.Tree.{Expression, Integer, Named, Parenthesized, Selection, Composite, Unary, Binary}
+use Rattle.syntax.specs.Tree.{Expression, Integer, Named, Parenthesized, Selection, Composite, Unary, Binary, Call, Receive, Make, MakeSized, Length, Capacity}
 use Rattle.syntax.specs.Measures.{Listing, expression_height}
 use Rattle.parser_base.specs.Lexemes.{Lexeme, Name, Mark}
 use Rattle.parser_base.specs.Spelling.{before, expression_words, outer_precedence, IsGrouped, binary_kind}
@@ -57,7 +57,7 @@ operator_goes literals binaries.LogicalOr height room ws = refl
 operator_fits : (header literals : Bool) (o : BinaryOperator) (height high room : ℕ) (ws : List Lexeme) → header ≡ true → height ≤ high → Fits high room (fits header literals false height room (Mark (binary_kind o) ∷ ws))
 operator_fits header literals o height high room ws begins low = rw (begins, operator_goes literals o height room ws) (within_fits height high room low)
 
-literal_goes : (header : Bool) → goes_on header true kinds.LeftBrace ≡ true
+literal_goes : (header : Bool) → goes_on header true true kinds.LeftBrace ≡ true
 literal_goes true = refl
 literal_goes false = refl
 
@@ -65,30 +65,36 @@ literal_goes false = refl
 
 -- a value fits, or is too high, where that is so of each name and selection before what follows
 pub value_fits : (header literals : Bool) (high room : ℕ) (e : Expression) (ws : List Lexeme) → IsGrouped literals e → (header ≡ true) ⊎ (outer_precedence e ≡ 7) → expression_height e ≤ high
-    → ((l : Bool) → Fits high room (fits header l false (expression_height e) room ws)) → Fits high room (fits header literals true 0 room (before e ws))
+    → Fits high room (fits header literals false (expression_height e) room ws) → Fits high room (fits header literals true 0 room (before e ws))
 unfolding fits
 value_fits header literals high room (Integer value) ws is strong low next = inl refl
-value_fits header literals high room (Named name) ws is strong low next = rw is (next literals)
+value_fits header literals high room (Named name) ws is strong low next = rw is next
 value_fits header literals high room (Parenthesized inner) ws is strong low next = inl refl
 value_fits header literals high room (Selection whole field) ws is strong low next =
     rw (append_assoc (expression_words whole) (Mark kinds.Period ∷ Name field ∷ []) ws)
-    (value_fits header literals high room whole (Mark kinds.Period ∷ Name field ∷ ws) is.0 (inr is.1) (omega (arith, low)) (λ l. rw (is.2, add-one (expression_height whole)) (next false)))
+    (value_fits header literals high room whole (Mark kinds.Period ∷ Name field ∷ ws) is.0 (inr is.1) (omega (arith, low)) (rw (is.2, add-one (expression_height whole)) next))
 value_fits header literals high room (Composite name vs trailing) ws is strong low next =
     rw (is.1, is.0, literal_goes header) (within_fits 1 high room (omega (arith, low, height_positive (Composite name vs trailing))))
 value_fits header literals high room (Unary o inner) ws is strong low next = inl refl
 value_fits header literals high room (Binary o l r) ws is (inl begins) low next =
     rw (append_assoc (expression_words l) (Mark (binary_kind o) ∷ expression_words r) ws)
-    (value_fits header literals high room l (Mark (binary_kind o) ∷ before r ws) is.0 (inl begins) (omega (arith, low)) (λ l'. operator_fits header l' o (expression_height l) high room (before r ws) begins (omega (arith, low))))
+    (value_fits header literals high room l (Mark (binary_kind o) ∷ before r ws) is.0 (inl begins) (omega (arith, low)) (operator_fits header literals o (expression_height l) high room (before r ws) begins (omega (arith, low))))
 value_fits header literals high room (Binary o l r) ws is (inr strong) low next = absurd (omega (arith, strong, precedence-lt o))
+value_fits header literals high room (Call function vs trailing) ws is strong low next = rw is.0 (within_fits 1 high room (omega (arith, low, height_positive (Call function vs trailing))))
+value_fits header literals high room (Receive channel) ws is strong low next = inl refl
+value_fits header literals high room (Make channel) ws is strong low next = inl refl
+value_fits header literals high room (MakeSized channel size) ws is strong low next = inl refl
+value_fits header literals high room (Length channel) ws is strong low next = inl refl
+value_fits header literals high room (Capacity channel) ws is strong low next = inl refl
 
 -- the operand of a send
 pub operand_fits : (header literals : Bool) (room : ℕ) (c : Expression) (ws : List Lexeme) → IsGrouped literals c → outer_precedence c ≡ 7 → Fits (expression_height c) room (fits header literals true 0 room (before c (Mark kinds.Arrow ∷ ws)))
 unfolding fits
 operand_fits header literals room c ws is strong =
-    value_fits header literals (expression_height c) room c (Mark kinds.Arrow ∷ ws) is (inr strong) (omega arith) (λ l. within_fits (expression_height c) (expression_height c) room (omega arith))
+    value_fits header literals (expression_height c) room c (Mark kinds.Arrow ∷ ws) is (inr strong) (omega arith) (within_fits (expression_height c) (expression_height c) room (omega arith))
 
 -- a condition before a block
 pub condition_fits : (room : ℕ) (c : Expression) (ws : List Lexeme) → IsGrouped false c → Fits (expression_height c) room (fits true false true 0 room (before c (Mark kinds.LeftBrace ∷ ws)))
 unfolding fits
 condition_fits room c ws is =
-    value_fits true false (expression_height c) room c (Mark kinds.LeftBrace ∷ ws) is (inl refl) (omega arith) (λ l. within_fits (expression_height c) (expression_height c) room (omega arith))
+    value_fits true false (expression_height c) room c (Mark kinds.LeftBrace ∷ ws) is (inl refl) (omega arith) (within_fits (expression_height c) (expression_height c) room (omega arith))

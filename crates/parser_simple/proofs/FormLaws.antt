@@ -1,17 +1,17 @@
 -- What stands behind a place, and what that says of a statement.
-use Rattle.std.proofs.Common.{◌≡◌, ℕ, ◌≤◌, Bool, true, false, cond, Option, None, List, [], ◌∷◌, ◌++◌, Ok, refl, ap, ◌∙◌, subst, arith, append_assoc}
+use Rattle.std.proofs.Common.{◌≡◌, ℕ, ◌≤◌, Bool, true, false, cond, ◌||◌, Option, None, List, [], ◌∷◌, ◌++◌, Ok, refl, ap, ◌∙◌, subst, arith, append_assoc, bytes_eq, codes}
 use Rattle.scanner.specs.declared.kind.TokenKind.{TokenKind}
 use Rattle.scanner.specs.declared.kind.TokenKind.TheVariants as kinds
 use Rattle.syntax.specs.declared.node.BinaryOperator.{BinaryOperator}
 use Rattle.syntax.specs.declared.node.BinaryOperator.TheVariants as binaries
-use Rattle.syntax.specs.Tree.{Expression, Integer, Named, Parenthesized, Selection, Composite, Unary, Binary, Place, Simple}
+use Rattle.syntax.specs.Tree.{Expression, Integer, Named, Parenthesized, Selection, Composite, Unary, Binary, Call, Receive, Make, MakeSized, Length, Capacity, Place, Simple}
 use Rattle.parser_base.specs.Lexemes.{Lexeme, Literal, Name, Text, Mark}
-use Rattle.parser_base.specs.Spelling.{is_builtin, behind, separated, joined, before, expression_words, precedence, binary_kind}
-use Rattle.parser_base.specs.Reading.{Reading, is_kind}
+use Rattle.parser_base.specs.Spelling.{makes_value, is_builtin, behind, separated, joined, before, expression_words, precedence, binary_kind}
+use Rattle.parser_base.specs.Reading.{Reading, is_kind, begins}
 use Rattle.parser_simple.specs.declared.form.Form.{Form}
 use Rattle.parser_simple.specs.declared.form.Form.TheVariants as forms
 use Rattle.parser_simple.specs.Spelling.{name_words, IsPlace, place_words, update_kind}
-use Rattle.parser_simple.specs.Reading.{begins_with, form_at, form_of, defines, begins_operation, formed, led}
+use Rattle.parser_simple.specs.Reading.{begins_with, form_at, form_of, defines, formed, led}
 
 -- ---- operators
 
@@ -148,17 +148,29 @@ unfolding form_of
 fields_form [] ws = refl
 fields_form (f ∷ fs) ws = fields_form fs ws
 
-fields_shut : (fs : List (List ℕ)) (ws : List Lexeme) → begins_with kinds.LeftParenthesis ws ≡ false → begins_with kinds.LeftParenthesis (separated name_words (behind kinds.Period) fs ws) ≡ false
+first_false : (a b : Bool) → (a || b) ≡ false → a ≡ false
+first_false true b e = absurd cc
+first_false false b e = refl
+
+pub fields_shut : (fs : List (List ℕ)) (ws : List Lexeme) → begins_with kinds.LeftParenthesis ws ≡ false → begins_with kinds.LeftParenthesis (separated name_words (behind kinds.Period) fs ws) ≡ false
 unfolding begins_with
 fields_shut [] ws shut = shut
 fields_shut (f ∷ fs) ws shut = refl
 
+-- only the names of built-in functions make values
+pub plain_makes_none : (name : List ℕ) → is_builtin name ≡ false → makes_value name ≡ false
+plain_makes_none name plain =
+    let close = bytes_eq name (codes "close") in
+    let print = bytes_eq name (codes "print") in
+    let println = bytes_eq name (codes "println") in
+    first_false (makes_value name) close (first_false (makes_value name || close) print (first_false (makes_value name || close || print) println plain))
+
 -- a statement that begins with a place has the form of what follows that
-pub led_formed : (literals defining : Bool) (most room : ℕ) (p : Place) (ws : List Lexeme) → IsPlace p → begins_with kinds.LeftParenthesis ws ≡ false
+pub led_formed : (literals defining : Bool) (most room : ℕ) (p : Place) (ws : List Lexeme) → IsPlace p
     → led literals defining most room (place_words p ws) ≡ formed literals defining most room (form_of false ws) (place_words p ws)
 unfolding led form_of
-led_formed literals defining most room p ws is shut =
-    rw (is.0, fields_shut p.fields ws shut, fields_form p.fields ws) refl
+led_formed literals defining most room p ws is =
+    rw (is.0, plain_makes_none p.name is.0, fields_form p.fields ws) refl
 
 -- ---- names and places before a mark
 
@@ -191,20 +203,26 @@ no_form (Composite name vs trailing) ws none = refl
 no_form (Unary o inner) ws none = refl
 no_form (Binary o l r) ws none =
     ap (form_of true) (append_assoc (expression_words l) (Mark (binary_kind o) ∷ expression_words r) ws) ∙ no_form l (Mark (binary_kind o) ∷ (expression_words r ++ ws)) (operator_form o (expression_words r ++ ws))
+no_form (Call function vs trailing) ws none = refl
+no_form (Receive channel) ws none = refl
+no_form (Make channel) ws none = refl
+no_form (MakeSized channel size) ws none = refl
+no_form (Length channel) ws none = refl
+no_form (Capacity channel) ws none = refl
 
-named_none : (literals defining : Bool) (most room : ℕ) (name : List ℕ) (b c : Bool) (ws : List Lexeme) (calls : Reading (Option Simple)) → cond b true c ≡ false → form_of true (Name name ∷ ws) ≡ forms.Other
-    → (operation : Reading (Option Simple)) → cond b operation (cond c calls (formed literals defining most room (form_of true (Name name ∷ ws)) (Name name ∷ ws))) ≡ Ok (None, Name name ∷ ws)
-unfolding formed
-named_none literals defining most room name true c ws calls none form operation = absurd cc
-named_none literals defining most room name false true ws calls none form operation = absurd cc
-named_none literals defining most room name false false ws calls none form operation = rw form refl
+named_none : (literals defining : Bool) (most room : ℕ) (name : List ℕ) (b : Bool) (ws : List Lexeme) → is_builtin name ≡ b → form_of true (Name name ∷ ws) ≡ forms.Other → begins (Name name ∷ ws) ≡ true
+    → led literals defining most room (Name name ∷ ws) ≡ Ok (None, Name name ∷ ws)
+unfolding led formed begins
+named_none literals defining most room name true ws is form begun =
+    let makes = rw is at begun in
+    rw makes refl
+named_none literals defining most room name false ws is form begun = rw (is, plain_makes_none name is, form) refl
 
--- no simple statement but a send begins with a value
-pub led_none : (literals defining : Bool) (most room : ℕ) (ws : List Lexeme) → begins_operation ws ≡ false → form_of true ws ≡ forms.Other → led literals defining most room ws ≡ Ok (None, ws)
-unfolding led begins_operation
-led_none literals defining most room [] none form = refl
-led_none literals defining most room (Literal value ∷ ws) none form = refl
-led_none literals defining most room (Text bytes ∷ ws) none form = refl
-led_none literals defining most room (Mark kind ∷ ws) none form = rw none refl
-led_none literals defining most room (Name name ∷ ws) none form =
-    named_none literals defining most room name (is_builtin name) (begins_with kinds.LeftParenthesis ws) ws _ none form _
+-- no other simple statement begins with a value
+pub led_none : (literals defining : Bool) (most room : ℕ) (ws : List Lexeme) → begins ws ≡ true → form_of true ws ≡ forms.Other → led literals defining most room ws ≡ Ok (None, ws)
+unfolding led
+led_none literals defining most room [] begun form = refl
+led_none literals defining most room (Literal value ∷ ws) begun form = refl
+led_none literals defining most room (Text bytes ∷ ws) begun form = refl
+led_none literals defining most room (Mark kind ∷ ws) begun form = refl
+led_none literals defining most room (Name name ∷ ws) begun form = named_none literals defining most room name (is_builtin name) ws refl form begun

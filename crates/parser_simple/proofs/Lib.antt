@@ -1,5 +1,6 @@
 pub mod PlaceLaws
 pub mod RightLaws
+pub mod CallLaws
 pub mod FormLaws
 pub mod FitLaws
 pub mod SimpleLaws

@@ -3,24 +3,26 @@ use Rattle.std.proofs.Common.{◌≡◌, ℕ, zero, suc, ◌<◌, ◌≤◌, Boo
 use Rattle.scanner.specs.declared.kind.TokenKind.{TokenKind}
 use Rattle.scanner.specs.declared.kind.TokenKind.TheVariants as kinds
 use Rattle.syntax.specs.declared.node.BinaryOperator.{BinaryOperator}
-use Rattle.syntax.specs.Tree.{Expression, Arguments, Right, Place, Part, Value, Text as TextPart, Simple, CallAlone, Close, Print, ReceiveAlone, Send, Increment, Decrement, Assign, Define, Update}
-use Rattle.syntax.specs.Measures.{Listing, Entries as EntriesLimit, entries, highest, expression_height, expression_longest, part_height, part_longest, simple_height, simple_longest}
+use Rattle.syntax.specs.Tree.{Expression, Arguments, Place, Part, Value, Text as TextPart, Simple, CallAlone, Close, Print, ReceiveAlone, Send, Increment, Decrement, Assign, Define, Update}
+use Rattle.syntax.specs.Measures.{Listing, Entries as EntriesLimit, entries, highest, expression_height, expression_longest, list_longest, part_height, part_longest, simple_height, simple_longest}
 use Rattle.parser_base.specs.Lexemes.{Lexeme, Literal, Name, Text, Mark}
-use Rattle.parser_base.specs.Spelling.{is_builtin, behind, separated, joined, closing, before, AreAll, AreSome, IsTrailing, precedence, IsGrouped}
-use Rattle.parser_base.specs.Reading.{Syntax, TooDeep, TooMany, Reading, ◌>>=◌, is_kind, expect, begins, step_at, entry_next, expression, listed}
-use Rattle.parser_base.proofs.Marks.{bind_ok, when_ok, ok_is, kind_is, expect_is, expect_again, bytes_are}
-use Rattle.parser_base.proofs.ListLaws.{AreFew, ReadBack, Found, High, Entries, IsReadAgain, Separates, listed_again, all_again, IsEntry, ReadsSoundly, listed_sound}
-use Rattle.parser_base.proofs.ExpressionAgain.{EndsExpression, shut, entries-le, height_positive, parenthesis_closes, comma_ends, closing_ends, begins_again, ending_again, more_entries}
+use Rattle.parser_base.specs.Spelling.{makes_value, is_builtin, behind, separated, joined, closing, before, AreAll, AreSome, IsTrailing, outer_precedence, precedence, IsGrouped}
+use Rattle.parser_base.specs.Reading.{Syntax, TooDeep, TooMany, Reading, ◌>>=◌, as_one, needing, is_kind, expect, begins, step_at, entry_next, expression, argument, listed}
+use Rattle.parser_base.proofs.Marks.{bind_ok, when_ok, ok_is, kind_is, expect_is, expect_again, plain_name_again, bytes_are}
+use Rattle.parser_base.proofs.ListLaws.{AreFew, entries-le, ReadBack, Found, High, Entries, IsReadAgain, Separates, listed_again, all_again, IsEntry, ReadsSoundly, listed_sound}
+use Rattle.parser_base.proofs.ExpressionAgain.{EndsExpression, shut, none_above, height_positive, parenthesis_closes, comma_ends, closing_ends, begins_again, ending_again, more_entries}
 use Rattle.parser_base.proofs.ExpressionSound.{entry_more_sound, entry_end_sound}
-use Rattle.parser_base.proofs.Steps.{then_again, made_again, listed_outcome, gave, Sound, made_is, either}
+use Rattle.parser_base.proofs.Steps.{then_again, made_again, read_as, needing_again, needing_ok, listed_outcome, gave, Sound, made_is, either}
+use Rattle.parser_base.proofs.Resumed.{Begun, begun}
 use Rattle.parser_simple.specs.declared.form.Form.{Form}
 use Rattle.parser_simple.specs.declared.form.Form.TheVariants as forms
-use Rattle.parser_simple.specs.Spelling.{name_words, IsName, place_words, IsPlace, IsPrimary, right_words, IsRight, part_words, IsPart, print_name, update_kind, simple_words, IsSimple}
-use Rattle.parser_simple.specs.Reading.{as_one, behind_mark, before_mark, begins_with, defines, form_of, names, place, places, needing, behind_place, received, primary, arguments, argument, right, begins_part, part, parts, print, builtin_call, assigned, defined, stepped, updated, formed, led, send_operand, sent, led_or_sent, simple, fits}
+use Rattle.parser_simple.specs.Spelling.{name_words, IsName, place_words, IsPlace, IsPrimary, IsUnary, arguments_words, right_words, IsRight, part_words, IsPart, print_name, update_kind, simple_words, IsSimple}
+use Rattle.parser_simple.specs.Reading.{behind_mark, before_mark, begins_with, begins_call, defines, form_of, names, place, places, behind_place, received, primary, arguments, right, begins_part, part, parts, print, builtin_call, assigned, defined, stepped, updated, formed, led, send_operand, sent, led_or_sent, called, simple, fits}
 use Rattle.parser_simple.proofs.PlaceLaws.{names_again, names_sound, place_again, place_sound, places_again, places_sound}
-use Rattle.parser_simple.proofs.FormLaws.{update_again, update_shut, update_no_field, form_strong, led_formed, defines_names, no_defines, no_form, led_none}
+use Rattle.parser_simple.proofs.FormLaws.{update_again, update_shut, update_no_field, form_strong, plain_makes_none, fields_shut, led_formed, defines_names, no_defines, no_form, led_none}
 use Rattle.parser_simple.proofs.FitLaws.{fits_again, operand_fits}
-use Rattle.parser_simple.proofs.RightLaws.{Stops, ExpressionOutcome, PrimarySound, needing_again, needing_ok, value_again, primary_again, received_again, arguments_again, argument_again, no_operation, right_again, right_positive, value_sound, primary_sound, received_sound, arguments_sound, argument_sound, right_sound}
+use Rattle.parser_simple.proofs.RightLaws.{Stops, ends_at, ExpressionOutcome, PrimarySound, value_again, primary_again, received_again, arguments_again, argument_again, right_again, right_positive, value_sound, primary_sound, received_sound, argument_sound, right_sound}
+use Rattle.parser_simple.proofs.CallLaws.{no_call, no_parenthesis, Starts, WithCall, WithReceive, WithNeither, starts, sends_by_call, called_sound}
 
 -- ---- arguments of print and println
 
@@ -106,7 +108,7 @@ unfolding print expect
 print_again line literals most room ps trailing rest all last =
     then_again _ (parts_again literals most room ps trailing rest all last) (λ high. high) (λ listing. omega arith) (λ low few. Found low few refl)
 
-assigned_again : (literals : Bool) (most room : ℕ) (p : Place) (ps : List Place) (r : Right) (rest : List Lexeme) → AreAll IsPlace (p ∷ ps) → IsRight literals r → Stops literals rest
+assigned_again : (literals : Bool) (most room : ℕ) (p : Place) (ps : List Place) (r : List Expression) (rest : List Lexeme) → AreAll IsPlace (p ∷ ps) → IsRight literals r → Stops literals rest
     → SimpleOutcome most room (assigned literals most room (simple_words (Assign (p ∷ ps) r) rest)) (Assign (p ∷ ps) r) rest
 unfolding assigned expect begins_with
 assigned_again literals most room p ps r rest all is stops =
@@ -114,7 +116,7 @@ assigned_again literals most room p ps r rest all is stops =
     then_again _ (right_again literals most room r rest is stops) (λ high. high) (λ listing. omega arith) (λ low' few'.
     Found low' (λ listing. omega (arith, few listing, few' listing)) refl))
 
-defined_again : (literals : Bool) (most room : ℕ) (n : List ℕ) (ns : List (List ℕ)) (r : Right) (rest : List Lexeme) → AreAll IsName (n ∷ ns) → IsRight literals r → Stops literals rest
+defined_again : (literals : Bool) (most room : ℕ) (n : List ℕ) (ns : List (List ℕ)) (r : List Expression) (rest : List Lexeme) → AreAll IsName (n ∷ ns) → IsRight literals r → Stops literals rest
     → SimpleOutcome most room (defined literals most room (simple_words (Define (n ∷ ns) r) rest)) (Define (n ∷ ns) r) rest
 unfolding defined expect begins_with
 defined_again literals most room n ns r rest all is stops =
@@ -135,7 +137,7 @@ updated_again literals most room p o v rest is grouped stops =
 
 arrow_ends : (literals : Bool) (ws : List Lexeme) → EndsExpression literals (Mark kinds.Arrow ∷ ws)
 unfolding step_at
-arrow_ends literals ws = record { none = refl; shut = shut literals kinds.Arrow ws refl }
+arrow_ends literals ws = record { none = refl; shut = shut literals kinds.Arrow ws refl refl }
 
 send_operand_again : (literals : Bool) (most room : ℕ) (c : Expression) (ws : List Lexeme) → IsPrimary literals c → ExpressionOutcome literals most room (send_operand literals most room (before c (Mark kinds.Arrow ∷ ws))) c (Mark kinds.Arrow ∷ ws)
 unfolding send_operand
@@ -165,30 +167,20 @@ unfolding led builtin_call
 led_print true literals defining most room ps trailing rest all last = some_again most room _ (Print true ps trailing) rest (print_again true literals most room ps trailing rest all last)
 led_print false literals defining most room ps trailing rest all last = some_again most room _ (Print false ps trailing) rest (print_again false literals most room ps trailing rest all last)
 
-led_alone : (literals defining : Bool) (most room : ℕ) (function : List ℕ) (all : Arguments) (rest : List Lexeme) → IsSimple literals defining (CallAlone function all) → LedOutcome most room (led literals defining most room (simple_words (CallAlone function all) rest)) (CallAlone function all) rest
-unfolding led begins_with
-led_alone literals defining most room function all rest is =
-    rw is.0 (made_again (λ (x : Arguments). Some (CallAlone function x)) (arguments_again literals most room all rest is.1) (λ high. high) (λ low. low) (λ listing. refl))
-
 led_close : (literals defining : Bool) (most room : ℕ) (c : Expression) (rest : List Lexeme) → IsGrouped literals c → LedOutcome most room (led literals defining most room (simple_words (Close c) rest)) (Close c) rest
 unfolding led builtin_call
 led_close literals defining most room c rest is =
     some_again most room _ (Close c) rest (needing_again 1 room (λ none. omega (arith, none, height_positive c)) (made_again Close (argument_again literals most room c rest is) (λ high. high) (λ low. low) (λ listing. refl)))
 
-led_receive : (literals defining : Bool) (most room : ℕ) (c : Expression) (rest : List Lexeme) → IsPrimary literals c → Stops literals rest → LedOutcome most room (led literals defining most room (simple_words (ReceiveAlone c) rest)) (ReceiveAlone c) rest
-unfolding led
-led_receive literals defining most room c rest is stops =
-    made_again (λ (x : Expression). Some (ReceiveAlone x)) (received_again literals most room c rest is stops.ends) (λ high. high) (λ low. low) (λ listing. refl)
-
 led_increment : (literals defining : Bool) (most room : ℕ) (p : Place) (rest : List Lexeme) → IsPlace p → LedOutcome most room (led literals defining most room (simple_words (Increment p) rest)) (Increment p) rest
 unfolding formed form_of stepped begins_with expect
 led_increment literals defining most room p rest is =
-    rw (led_formed literals defining most room p (Mark kinds.Increment ∷ rest) is refl, place_again p (Mark kinds.Increment ∷ rest) is refl) (Found (omega arith) (λ listing. omega arith) refl)
+    rw (led_formed literals defining most room p (Mark kinds.Increment ∷ rest) is, place_again p (Mark kinds.Increment ∷ rest) is refl) (Found (omega arith) (λ listing. omega arith) refl)
 
 led_decrement : (literals defining : Bool) (most room : ℕ) (p : Place) (rest : List Lexeme) → IsPlace p → LedOutcome most room (led literals defining most room (simple_words (Decrement p) rest)) (Decrement p) rest
 unfolding formed form_of stepped begins_with expect
 led_decrement literals defining most room p rest is =
-    rw (led_formed literals defining most room p (Mark kinds.Decrement ∷ rest) is refl, place_again p (Mark kinds.Decrement ∷ rest) is refl) (Found (omega arith) (λ listing. omega arith) refl)
+    rw (led_formed literals defining most room p (Mark kinds.Decrement ∷ rest) is, place_again p (Mark kinds.Decrement ∷ rest) is refl) (Found (omega arith) (λ listing. omega arith) refl)
 
 shut_update : (o : BinaryOperator) (ws : List Lexeme) → begins_with kinds.LeftParenthesis (Mark (update_kind o) ∷ ws) ≡ false
 unfolding begins_with
@@ -198,7 +190,7 @@ led_update : (literals defining : Bool) (most room : ℕ) (p : Place) (o : Binar
     → LedOutcome most room (led literals defining most room (simple_words (Update p o v) rest)) (Update p o v) rest
 unfolding formed
 led_update literals defining most room p o v rest is strong grouped stops =
-    rw (led_formed literals defining most room p (Mark (update_kind o) ∷ before v rest) is (shut_update o (before v rest)), update_again o (before v rest) strong)
+    rw (led_formed literals defining most room p (Mark (update_kind o) ∷ before v rest) is, update_again o (before v rest) strong)
     (some_again most room _ (Update p o v) rest (updated_again literals most room p o v rest is grouped stops))
 
 -- what is found has a level behind its first place
@@ -217,15 +209,15 @@ choose_second : {A : Type 0} (a b : Bool) (first second : A) → b ≡ false →
 choose_second true b first second is = rw is refl
 choose_second false b first second is = refl
 
-led_assign : (literals defining : Bool) (most room : ℕ) (p : Place) (ps : List Place) (r : Right) (rest : List Lexeme) → AreAll IsPlace (p ∷ ps) → IsRight literals r → Stops literals rest
+led_assign : (literals defining : Bool) (most room : ℕ) (p : Place) (ps : List Place) (r : List Expression) (rest : List Lexeme) → AreAll IsPlace (p ∷ ps) → IsRight literals r → Stops literals rest
     → LedOutcome most room (led literals defining most room (simple_words (Assign (p ∷ ps) r) rest)) (Assign (p ∷ ps) r) rest
 unfolding formed form_of begins_with
 led_assign literals defining most room p [] r rest all is stops =
-    rw (led_formed literals defining most room p (Mark kinds.Assign ∷ right_words r rest) all.0 refl)
+    rw (led_formed literals defining most room p (Mark kinds.Assign ∷ right_words r rest) all.0)
     (some_again most room _ (Assign (p ∷ []) r) rest (assigned_again literals most room p [] r rest all is stops))
 led_assign literals defining most room p (q ∷ ps) r rest all is stops =
     rw (
-      led_formed literals defining most room p (Mark kinds.Comma ∷ joined place_words (behind kinds.Comma) (q ∷ ps) (Mark kinds.Assign ∷ right_words r rest)) all.0 refl,
+      led_formed literals defining most room p (Mark kinds.Comma ∷ joined place_words (behind kinds.Comma) (q ∷ ps) (Mark kinds.Assign ∷ right_words r rest)) all.0,
       choose_second defining _ (defined literals most room (simple_words (Assign (p ∷ q ∷ ps) r) rest)) (assigned literals most room (simple_words (Assign (p ∷ q ∷ ps) r) rest)) (no_defines p (q ∷ ps) (right_words r rest)),
     )
     (behind_place_again p (Mark kinds.Comma ∷ joined place_words (behind kinds.Comma) (q ∷ ps) (Mark kinds.Assign ∷ right_words r rest)) all.0 refl (λ none. omega (arith, none, right_positive literals r is))
@@ -235,76 +227,170 @@ choose_first : {A : Type 0} (a b : Bool) (first second : A) → a ≡ true → b
 choose_first true b first second yes' is = rw is refl
 choose_first false b first second yes' is = absurd cc
 
-led_named : (literals defining : Bool) (most room : ℕ) (n : List ℕ) (ws : List Lexeme) → IsName n → begins_with kinds.LeftParenthesis ws ≡ false
+led_named : (literals defining : Bool) (most room : ℕ) (n : List ℕ) (ws : List Lexeme) → IsName n
     → led literals defining most room (Name n ∷ ws) ≡ formed literals defining most room (form_of false ws) (Name n ∷ ws)
 unfolding led form_of
-led_named literals defining most room n ws is shut = rw (is, shut) refl
+led_named literals defining most room n ws is = rw (is, plain_makes_none n is) refl
 
-led_define : (literals defining : Bool) (most room : ℕ) (n : List ℕ) (ns : List (List ℕ)) (r : Right) (rest : List Lexeme) → defining ≡ true → AreAll IsName (n ∷ ns) → IsRight literals r → Stops literals rest
+led_define : (literals defining : Bool) (most room : ℕ) (n : List ℕ) (ns : List (List ℕ)) (r : List Expression) (rest : List Lexeme) → defining ≡ true → AreAll IsName (n ∷ ns) → IsRight literals r → Stops literals rest
     → LedOutcome most room (led literals defining most room (simple_words (Define (n ∷ ns) r) rest)) (Define (n ∷ ns) r) rest
 unfolding formed form_of begins_with
 led_define literals defining most room n [] r rest is_defining all is stops =
     rw (
-      led_named literals defining most room n (Mark kinds.Define ∷ right_words r rest) all.0 refl,
+      led_named literals defining most room n (Mark kinds.Define ∷ right_words r rest) all.0,
       choose_first defining _ (defined literals most room (simple_words (Define (n ∷ []) r) rest)) (assigned literals most room (simple_words (Define (n ∷ []) r) rest)) is_defining (defines_names n [] (right_words r rest)),
     )
     (some_again most room _ (Define (n ∷ []) r) rest (defined_again literals most room n [] r rest all is stops))
 led_define literals defining most room n (m ∷ ns) r rest is_defining all is stops =
     rw (
-      led_named literals defining most room n (Mark kinds.Comma ∷ joined name_words (behind kinds.Comma) (m ∷ ns) (Mark kinds.Define ∷ right_words r rest)) all.0 refl,
+      led_named literals defining most room n (Mark kinds.Comma ∷ joined name_words (behind kinds.Comma) (m ∷ ns) (Mark kinds.Define ∷ right_words r rest)) all.0,
       choose_first defining _ (defined literals most room (simple_words (Define (n ∷ m ∷ ns) r) rest)) (assigned literals most room (simple_words (Define (n ∷ m ∷ ns) r) rest)) is_defining (defines_names n (m ∷ ns) (right_words r rest)),
     )
     (behind_place_again (record { name = n; fields = [] }) (Mark kinds.Comma ∷ joined name_words (behind kinds.Comma) (m ∷ ns) (Mark kinds.Define ∷ right_words r rest)) (all.0, tt) refl (λ none. omega (arith, none, right_positive literals r is))
     (some_again most room _ (Define (n ∷ m ∷ ns) r) rest (defined_again literals most room n (m ∷ ns) r rest all is stops)))
 
-abbrev pub is_send : Simple → Bool
-is_send (Send c v) = true
-is_send s = false
+-- what begins with a place or a name of its own
+abbrev pub is_led : Simple → Bool
+is_led (CallAlone f all) = false
+is_led (ReceiveAlone c) = false
+is_led (Send c v) = false
+is_led s = true
 
--- what is spelt is read, where it is no send
-pub led_again : (literals defining : Bool) (most room : ℕ) (s : Simple) (rest : List Lexeme) → IsSimple literals defining s → is_send s ≡ false → Stops literals rest
+-- what is spelt is read, where it is so
+pub led_again : (literals defining : Bool) (most room : ℕ) (s : Simple) (rest : List Lexeme) → IsSimple literals defining s → is_led s ≡ true → Stops literals rest
     → LedOutcome most room (led literals defining most room (simple_words s rest)) s rest
-led_again literals defining most room (CallAlone f all) rest is other stops = led_alone literals defining most room f all rest is
-led_again literals defining most room (Close c) rest is other stops = led_close literals defining most room c rest is
-led_again literals defining most room (Print line ps trailing) rest is other stops = led_print line literals defining most room ps trailing rest is.0 is.1
-led_again literals defining most room (ReceiveAlone c) rest is other stops = led_receive literals defining most room c rest is stops
-led_again literals defining most room (Send c v) rest is other stops = absurd cc
-led_again literals defining most room (Increment p) rest is other stops = led_increment literals defining most room p rest is
-led_again literals defining most room (Decrement p) rest is other stops = led_decrement literals defining most room p rest is
-led_again literals defining most room (Assign [] r) rest is other stops = absurd is.0
-led_again literals defining most room (Assign (p ∷ ps) r) rest is other stops = led_assign literals defining most room p ps r rest is.0 is.1 stops
-led_again literals defining most room (Define [] r) rest is other stops = absurd is.1
-led_again literals defining most room (Define (n ∷ ns) r) rest is other stops = led_define literals defining most room n ns r rest is.0 is.1 is.2 stops
-led_again literals defining most room (Update p o v) rest is other stops = led_update literals defining most room p o v rest is.0 is.1 is.2 stops
+led_again literals defining most room (CallAlone f all) rest is begins stops = absurd cc
+led_again literals defining most room (Close c) rest is begins stops = led_close literals defining most room c rest is
+led_again literals defining most room (Print line ps trailing) rest is begins stops = led_print line literals defining most room ps trailing rest is.0 is.1
+led_again literals defining most room (ReceiveAlone c) rest is begins stops = absurd cc
+led_again literals defining most room (Send c v) rest is begins stops = absurd cc
+led_again literals defining most room (Increment p) rest is begins stops = led_increment literals defining most room p rest is
+led_again literals defining most room (Decrement p) rest is begins stops = led_decrement literals defining most room p rest is
+led_again literals defining most room (Assign [] r) rest is begins stops = absurd is.0
+led_again literals defining most room (Assign (p ∷ ps) r) rest is begins stops = led_assign literals defining most room p ps r rest is.0 is.1 stops
+led_again literals defining most room (Define [] r) rest is begins stops = absurd is.1
+led_again literals defining most room (Define (n ∷ ns) r) rest is begins stops = led_define literals defining most room n ns r rest is.0 is.1 is.2 stops
+led_again literals defining most room (Update p o v) rest is begins stops = led_update literals defining most room p o v rest is.0 is.1 is.2 stops
+
+-- neither a receive nor a call comes next
+pub record BeginsOther (ws : List Lexeme) : Type 0 where
+  pub receive : begins_with kinds.Arrow ws ≡ false
+  pub call : begins_call ws ≡ false
+
+begins_place : (p : Place) (ws : List Lexeme) → begins_with kinds.LeftParenthesis ws ≡ false → BeginsOther (place_words p ws)
+unfolding begins_with
+begins_place p ws none = record { receive = refl; call = no_call p.name _ (fields_shut p.fields ws none) }
+
+begins_builtin : (name : List ℕ) (ws : List Lexeme) → is_builtin name ≡ true → BeginsOther (Name name ∷ ws)
+unfolding begins_with begins_call
+begins_builtin name ws is = record { receive = refl; call = rw is refl }
+
+begins_name : (name : List ℕ) (ws : List Lexeme) → begins_with kinds.LeftParenthesis ws ≡ false → BeginsOther (Name name ∷ ws)
+unfolding begins_with
+begins_name name ws none = record { receive = refl; call = no_call name ws none }
+
+pub led_begins : (literals defining : Bool) (s : Simple) (rest : List Lexeme) → IsSimple literals defining s → is_led s ≡ true → BeginsOther (simple_words s rest)
+unfolding begins_with
+led_begins literals defining (CallAlone f all) rest is led' = absurd cc
+led_begins literals defining (Close c) rest is led' = begins_builtin _ _ refl
+led_begins literals defining (Print true ps trailing) rest is led' = begins_builtin _ _ refl
+led_begins literals defining (Print false ps trailing) rest is led' = begins_builtin _ _ refl
+led_begins literals defining (ReceiveAlone c) rest is led' = absurd cc
+led_begins literals defining (Send c v) rest is led' = absurd cc
+led_begins literals defining (Increment p) rest is led' = begins_place p (Mark kinds.Increment ∷ rest) refl
+led_begins literals defining (Decrement p) rest is led' = begins_place p (Mark kinds.Decrement ∷ rest) refl
+led_begins literals defining (Assign [] r) rest is led' = absurd is.0
+led_begins literals defining (Assign (p ∷ []) r) rest is led' = begins_place p _ refl
+led_begins literals defining (Assign (p ∷ q ∷ ps) r) rest is led' = begins_place p _ refl
+led_begins literals defining (Define [] r) rest is led' = absurd is.1
+led_begins literals defining (Define (n ∷ []) r) rest is led' = begins_name n _ refl
+led_begins literals defining (Define (n ∷ m ∷ ns) r) rest is led' = begins_name n _ refl
+led_begins literals defining (Update p o v) rest is led' = begins_place p (Mark (update_kind o) ∷ before v rest) (shut_update o (before v rest))
+
+-- what begins with neither is read by what it begins with
+pub simple_other : (literals defining : Bool) (most room : ℕ) (ws : List Lexeme) → BeginsOther ws → simple literals defining most room ws ≡ (led literals defining most room ws >>= led_or_sent literals most room)
+unfolding simple
+simple_other literals defining most room ws other = rw (other.receive, other.call) refl
+
+found_again : (literals defining : Bool) (most room : ℕ) (s : Simple) (rest : List Lexeme) → IsSimple literals defining s → is_led s ≡ true → Stops literals rest → SimpleOutcome most room (simple literals defining most room (simple_words s rest)) s rest
+found_again literals defining most room s rest is begins stops =
+    read_as (simple_other literals defining most room (simple_words s rest) (led_begins literals defining s rest is begins))
+    (then_again _ (led_again literals defining most room s rest is begins stops) (λ high. high) (λ listing. omega arith) (λ low few. Found low few refl))
+
+receive_again : (literals defining : Bool) (most room : ℕ) (c : Expression) (rest : List Lexeme) → IsUnary literals c → Stops literals rest → SimpleOutcome most room (simple literals defining most room (simple_words (ReceiveAlone c) rest)) (ReceiveAlone c) rest
+unfolding simple begins_with
+receive_again literals defining most room c rest is stops =
+    made_again ReceiveAlone (received_again literals most room c rest is (ends_at literals 6 rest stops.ends)) (λ high. high) (λ low. low) (λ listing. refl)
+
+no_period : (kind : TokenKind) (rest : List Lexeme) (b : Bool) → is_kind kind kinds.Period ≡ b → step_at 0 (Mark kind ∷ rest) ≡ None → b ≡ false
+unfolding step_at
+no_period kind rest true is none = let bad = rw (kind_is kind kinds.Period is) at none in absurd cc
+no_period kind rest false is none = refl
+
+-- no selection goes on where nothing does
+no_more : (literals : Bool) (rest : List Lexeme) → EndsExpression literals rest → begins_with kinds.Period rest ≡ false
+unfolding begins_with step_at
+no_more literals [] ends = refl
+no_more literals (Literal value ∷ rest) ends = refl
+no_more literals (Name name ∷ rest) ends = refl
+no_more literals (Text bytes ∷ rest) ends = refl
+no_more literals (Mark kind ∷ rest) ends = no_period kind rest (is_kind kind kinds.Period) refl ends.none
+
+call_again : (literals defining : Bool) (most room : ℕ) (f : List ℕ) (all : Arguments) (rest : List Lexeme) → IsSimple literals defining (CallAlone f all) → Stops literals rest
+    → SimpleOutcome most room (simple literals defining most room (simple_words (CallAlone f all) rest)) (CallAlone f all) rest
+unfolding simple begins_with begins_call called
+call_again literals defining most room f all rest is stops =
+    rw (is.0, plain_name_again f (arguments_words all rest) is.0)
+    (then_again _ (arguments_again literals most room all rest is.1) (λ high. high) (λ listing. omega arith) (λ low few.
+    rw (no_more literals rest stops.ends, stops.arrow) (Found low few refl)))
 
 -- a channel is no other statement
 pub led_channel : (literals defining : Bool) (most room : ℕ) (c : Expression) (ws : List Lexeme) → IsPrimary literals c → led literals defining most room (before c (Mark kinds.Arrow ∷ ws)) ≡ Ok (None, before c (Mark kinds.Arrow ∷ ws))
-unfolding form_of begins_with
+unfolding form_of
 led_channel literals defining most room c ws is =
-    led_none literals defining most room (before c (Mark kinds.Arrow ∷ ws)) (no_operation literals c (Mark kinds.Arrow ∷ ws) is.0 refl) (no_form c (Mark kinds.Arrow ∷ ws) refl)
+    led_none literals defining most room (before c (Mark kinds.Arrow ∷ ws)) (begins_again literals c (Mark kinds.Arrow ∷ ws) is.0) (no_form c (Mark kinds.Arrow ∷ ws) refl)
 
-pub found_again : (literals defining : Bool) (most room : ℕ) (s : Simple) (rest : List Lexeme) → LedOutcome most room (led literals defining most room (simple_words s rest)) s rest → SimpleOutcome most room (simple literals defining most room (simple_words s rest)) s rest
-unfolding simple
-found_again literals defining most room s rest again = then_again _ again (λ high. high) (λ listing. omega arith) (λ low few. Found low few refl)
+-- the channel of a send, by its first operand
+pub channel_begun : (literals : Bool) (c : Expression) (ws : List Lexeme) → IsPrimary literals c → Begun literals c (Mark kinds.Arrow ∷ ws)
+channel_begun literals c ws is =
+    let ends = arrow_ends literals ws in
+    begun literals c (Mark kinds.Arrow ∷ ws) is.0 (none_above 0 (suc (outer_precedence c)) (Mark kinds.Arrow ∷ ws) (omega arith) ends.none) ends.shut
+
+-- what begins with a call is read as that
+pub simple_called : (literals defining : Bool) (most room : ℕ) (f : List ℕ) (all : Arguments) (ws : List Lexeme) → IsName f → simple literals defining most room (Name f ∷ arguments_words all ws) ≡ called literals most room (Name f ∷ arguments_words all ws)
+unfolding simple begins_with begins_call
+simple_called literals defining most room f all ws plain = rw plain refl
+
+send_begun : (literals defining : Bool) (most room : ℕ) (c v : Expression) (rest : List Lexeme) → IsSimple literals defining (Send c v) → Stops literals rest → (b : Begun literals c (Mark kinds.Arrow ∷ before v rest)) → Starts literals b.first b.tail
+    → SimpleOutcome most room (simple literals defining most room (simple_words (Send c v) rest)) (Send c v) rest
+send_begun literals defining most room c v rest is stops b (WithCall function all first plain are words) =
+    read_as (ap (simple literals defining most room) (b.parts ∙ words) ∙ simple_called literals defining most room function all b.tail plain)
+    (sends_by_call literals most room c v rest b function all first plain are is.0 (ends_at literals 7 (Mark kinds.Arrow ∷ before v rest) (arrow_ends literals (before v rest))) is.1 stops.ends)
+send_begun literals defining most room c v rest is stops b (WithReceive channel first) = absurd (omega (arith, ap outer_precedence first, b.strong, is.0.1))
+send_begun literals defining most room c v rest is stops b (WithNeither receive call) =
+    let words = before c (Mark kinds.Arrow ∷ before v rest) in
+    let other : BeginsOther words = record { receive = ap (begins_with kinds.Arrow) b.parts ∙ receive; call = ap begins_call b.parts ∙ call } in
+    read_as (simple_other literals defining most room words other ∙ ap (λ (r : Reading (Option Simple)). r >>= led_or_sent literals most room) (led_channel literals defining most room c (before v rest) is.0))
+    (sent_again Send literals most room c v rest is.0 is.1 stops.ends)
 
 send_again : (literals defining : Bool) (most room : ℕ) (c v : Expression) (rest : List Lexeme) → IsSimple literals defining (Send c v) → Stops literals rest → SimpleOutcome most room (simple literals defining most room (simple_words (Send c v) rest)) (Send c v) rest
-unfolding simple
 send_again literals defining most room c v rest is stops =
-    rw (led_channel literals defining most room c (before v rest) is.0) (sent_again Send literals most room c v rest is.0 is.1 stops.ends)
+    let b = channel_begun literals c (before v rest) is.0 in
+    send_begun literals defining most room c v rest is stops b (starts literals b.first b.tail b.is_first b.grouped b.is_shut)
 
 -- what is spelt is read, or is too high, or has too long a list
 pub simple_again : (literals defining : Bool) (most room : ℕ) (s : Simple) (rest : List Lexeme) → IsSimple literals defining s → Stops literals rest
     → SimpleOutcome most room (simple literals defining most room (simple_words s rest)) s rest
 simple_again literals defining most room (Send c v) rest is stops = send_again literals defining most room c v rest is stops
-simple_again literals defining most room (CallAlone f all) rest is stops = found_again literals defining most room _ rest (led_again literals defining most room (CallAlone f all) rest is refl stops)
-simple_again literals defining most room (Close c) rest is stops = found_again literals defining most room _ rest (led_again literals defining most room (Close c) rest is refl stops)
-simple_again literals defining most room (Print line ps trailing) rest is stops = found_again literals defining most room _ rest (led_again literals defining most room (Print line ps trailing) rest is refl stops)
-simple_again literals defining most room (ReceiveAlone c) rest is stops = found_again literals defining most room _ rest (led_again literals defining most room (ReceiveAlone c) rest is refl stops)
-simple_again literals defining most room (Increment p) rest is stops = found_again literals defining most room _ rest (led_again literals defining most room (Increment p) rest is refl stops)
-simple_again literals defining most room (Decrement p) rest is stops = found_again literals defining most room _ rest (led_again literals defining most room (Decrement p) rest is refl stops)
-simple_again literals defining most room (Assign ps r) rest is stops = found_again literals defining most room _ rest (led_again literals defining most room (Assign ps r) rest is refl stops)
-simple_again literals defining most room (Define ns r) rest is stops = found_again literals defining most room _ rest (led_again literals defining most room (Define ns r) rest is refl stops)
-simple_again literals defining most room (Update p o v) rest is stops = found_again literals defining most room _ rest (led_again literals defining most room (Update p o v) rest is refl stops)
+simple_again literals defining most room (CallAlone f all) rest is stops = call_again literals defining most room f all rest is stops
+simple_again literals defining most room (Close c) rest is stops = found_again literals defining most room (Close c) rest is refl stops
+simple_again literals defining most room (Print line ps trailing) rest is stops = found_again literals defining most room (Print line ps trailing) rest is refl stops
+simple_again literals defining most room (ReceiveAlone c) rest is stops = receive_again literals defining most room c rest is stops
+simple_again literals defining most room (Increment p) rest is stops = found_again literals defining most room (Increment p) rest is refl stops
+simple_again literals defining most room (Decrement p) rest is stops = found_again literals defining most room (Decrement p) rest is refl stops
+simple_again literals defining most room (Assign ps r) rest is stops = found_again literals defining most room (Assign ps r) rest is refl stops
+simple_again literals defining most room (Define ns r) rest is stops = found_again literals defining most room (Define ns r) rest is refl stops
+simple_again literals defining most room (Update p o v) rest is stops = found_again literals defining most room (Update p o v) rest is refl stops
 
 -- ---- what is read is spelt so
 
@@ -371,9 +457,9 @@ print_sound line literals defining most room ws s rest e =
       few = p.few;
     })
 
-close_sound : (literals defining : Bool) (most room : ℕ) (ws : List Lexeme) (s : Simple) (rest : List Lexeme) → as_one Close (argument literals most room ws) ≡ gave s rest → SimpleSound literals defining most room (Name (codes "close") ∷ ws) s rest
+close_sound : (literals defining : Bool) (most room : ℕ) (ws : List Lexeme) (s : Simple) (rest : List Lexeme) → as_one Close (argument (expression literals most room) ws) ≡ gave s rest → SimpleSound literals defining most room (Name (codes "close") ∷ ws) s rest
 close_sound literals defining most room ws s rest e =
-    let a = made_is Close (argument literals most room ws) s rest e in
+    let a = made_is Close (argument (expression literals most room) ws) s rest e in
     let v = argument_sound literals most room ws a.0 rest a.1 in
     subst (λ (x : Simple). SimpleSound literals defining most room (Name (codes "close") ∷ ws) x rest) a.2
     (record { parts = ap (λ (x : List Lexeme). Name (codes "close") ∷ x) v.parts; is = v.is; low = v.low; few = v.few })
@@ -381,13 +467,13 @@ close_sound literals defining most room ws s rest e =
 builtin_call_sound : (literals defining : Bool) (most room : ℕ) (name : List ℕ) (ws : List Lexeme) (s : Simple) (rest : List Lexeme) → builtin_call literals most room name ws ≡ gave s rest → SimpleSound literals defining most room (Name name ∷ ws) s rest
 unfolding builtin_call
 builtin_call_sound literals defining most room name ws s rest e =
-    elim (either (bytes_eq name (codes "println")) (print true literals most room ws) (cond (bytes_eq name (codes "print")) (print false literals most room ws) (cond (bytes_eq name (codes "close")) (needing 1 room (as_one Close (argument literals most room ws))) (Err Syntax))) (s, rest) e) [
+    elim (either (bytes_eq name (codes "println")) (print true literals most room ws) (cond (bytes_eq name (codes "print")) (print false literals most room ws) (cond (bytes_eq name (codes "close")) (needing 1 room (as_one Close (argument (expression literals most room) ws))) (Err Syntax))) (s, rest) e) [
       | inl p ↦ subst (λ (x : List ℕ). SimpleSound literals defining most room (Name x ∷ ws) s rest) (sym (bytes_are name (codes "println") p.0)) (print_sound true literals defining most room ws s rest p.1)
-      | inr other ↦ elim (either (bytes_eq name (codes "print")) (print false literals most room ws) (cond (bytes_eq name (codes "close")) (needing 1 room (as_one Close (argument literals most room ws))) (Err Syntax)) (s, rest) other.1) [
+      | inr other ↦ elim (either (bytes_eq name (codes "print")) (print false literals most room ws) (cond (bytes_eq name (codes "close")) (needing 1 room (as_one Close (argument (expression literals most room) ws))) (Err Syntax)) (s, rest) other.1) [
         | inl p ↦ subst (λ (x : List ℕ). SimpleSound literals defining most room (Name x ∷ ws) s rest) (sym (bytes_are name (codes "print") p.0)) (print_sound false literals defining most room ws s rest p.1)
         | inr neither ↦
-            let w = when_ok (bytes_eq name (codes "close")) Syntax (needing 1 room (as_one Close (argument literals most room ws))) (s, rest) neither.1 in
-            subst (λ (x : List ℕ). SimpleSound literals defining most room (Name x ∷ ws) s rest) (sym (bytes_are name (codes "close") w.0)) (close_sound literals defining most room ws s rest (needing_ok 1 room (as_one Close (argument literals most room ws)) (s, rest) w.1))
+            let w = when_ok (bytes_eq name (codes "close")) Syntax (needing 1 room (as_one Close (argument (expression literals most room) ws))) (s, rest) neither.1 in
+            subst (λ (x : List ℕ). SimpleSound literals defining most room (Name x ∷ ws) s rest) (sym (bytes_are name (codes "close") w.0)) (close_sound literals defining most room ws s rest (needing_ok 1 room (as_one Close (argument (expression literals most room) ws)) (s, rest) w.1))
       ]
     ]
 
@@ -395,7 +481,7 @@ assigned_sound : (literals defining : Bool) (most room : ℕ) (ws : List Lexeme)
 unfolding assigned
 assigned_sound literals defining most room ws s rest e =
     let a = bind_ok (places most ws) (λ all. behind_mark kinds.Assign (right literals most room) all.1 >>= λ value. gave (Assign all.0.0 value.0) value.1) (s, rest) e in
-    let c = made_is (λ (r : Right). Assign a.0.0.0 r) (behind_mark kinds.Assign (right literals most room) a.0.1) s rest a.2 in
+    let c = made_is (λ (r : List Expression). Assign a.0.0.0 r) (behind_mark kinds.Assign (right literals most room) a.0.1) s rest a.2 in
     let b = bind_ok (expect kinds.Assign a.0.1) (right literals most room) (c.0, rest) c.1 in
     let p = places_sound most ws a.0 a.1 in
     let r = right_sound literals most room b.0 c.0 rest b.2 in
@@ -410,7 +496,7 @@ defined_sound : (literals : Bool) (most room : ℕ) (ws : List Lexeme) (s : Simp
 unfolding defined
 defined_sound literals most room ws s rest e =
     let a = bind_ok (names kinds.Comma most ws) (λ all. behind_mark kinds.Define (right literals most room) all.1 >>= λ value. gave (Define all.0.0 value.0) value.1) (s, rest) e in
-    let c = made_is (λ (r : Right). Define a.0.0.0 r) (behind_mark kinds.Define (right literals most room) a.0.1) s rest a.2 in
+    let c = made_is (λ (r : List Expression). Define a.0.0.0 r) (behind_mark kinds.Define (right literals most room) a.0.1) s rest a.2 in
     let b = bind_ok (expect kinds.Define a.0.1) (right literals most room) (c.0, rest) c.1 in
     let n = names_sound kinds.Comma most ws a.0 a.1 in
     let r = right_sound literals most room b.0 c.0 rest b.2 in
@@ -530,37 +616,28 @@ formed_sound literals defining most room forms.List ws found rest strong e =
 formed_sound literals defining most room forms.Other ws found rest strong e =
     subst (λ (x : Option Simple × List Lexeme). LedSound literals defining most room ws x.0 x.1) (ok_is (None, ws) (found, rest) e) refl
 
-receive_sound : (literals defining : Bool) (most room : ℕ) (ws : List Lexeme) (found : Option Simple) (rest : List Lexeme) → as_one (λ (channel : Expression). Some (ReceiveAlone channel)) (received literals most room ws) ≡ gave found rest → LedSound literals defining most room (Mark kinds.Arrow ∷ ws) found rest
-receive_sound literals defining most room ws found rest e =
-    let a = made_is (λ (channel : Expression). Some (ReceiveAlone channel)) (received literals most room ws) found rest e in
-    let p = received_sound literals most room ws a.0 rest a.1 in
-    subst (λ (x : Option Simple). LedSound literals defining most room (Mark kinds.Arrow ∷ ws) x rest) a.2
-    (record { parts = ap (λ (x : List Lexeme). Mark kinds.Arrow ∷ x) p.parts; is = p.is; low = p.low; few = p.few })
+makes_or_sound : (literals defining : Bool) (most room : ℕ) (name : List ℕ) (ws : List Lexeme) (found : Option Simple) (rest : List Lexeme)
+    → cond (is_builtin name) (as_one (λ (s : Simple). Some s) (builtin_call literals most room name ws)) (formed literals defining most room (form_of true (Name name ∷ ws)) (Name name ∷ ws)) ≡ gave found rest
+    → LedSound literals defining most room (Name name ∷ ws) found rest
+makes_or_sound literals defining most room name ws found rest e =
+    elim (either (is_builtin name) (as_one (λ (s : Simple). Some s) (builtin_call literals most room name ws)) (formed literals defining most room (form_of true (Name name ∷ ws)) (Name name ∷ ws)) (found, rest) e) [
+      | inl b ↦ some_sound literals defining most room (Name name ∷ ws) (builtin_call literals most room name ws) (builtin_call_sound literals defining most room name ws) found rest b.1
+      | inr f ↦ formed_sound literals defining most room (form_of true (Name name ∷ ws)) (Name name ∷ ws) found rest (form_strong true (Name name ∷ ws)) f.1
+    ]
 
-call_sound : (literals defining : Bool) (most room : ℕ) (name : List ℕ) (ws : List Lexeme) (found : Option Simple) (rest : List Lexeme) → IsName name → as_one (λ (all : Arguments). Some (CallAlone name all)) (arguments literals most room ws) ≡ gave found rest → LedSound literals defining most room (Name name ∷ ws) found rest
-call_sound literals defining most room name ws found rest plain e =
-    let a = made_is (λ (all : Arguments). Some (CallAlone name all)) (arguments literals most room ws) found rest e in
-    let p = arguments_sound literals most room ws a.0 rest a.1 in
-    subst (λ (x : Option Simple). LedSound literals defining most room (Name name ∷ ws) x rest) a.2
-    (record { parts = ap (λ (x : List Lexeme). Name name ∷ x) p.parts; is = (plain, p.is); low = p.low; few = p.few })
+led_nothing : (literals defining : Bool) (most room : ℕ) (ws : List Lexeme) (found : Option Simple) (rest : List Lexeme) → gave None ws ≡ gave found rest → LedSound literals defining most room ws found rest
+led_nothing literals defining most room ws found rest e = subst (λ (x : Option Simple × List Lexeme). LedSound literals defining most room ws x.0 x.1) (ok_is (None, ws) (found, rest) e) refl
 
 pub led_sound : (literals defining : Bool) (most room : ℕ) (ws : List Lexeme) (found : Option Simple) (rest : List Lexeme) → led literals defining most room ws ≡ gave found rest → LedSound literals defining most room ws found rest
 unfolding led
-led_sound literals defining most room [] found rest e = subst (λ (x : Option Simple × List Lexeme). LedSound literals defining most room [] x.0 x.1) (ok_is (None, []) (found, rest) e) refl
-led_sound literals defining most room (Literal value ∷ ws) found rest e = subst (λ (x : Option Simple × List Lexeme). LedSound literals defining most room (Literal value ∷ ws) x.0 x.1) (ok_is (None, Literal value ∷ ws) (found, rest) e) refl
-led_sound literals defining most room (Text bytes ∷ ws) found rest e = subst (λ (x : Option Simple × List Lexeme). LedSound literals defining most room (Text bytes ∷ ws) x.0 x.1) (ok_is (None, Text bytes ∷ ws) (found, rest) e) refl
-led_sound literals defining most room (Mark kind ∷ ws) found rest e =
-    elim (either (is_kind kind kinds.Arrow) (as_one (λ (channel : Expression). Some (ReceiveAlone channel)) (received literals most room ws)) (gave None (Mark kind ∷ ws)) (found, rest) e) [
-      | inl r ↦ subst (λ (x : TokenKind). LedSound literals defining most room (Mark x ∷ ws) found rest) (sym (kind_is kind kinds.Arrow r.0)) (receive_sound literals defining most room ws found rest r.1)
-      | inr other ↦ subst (λ (x : Option Simple × List Lexeme). LedSound literals defining most room (Mark kind ∷ ws) x.0 x.1) (ok_is (None, Mark kind ∷ ws) (found, rest) other.1) refl
-    ]
+led_sound literals defining most room [] found rest e = led_nothing literals defining most room [] found rest e
+led_sound literals defining most room (Literal value ∷ ws) found rest e = led_nothing literals defining most room (Literal value ∷ ws) found rest e
+led_sound literals defining most room (Text bytes ∷ ws) found rest e = led_nothing literals defining most room (Text bytes ∷ ws) found rest e
+led_sound literals defining most room (Mark kind ∷ ws) found rest e = led_nothing literals defining most room (Mark kind ∷ ws) found rest e
 led_sound literals defining most room (Name name ∷ ws) found rest e =
-    elim (either (is_builtin name) (as_one (λ (s : Simple). Some s) (builtin_call literals most room name ws)) (cond (begins_with kinds.LeftParenthesis ws) (as_one (λ (all : Arguments). Some (CallAlone name all)) (arguments literals most room ws)) (formed literals defining most room (form_of true (Name name ∷ ws)) (Name name ∷ ws))) (found, rest) e) [
-      | inl b ↦ some_sound literals defining most room (Name name ∷ ws) (builtin_call literals most room name ws) (builtin_call_sound literals defining most room name ws) found rest b.1
-      | inr other ↦ elim (either (begins_with kinds.LeftParenthesis ws) (as_one (λ (all : Arguments). Some (CallAlone name all)) (arguments literals most room ws)) (formed literals defining most room (form_of true (Name name ∷ ws)) (Name name ∷ ws)) (found, rest) other.1) [
-        | inl c ↦ call_sound literals defining most room name ws found rest other.0 c.1
-        | inr f ↦ formed_sound literals defining most room (form_of true (Name name ∷ ws)) (Name name ∷ ws) found rest (form_strong true (Name name ∷ ws)) f.1
-      ]
+    elim (either (makes_value name) (gave None (Name name ∷ ws)) (cond (is_builtin name) (as_one (λ (s : Simple). Some s) (builtin_call literals most room name ws)) (formed literals defining most room (form_of true (Name name ∷ ws)) (Name name ∷ ws))) (found, rest) e) [
+      | inl m ↦ led_nothing literals defining most room (Name name ∷ ws) found rest m.1
+      | inr other ↦ makes_or_sound literals defining most room name ws found rest other.1
     ]
 
 pub send_sound : (literals defining : Bool) (most room : ℕ) (ws : List Lexeme) (s : Simple) (rest : List Lexeme) → sent Send literals most room ws ≡ gave s rest → SimpleSound literals defining most room ws s rest
@@ -574,9 +651,23 @@ led_or_sent_sound literals defining most room ws None after same s rest e =
 led_or_sent_sound literals defining most room ws (Some x) after sound s rest e =
     subst (λ (y : Simple × List Lexeme). SimpleSound literals defining most room ws y.0 y.1) (ok_is (x, after) (s, rest) e) sound
 
+receive_sound : (literals defining : Bool) (most room : ℕ) (ws : List Lexeme) (s : Simple) (rest : List Lexeme) → as_one ReceiveAlone (received literals most room ws) ≡ gave s rest → SimpleSound literals defining most room ws s rest
+receive_sound literals defining most room ws s rest e =
+    let a = made_is ReceiveAlone (received literals most room ws) s rest e in
+    let r = received_sound literals most room ws a.0 rest a.1 in
+    subst (λ (x : Simple). SimpleSound literals defining most room ws x rest) a.2 (record { parts = r.parts; is = r.is; low = r.low; few = r.few })
+
 -- what is read is spelt so, and is within the limits
 pub simple_sound : (literals defining : Bool) (most room : ℕ) (ws : List Lexeme) (s : Simple) (rest : List Lexeme) → simple literals defining most room ws ≡ gave s rest → SimpleSound literals defining most room ws s rest
 unfolding simple
 simple_sound literals defining most room ws s rest e =
-    let a = bind_ok (led literals defining most room ws) (led_or_sent literals most room) (s, rest) e in
-    led_or_sent_sound literals defining most room ws a.0.0 a.0.1 (led_sound literals defining most room ws a.0.0 a.0.1 a.1) s rest a.2
+    let others = led literals defining most room ws >>= led_or_sent literals most room in
+    elim (either (begins_with kinds.Arrow ws) (as_one ReceiveAlone (received literals most room ws)) (cond (begins_call ws) (called literals most room ws) others) (s, rest) e) [
+      | inl r ↦ receive_sound literals defining most room ws s rest r.1
+      | inr other ↦ elim (either (begins_call ws) (called literals most room ws) others (s, rest) other.1) [
+        | inl c ↦ called_sound literals defining most room ws s rest c.1
+        | inr o ↦
+            let a = bind_ok (led literals defining most room ws) (led_or_sent literals most room) (s, rest) o.1 in
+            led_or_sent_sound literals defining most room ws a.0.0 a.0.1 (led_sound literals defining most room ws a.0.0 a.0.1 a.1) s rest a.2
+      ]
+    ]

@@ -3,14 +3,12 @@ use Rattle.std.proofs.Common.{ℕ, ◌+◌, ◌<◌, ◌≤◌, List, [], ◌∷
 use Rattle.std.proofs.lemmas.List.Sums.{sum_by-cons}
 use Rattle.scanner.specs.declared.kind.TokenKind.{TokenKind}
 use Rattle.scanner.specs.declared.kind.TokenKind.TheVariants as kinds
-use Rattle.syntax.specs.Tree.{Expression, Arguments, Operation, Call, Receive, Make, Length, Capacity, Right, RightOperation, Values, Place, Part, Value, Text as TextPart, Simple, CallAlone, Close, Print, ReceiveAlone, Send, Increment, Decrement, Assign, Define, Update}
-use Rattle.syntax.specs.Measures.{expression_size, arguments_size, operation_size, right_size, part_size, simple_size, if_any}
+use Rattle.syntax.specs.Tree.{Expression, Arguments, Place, Part, Value, Text as TextPart, Simple, CallAlone, Close, Print, ReceiveAlone, Send, Increment, Decrement, Assign, Define, Update}
+use Rattle.syntax.specs.Measures.{expression_size, arguments_size, part_size, simple_size}
 use Rattle.parser_base.specs.Lexemes.{Lexeme, Mark}
 use Rattle.parser_base.specs.Spelling.{behind, separated, joined, closing, before, expression_words}
-use Rattle.parser_base.specs.TypeReading.{type_words}
 use Rattle.parser_base.proofs.Sizes.{expression_size-le}
-use Rattle.parser_base.proofs.TypeLaws.{type_size-le}
-use Rattle.parser_simple.specs.Spelling.{name_words, place_words, arguments_words, size_words, operation_words, right_words, part_words, update_kind, simple_words}
+use Rattle.parser_simple.specs.Spelling.{name_words, place_words, arguments_words, right_words, part_words, update_kind, simple_words}
 
 -- ---- values and lists
 
@@ -41,21 +39,8 @@ arguments_grow all rest =
 
 -- ---- right sides
 
-size_grows : (s : Option Expression) (rest : List Lexeme) → if_any expression_size s + length rest ≤ length (size_words s rest)
-size_grows None rest = omega arith
-size_grows (Some s) rest = omega (arith, value_size s rest)
-
-pub operation_grows : (o : Operation) (rest : List Lexeme) → operation_size o + length rest ≤ length (operation_words o rest)
-operation_grows (Call f all) rest = omega (arith, arguments_grow all rest)
-operation_grows (Receive c) rest = omega (arith, value_size c rest)
-operation_grows (Make t s) rest =
-    omega (arith, type_size-le t, size_grows s (Mark kinds.RightParenthesis ∷ rest), length-append (type_words t) (size_words s (Mark kinds.RightParenthesis ∷ rest)))
-operation_grows (Length c) rest = omega (arith, value_size c (Mark kinds.RightParenthesis ∷ rest))
-operation_grows (Capacity c) rest = omega (arith, value_size c (Mark kinds.RightParenthesis ∷ rest))
-
-pub right_grows : (r : Right) (rest : List Lexeme) → right_size r + length rest ≤ length (right_words r rest)
-right_grows (RightOperation o) rest = operation_grows o rest
-right_grows (Values vs) rest = joined_size expression_size before kinds.Comma vs rest value_size
+pub right_grows : (vs : List Expression) (rest : List Lexeme) → sum_by expression_size vs + length rest ≤ length (right_words vs rest)
+right_grows vs rest = joined_size expression_size before kinds.Comma vs rest value_size
 
 -- ---- simple statements
 

@@ -5,25 +5,16 @@ use Rattle.scanner.specs.declared.kind.TokenKind.{TokenKind}
 use Rattle.scanner.specs.declared.kind.TokenKind.TheVariants as kinds
 use Rattle.syntax.specs.declared.node.BinaryOperator.{BinaryOperator}
 use Rattle.syntax.specs.declared.node.BinaryOperator.TheVariants as binaries
-use Rattle.syntax.specs.Tree.{Expression, Arguments, Operation, Call, Receive, Make, Length, Capacity, Right, RightOperation, Values, Place, Part, Value, Text as TextPart, Simple, CallAlone, Close, Print, ReceiveAlone, Send, Increment, Decrement, Assign, Define, Update}
-use Rattle.syntax.specs.Measures.{Entries}
+use Rattle.syntax.specs.Tree.{Expression, Call, expressions, Arguments, Place, Part, Value, Text as TextPart, Simple, CallAlone, Close, Print, ReceiveAlone, Send, Increment, Decrement, Assign, Define, Update}
+use Rattle.syntax.specs.Measures.{Entries, expression_height}
 use Rattle.parser_base.specs.declared.list.Next.{Next}
 use Rattle.parser_base.specs.declared.list.Next.TheVariants.{More, End}
 use Rattle.parser_base.specs.Lexemes.{Lexeme, Literal, Name, Text, Mark}
-use Rattle.parser_base.specs.Spelling.{is_builtin}
-use Rattle.parser_base.specs.Reading.{Refusal, Syntax, TooDeep, TooMany, Reading, ◌>>=◌, is_kind, expect, plain_name, begins, listed, entry_next, values, binary_of, expression}
-use Rattle.parser_base.specs.TypeReading.{type_at}
+use Rattle.parser_base.specs.Spelling.{makes_value, is_builtin}
+use Rattle.parser_base.specs.Reading.{Refusal, Syntax, TooDeep, TooMany, Reading, ◌>>=◌, as_one, needing, is_kind, expect, plain_name, begins, listed, entry_next, values, argument, binary_of, expression, resumed}
 use Rattle.parser_simple.specs.declared.form.Form.{Form}
 use Rattle.parser_simple.specs.declared.form.Form.TheVariants as forms
 use Rattle.parser_simple.specs.Spelling.{update_kind}
-
--- what was read, as one of several
-abbrev pub as_one : {A B : Type 0} → (A → B) → Reading A → Reading B
-as_one make read = read >>= λ found. Ok (make found.0, found.1)
-
--- what needs at least so many levels
-abbrev pub needing : {A : Type 0} → (least room : ℕ) → Result A Refusal → Result A Refusal
-needing least room read = if nat_le least room then read else Err TooDeep
 
 -- what stands behind a mark that is wanted here
 abbrev pub behind_mark : {A : Type 0} → TokenKind → (List Lexeme → Reading A) → List Lexeme → Reading A
@@ -118,12 +109,13 @@ abbrev pub is_operator : Option BinaryOperator → Bool
 is_operator None = false
 is_operator (Some operator) = true
 
--- whether a name or a selection goes on as a value with this mark: as the operand of a send, in a condition where `header`
--- holds, or as a composite literal where `literals` does
-abbrev pub goes_on : (header literals : Bool) → TokenKind → Bool
-goes_on header literals kinds.Arrow = true
-goes_on header literals kinds.LeftBrace = header || literals
-goes_on header literals kind = header && is_operator (binary_of kind)
+-- whether a name or, where `alone` doesn't hold, a selection goes on as a value with this mark: as the operand of a send, as
+-- a call, in a condition where `header` holds, or as a composite literal where `literals` does
+abbrev pub goes_on : (header literals alone : Bool) → TokenKind → Bool
+goes_on header literals alone kinds.Arrow = true
+goes_on header literals alone kinds.LeftParenthesis = alone
+goes_on header literals alone kinds.LeftBrace = header || (literals && alone)
+goes_on header literals alone kind = header && is_operator (binary_of kind)
 
 -- why what has so many levels is refused, if they are more than there is room for, by whether it `goes` on as a value
 abbrev pub within : (height room : ℕ) → (goes : Bool) → Result (Unit {0}) Refusal
@@ -139,95 +131,46 @@ unfoldable pub fits : (header literals named : Bool) → (height room : ℕ) →
 fits header literals true height room (Name name ∷ rest) = if is_builtin name then stopped true height room else fits header literals false (height + 1) room rest
 fits header literals true height room words = stopped true height room
 fits header literals false height room (Mark kind ∷ rest) =
-    if is_kind kind kinds.Period then fits header false true height room rest else within height room (goes_on header literals kind)
+    if is_kind kind kinds.Period then fits header literals true height room rest else within height room (goes_on header literals (nat_le height 1) kind)
 fits header literals false height room words = stopped false height room
 
--- ---- right sides
+-- ---- values
 
--- whether an operand of a send or a receive can begin so
+-- whether the operand of a send can begin so
 unfoldable pub begins_primary : List Lexeme → Bool
 begins_primary [] = false
 begins_primary (Literal value ∷ rest) = true
-begins_primary (Name name ∷ rest) = if is_builtin name then false else true
+begins_primary (Name name ∷ rest) = if is_builtin name then makes_value name else true
 begins_primary (Text bytes ∷ rest) = false
 begins_primary (Mark kind ∷ rest) = is_kind kind kinds.LeftParenthesis
 
--- an operand of a send or a receive
+-- the operand of a send
 unfoldable pub primary : Bool → ℕ → ℕ → List Lexeme → Reading Expression
 primary literals most room words = if begins_primary words then expression literals most room 7 words else Err Syntax
 
--- the operand of a receive, behind its arrow
+-- a receive: its arrow, and its operand
 abbrev pub received : Bool → ℕ → ℕ → List Lexeme → Reading Expression
-received literals most room words = needing 1 room (primary literals most room words)
+received literals most room words = behind_mark kinds.Arrow (expression literals most room 6) words
+
+-- these values as arguments
+abbrev pub passed : List Expression → (trailing : Bool) → Arguments
+passed all trailing = record { values = all; trailing = trailing }
 
 -- arguments in parentheses
 unfoldable pub arguments : Bool → ℕ → ℕ → List Lexeme → Reading Arguments
 arguments literals most room words = do
   inside ← expect kinds.LeftParenthesis words
   all ← values (expression literals most room) kinds.RightParenthesis most inside
-  Ok (record { values = all.0.0; trailing = all.0.1 }, all.1)
-
--- one argument in parentheses
-unfoldable pub argument : Bool → ℕ → ℕ → List Lexeme → Reading Expression
-argument literals most room words = do
-  inside ← expect kinds.LeftParenthesis words
-  value ← expression literals most room 0 inside
-  after ← expect kinds.RightParenthesis value.1
-  Ok (value.0, after)
-
--- the size of a channel's buffer behind a comma, if there is one
-unfoldable pub size : Bool → ℕ → ℕ → List Lexeme → Reading (Option Expression)
-size literals most room words =
-    if begins_with kinds.Comma words then as_one (λ value. Some value) (behind_mark kinds.Comma (expression literals most room 0) words)
-    else Ok (None, words)
-
--- the same, and the closing parenthesis
-abbrev pub size_closed : Bool → ℕ → ℕ → List Lexeme → Reading (Option Expression)
-size_closed literals most room words = do
-  buffer ← size literals most room words
-  after ← expect kinds.RightParenthesis buffer.1
-  Ok (buffer.0, after)
-
--- what stands behind `make`
-unfoldable pub make : Bool → ℕ → ℕ → List Lexeme → Reading Operation
-make literals most room words = do
-  inside ← expect kinds.LeftParenthesis words
-  channel ← type_at room inside
-  buffer ← size_closed literals most room channel.1
-  Ok (Make channel.0 buffer.0, buffer.1)
-
--- a built-in function that makes or measures a channel, behind its name
-unfoldable pub builtin_operation : Bool → ℕ → ℕ → List ℕ → List Lexeme → Reading Operation
-builtin_operation literals most room name rest =
-    if bytes_eq name (codes "make") then needing 1 room (make literals most room rest)
-    else (if bytes_eq name (codes "len") then needing 1 room (as_one Length (argument literals most room rest))
-    else (if bytes_eq name (codes "cap") then needing 1 room (as_one Capacity (argument literals most room rest))
-    else Err Syntax))
-
--- whether an operation begins so, where no other value can
-unfoldable pub begins_operation : List Lexeme → Bool
-begins_operation (Mark kind ∷ rest) = is_kind kind kinds.Arrow
-begins_operation (Name name ∷ rest) = if is_builtin name then true else begins_with kinds.LeftParenthesis rest
-begins_operation words = false
-
--- an operation, below which there are at most so many levels
-unfoldable pub operation : Bool → ℕ → ℕ → List Lexeme → Reading Operation
-operation literals most room (Mark kind ∷ rest) = if is_kind kind kinds.Arrow then as_one Receive (received literals most room rest) else Err Syntax
-operation literals most room (Name name ∷ rest) =
-    if is_builtin name then builtin_operation literals most room name rest
-    else as_one (Call name) (arguments literals most room rest)
-operation literals most room words = Err Syntax
+  Ok (passed all.0.0 all.0.1, all.1)
 
 -- values with a comma between each two
 abbrev pub value_list : Bool → ℕ → ℕ → List Lexeme → Reading (List Expression × Bool)
 value_list literals most room words = listed (expression literals most room 0) (separator_next begins kinds.Comma) (TooMany Entries) most words
 
 -- the right side of an assignment, of at most so many levels
-unfoldable pub right : Bool → ℕ → ℕ → List Lexeme → Reading Right
+unfoldable pub right : Bool → ℕ → ℕ → List Lexeme → Reading (List Expression)
 right literals most zero words = Err TooDeep
-right literals most (suc room) words =
-    if begins_operation words then as_one RightOperation (operation literals most room words)
-    else (value_list literals most (suc room) words >>= λ all. Ok (Values all.0.0, all.1))
+right literals most (suc room) words = value_list literals most (suc room) words >>= λ all. Ok (all.0.0, all.1)
 
 -- ---- simple statements
 
@@ -260,7 +203,7 @@ unfoldable pub builtin_call : Bool → ℕ → ℕ → List ℕ → List Lexeme 
 builtin_call literals most room name rest =
     if bytes_eq name (codes "println") then print true literals most room rest
     else (if bytes_eq name (codes "print") then print false literals most room rest
-    else (if bytes_eq name (codes "close") then needing 1 room (as_one Close (argument literals most room rest))
+    else (if bytes_eq name (codes "close") then needing 1 room (as_one Close (argument (expression literals most room) rest))
     else Err Syntax))
 
 -- an assignment to places
@@ -308,13 +251,11 @@ formed literals defining most room forms.List words =
     behind_place room words (as_one (λ s. Some s) (if defining && defines true words then defined literals most room words else assigned literals most room words))
 formed literals defining most room forms.Other words = Ok (None, words)
 
--- a simple statement, or None where a value or a send comes next, or nothing that is one
+-- a simple statement that begins with a place or a name of its own, or None where a value comes next, or nothing that is one
 unfoldable pub led : (literals defining : Bool) → ℕ → ℕ → List Lexeme → Reading (Option Simple)
-led literals defining most room (Mark kind ∷ rest) =
-    if is_kind kind kinds.Arrow then as_one (λ channel. Some (ReceiveAlone channel)) (received literals most room rest) else Ok (None, Mark kind ∷ rest)
 led literals defining most room (Name name ∷ rest) =
-    if is_builtin name then as_one (λ s. Some s) (builtin_call literals most room name rest)
-    else (if begins_with kinds.LeftParenthesis rest then as_one (λ all. Some (CallAlone name all)) (arguments literals most room rest)
+    if makes_value name then Ok (None, Name name ∷ rest)
+    else (if is_builtin name then as_one (λ s. Some s) (builtin_call literals most room name rest)
     else formed literals defining most room (form_of true (Name name ∷ rest)) (Name name ∷ rest))
 led literals defining most room words = Ok (None, words)
 
@@ -334,7 +275,38 @@ abbrev pub led_or_sent : Bool → ℕ → ℕ → Option Simple × List Lexeme �
 led_or_sent literals most room (Some simple, rest) = Ok (simple, rest)
 led_or_sent literals most room (None, rest) = sent Send literals most room rest
 
+-- whether a call comes next of a function that is not built in
+unfoldable pub begins_call : List Lexeme → Bool
+begins_call (Name name ∷ rest) = if is_builtin name then false else begins_with kinds.LeftParenthesis rest
+begins_call words = false
+
+-- a call, as an expression
+abbrev pub call_of : List ℕ → Arguments → Expression
+call_of function arguments = Call function (expressions arguments.values) arguments.trailing
+
+-- a send whose channel begins with this operand, which may be a level too high
+unfoldable pub sent_on : Bool → ℕ → ℕ → Expression → List Lexeme → Reading Simple
+sent_on literals most room left words =
+    resumed literals most room 7 left words >>= λ channel.
+    needing (expression_height channel.0) room (as_one (Send channel.0) (behind_mark kinds.Arrow (expression literals most room 0) channel.1))
+
+-- a call alone, or a send whose channel begins with it
+abbrev pub alone_or_sent : Bool → ℕ → ℕ → List ℕ → Arguments × List Lexeme → Reading Simple
+alone_or_sent literals most room function (all, words) =
+    if begins_with kinds.Period words || begins_with kinds.Arrow words then sent_on literals most room (call_of function all) words
+    else Ok (CallAlone function all, words)
+
+-- what begins with a call
+unfoldable pub called : Bool → ℕ → ℕ → List Lexeme → Reading Simple
+called literals most room words = do
+  function ← plain_name words
+  all ← arguments literals most room function.1
+  alone_or_sent literals most room function.0 all
+
 -- a simple statement below which there are at most so many levels, whose lists have at most so many entries. Composite
 -- literals stand only where `literals` holds, and a `:=` where `defining` does.
 unfoldable pub simple : (literals defining : Bool) → ℕ → ℕ → List Lexeme → Reading Simple
-simple literals defining most room words = led literals defining most room words >>= led_or_sent literals most room
+simple literals defining most room words =
+    if begins_with kinds.Arrow words then as_one ReceiveAlone (received literals most room words)
+    else (if begins_call words then called literals most room words
+    else (led literals defining most room words >>= led_or_sent literals most room))

@@ -6,10 +6,9 @@ use Rattle.scanner.specs.declared.kind.TokenKind.{TokenKind}
 use Rattle.scanner.specs.declared.kind.TokenKind.TheVariants as kinds
 use Rattle.syntax.specs.declared.node.BinaryOperator.{BinaryOperator}
 use Rattle.syntax.specs.declared.node.BinaryOperator.TheVariants as binaries
-use Rattle.syntax.specs.Tree.{Expression, Arguments, Operation, Call, Receive, Make, Length, Capacity, Right, RightOperation, Values, Place, Part, Value, Text as TextPart, Simple, CallAlone, Close, Print, ReceiveAlone, Send, Increment, Decrement, Assign, Define, Update}
+use Rattle.syntax.specs.Tree.{Expression, Arguments, Place, Part, Value, Text as TextPart, Simple, CallAlone, Close, Print, ReceiveAlone, Send, Increment, Decrement, Assign, Define, Update}
 use Rattle.parser_base.specs.Lexemes.{Lexeme, Name, Text, Mark}
 use Rattle.parser_base.specs.Spelling.{is_builtin, behind, separated, joined, closing, before, AreAll, AreSome, IsTrailing, outer_precedence, precedence, IsGrouped}
-use Rattle.parser_base.specs.TypeReading.{type_words, IsType}
 
 -- ---- names and places
 
@@ -27,11 +26,15 @@ place_words place rest = Name place.name ∷ separated name_words (behind kinds.
 abbrev pub IsPlace : Place → Type 0
 IsPlace place = IsName place.name × AreAll IsName place.fields
 
--- ---- right sides
+-- ---- values
 
--- an operand of a send or a receive: no operation but selections
+-- the operand of a send: no operation but selections
 abbrev pub IsPrimary : (literals : Bool) → Expression → Type 0
 IsPrimary literals expression = IsGrouped literals expression × (outer_precedence expression ≡ 7)
+
+-- the operand of a receive: no operation on two operands
+abbrev pub IsUnary : (literals : Bool) → Expression → Type 0
+IsUnary literals expression = IsGrouped literals expression × (6 ≤ outer_precedence expression)
 
 abbrev pub arguments_words : Arguments → List Lexeme → List Lexeme
 arguments_words arguments rest =
@@ -40,42 +43,18 @@ arguments_words arguments rest =
 abbrev pub AreArguments : (literals : Bool) → Arguments → Type 0
 AreArguments literals arguments = AreAll (IsGrouped literals) arguments.values × IsTrailing arguments.values arguments.trailing
 
--- the size of a channel's buffer behind a comma, if there is one
-abbrev pub size_words : Option Expression → List Lexeme → List Lexeme
-size_words None rest = rest
-size_words (Some size) rest = Mark kinds.Comma ∷ before size rest
+-- the right side of an assignment: values with a comma between each two
+abbrev pub right_words : List Expression → List Lexeme → List Lexeme
+right_words values rest = joined before (behind kinds.Comma) values rest
 
-abbrev pub IsSize : (literals : Bool) → Option Expression → Type 0
-IsSize literals None = Unit {0}
-IsSize literals (Some size) = IsGrouped literals size
+abbrev pub IsRight : (literals : Bool) → List Expression → Type 0
+IsRight literals values = AreSome (IsGrouped literals) values
+
+-- ---- simple statements
 
 -- a built-in function of this name, with what is passed to it
 abbrev pub builtin_words : List ℕ → List Lexeme → List Lexeme
 builtin_words name rest = Name name ∷ Mark kinds.LeftParenthesis ∷ rest
-
-abbrev pub operation_words : Operation → List Lexeme → List Lexeme
-operation_words (Call function arguments) rest = Name function ∷ arguments_words arguments rest
-operation_words (Receive channel) rest = Mark kinds.Arrow ∷ before channel rest
-operation_words (Make channel size) rest = builtin_words (codes "make") (type_words channel ++ size_words size (Mark kinds.RightParenthesis ∷ rest))
-operation_words (Length channel) rest = builtin_words (codes "len") (before channel (Mark kinds.RightParenthesis ∷ rest))
-operation_words (Capacity channel) rest = builtin_words (codes "cap") (before channel (Mark kinds.RightParenthesis ∷ rest))
-
-abbrev pub IsOperation : (literals : Bool) → Operation → Type 0
-IsOperation literals (Call function arguments) = IsName function × AreArguments literals arguments
-IsOperation literals (Receive channel) = IsPrimary literals channel
-IsOperation literals (Make channel size) = IsType channel × IsSize literals size
-IsOperation literals (Length channel) = IsGrouped literals channel
-IsOperation literals (Capacity channel) = IsGrouped literals channel
-
-abbrev pub right_words : Right → List Lexeme → List Lexeme
-right_words (RightOperation operation) rest = operation_words operation rest
-right_words (Values values) rest = joined before (behind kinds.Comma) values rest
-
-abbrev pub IsRight : (literals : Bool) → Right → Type 0
-IsRight literals (RightOperation operation) = IsOperation literals operation
-IsRight literals (Values values) = AreSome (IsGrouped literals) values
-
--- ---- simple statements
 
 abbrev pub part_words : Part → List Lexeme → List Lexeme
 part_words (Value value) rest = before value rest
@@ -124,7 +103,7 @@ abbrev pub IsSimple : (literals defining : Bool) → Simple → Type 0
 IsSimple literals defining (CallAlone function arguments) = IsName function × AreArguments literals arguments
 IsSimple literals defining (Close channel) = IsGrouped literals channel
 IsSimple literals defining (Print line parts trailing) = AreAll (IsPart literals) parts × IsTrailing parts trailing
-IsSimple literals defining (ReceiveAlone channel) = IsPrimary literals channel
+IsSimple literals defining (ReceiveAlone channel) = IsUnary literals channel
 IsSimple literals defining (Send channel value) = IsPrimary literals channel × IsGrouped literals value
 IsSimple literals defining (Increment place) = IsPlace place
 IsSimple literals defining (Decrement place) = IsPlace place

@@ -4,7 +4,7 @@ ghost use Rattle.std.specs.Prelude.{◌≡◌, true, zero};
 ghost use Rattle.parser_base.specs.Cursor.{ahead};
 ghost use Rattle.parser_base.specs.Reading.{Gives, begins};
 ghost use Rattle.parser_simple.specs.Spelling.{update_kind};
-ghost use Rattle.parser_simple.specs.Reading.{begins_with, begins_name, separator_next, update_of, form_at, form_of, defines, goes_on, within, stopped, fits};
+ghost use Rattle.parser_simple.specs.Reading.{begins_with, begins_call, begins_name, separator_next, update_of, form_at, form_of, defines, goes_on, within, stopped, fits};
 
 use parser_base::cursor::{Cursor, Word, is_builtin};
 use parser_base::expression::begins;
@@ -40,6 +40,18 @@ pub fn begins_with(kind: TokenKind, cursor: Cursor<'_>) -> bool
 {
     match cursor.next() {
         Some((Word::Mark(first), _)) => first == kind,
+        _ => false,
+    }
+}
+
+/// Whether a call comes next of a function that is not built in.
+#[tactic(auto, unfolding(crate::specs::Reading::begins_call))]
+pub fn begins_call(cursor: Cursor<'_>) -> bool
+    ensures { result ≡ begins_call (ahead cursor.entry) }
+{
+    match cursor.next() {
+        Some((Word::Name(name), rest)) => !is_builtin(name)
+            && begins_with(TokenKind::LeftParenthesis, rest),
         _ => false,
     }
 }
@@ -194,20 +206,21 @@ pub fn defines(cursor: Cursor<'_>) -> bool
     false
 }
 
-/// Whether a name or a selection goes on as a value with this mark: as the operand of a send, in a condition where
-/// `header` holds, or as a composite literal where `literals` does.
-fn goes_on(header: bool, literals: bool, kind: TokenKind) -> bool
-    ensures { result ≡ goes_on header literals kind }
+/// Whether a name or, where `alone` doesn't hold, a selection goes on as a value with this mark: as the operand of a send,
+/// as a call, in a condition where `header` holds, or as a composite literal where `literals` does.
+fn goes_on(header: bool, literals: bool, alone: bool, kind: TokenKind) -> bool
+    ensures { result ≡ goes_on header literals alone kind }
 {
     match kind {
         TokenKind::Arrow => true,
-        TokenKind::LeftBrace => header || literals,
+        TokenKind::LeftParenthesis => alone,
+        TokenKind::LeftBrace => header || (literals && alone),
         kind => header && binary_of(kind).is_some(),
     }
 }
 
 /// Refuses what has more levels than there is room for, at what follows it: as too high where it `goes` on as a value.
-fn within(height: usize, room: u32, goes: bool, behind: Cursor<'_>) -> Result<(), ParseFault>
+pub fn within(height: usize, room: u32, goes: bool, behind: Cursor<'_>) -> Result<(), ParseFault>
     ensures { Gives (λ x. x) result (within height room goes) }
 {
     if height <= room as usize {
@@ -231,7 +244,6 @@ fn stopped(named: bool, height: usize, room: u32, behind: Cursor<'_>) -> Result<
 pub fn fits(header: bool, literals: bool, room: u32, cursor: Cursor<'_>) -> Result<(), ParseFault>
     ensures { Gives (λ x. x) result (fits header literals true 0 room (ahead cursor.entry)) }
 {
-    let mut literals = literals;
     let mut named = true;
     let mut height = 0;
     let mut rest = cursor;
@@ -244,9 +256,9 @@ pub fn fits(header: bool, literals: bool, room: u32, cursor: Cursor<'_>) -> Resu
             }
             (false, Some((Word::Mark(kind), after))) => {
                 if kind != TokenKind::Period {
-                    return within(height, room, goes_on(header, literals, kind), rest);
+                    let goes = goes_on(header, literals, height <= 1, kind);
+                    return within(height, room, goes, rest);
                 }
-                literals = false;
                 named = true;
                 rest = after;
             }

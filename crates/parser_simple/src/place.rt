@@ -10,10 +10,10 @@ ghost use Rattle.parser_simple.specs.Reading.{begins_name, separator_next, names
 use crate::form::{begins_with, name_next};
 use parser_base::beside::beside;
 use parser_base::cursor::Cursor;
-use parser_base::expression::name_node;
 use parser_base::fault::ParseFault;
 use parser_base::found::Found;
 use parser_base::list::{List, Next};
+use parser_base::node::name_node;
 use scanner::TokenKind;
 use std::alloc::Global;
 use syntax::limits::MAX_ENTRIES;

@@ -1,30 +1,33 @@
 //! Simple statements.
 
-ghost use Rattle.std.specs.Prelude.{◌≡◌, true, false, Some, map, option_map};
+ghost use Rattle.std.specs.Prelude.{◌≡◌, ◌<◌, ◌^◌, true, false, Some, IfOk, IfErr, map, option_map};
+ghost use Rattle.parser_base.specs.declared.fault.ParseFault.TheVariants as faults;
 ghost use Rattle.syntax.specs.Tree.{Simple, Value, CallAlone, Close, ReceiveAlone, Send, Increment, Decrement};
-ghost use Rattle.syntax.specs.Measures.{Entries};
+ghost use Rattle.syntax.specs.Measures.{Entries, highest, expression_height};
 ghost use Rattle.syntax.specs.View.{expression_of, part_of, simple_of};
 ghost use Rattle.parser_base.specs.Cursor.{ahead};
-ghost use Rattle.parser_base.specs.Reading.{Gives, Reading, TooMany, entry_next, listed, closed};
-ghost use Rattle.parser_simple.specs.Reading.{as_one, begins_part, part, parts, print, received, argument, arguments, builtin_call, assigned, defined, stepped, updated, behind_place, formed, led, send_operand, sent, led_or_sent, simple, defines};
+ghost use Rattle.parser_base.specs.Reading.{Gives, Reading, TooMany, as_one, entry_next, listed, closed, argument, expression};
+ghost use Rattle.parser_simple.specs.Reading.{begins_part, part, parts, print, received, passed, builtin_call, assigned, defined, stepped, updated, behind_place, formed, led, send_operand, sent, led_or_sent, sent_on, alone_or_sent, called, simple, defines};
 
-use crate::form::{Form, begins_with, defines, fits, form_of, update_kind};
+use crate::form::{Form, begins_call, begins_with, defines, fits, form_of, update_kind};
 use crate::place::{names, place, place_before, places};
 use crate::right::{
-    argument, arguments, expression_behind, primary_expression, receive_operand, right_behind,
+    call_operand, expression_behind, measured_arguments, primary_expression, receive_operand,
+    right_behind,
 };
 use go_text::is_word;
 use parser_base::beside::beside;
-use parser_base::cursor::{Cursor, Word, is_builtin};
-use parser_base::expression::{begins, closed, expression, name_node};
+use parser_base::cursor::{Cursor, Word, is_builtin, makes_value};
+use parser_base::expression::{Measured, argument, begins, closed, expression, resumed_expression};
 use parser_base::fault::ParseFault;
 use parser_base::found::Found;
 use parser_base::list::{List, Next};
+use parser_base::node::name_node;
 use parser_base::text::text;
 use scanner::TokenKind;
 use std::alloc::Global;
 use syntax::limits::MAX_ENTRIES;
-use syntax::{BinaryOperator, ExpressionNode, PartNode, SimpleNode};
+use syntax::{ArgumentsNode, BinaryOperator, ExpressionNode, PartNode, SimpleNode};
 
 /// Whether an argument of `print` or `println` can begin here.
 #[tactic(auto, unfolding(crate::specs::Reading::begins_part))]
@@ -150,7 +153,7 @@ fn close_call(
     room: u32,
     cursor: Cursor<'_>,
 ) -> Result<Found<'_, SimpleNode>, ParseFault>
-    ensures { Gives (λ x. (simple_of x.node, ahead x.rest)) result (as_one Close (argument literals MAX_ENTRIES room (ahead cursor.entry))) }
+    ensures { Gives (λ x. (simple_of x.node, ahead x.rest)) result (as_one Close (argument (expression literals MAX_ENTRIES room) (ahead cursor.entry))) }
 {
     let channel = argument(alloc, literals, room, cursor)?;
     Ok(Found {
@@ -186,35 +189,97 @@ fn builtin_call<'a>(
     Err(ParseFault::Syntax(first.place()))
 }
 
-/// A call of a function alone, behind its name.
-fn call_statement<'a>(
+/// A call alone.
+pub fn call_alone<'a>(
+    alloc: Global,
+    name: &[u8],
+    all: List<'a, ExpressionNode>,
+) -> Result<Found<'a, SimpleNode>, ParseFault>
+    ensures ok { IfOk result (λ x. (simple_of x.node ≡ CallAlone name.now (passed (map expression_of all.entry.entries.items) all.entry.trailing)) × (x.rest ≡ all.entry.rest)) }
+    ensures err { IfErr result (λ e. e ≡ faults.Memory) }
+{
+    let rest = all.rest;
+    let arguments = ArgumentsNode {
+        values: all.entries,
+        trailing: all.trailing,
+    };
+    let (passed, name) = beside(arguments, name_node(alloc, name))?;
+    Ok(Found {
+        node: SimpleNode::Call(name, passed),
+        rest,
+    })
+}
+
+/// A send whose channel begins with the operand `left`, which was read before and may be a level too high.
+#[tactic(auto, unfolding(crate::specs::Reading::sent_on))]
+fn send_on<'a>(
+    alloc: Global,
+    literals: bool,
+    room: u32,
+    left: Measured<'a>,
+) -> Result<Found<'a, SimpleNode>, ParseFault>
+    requires { left.height ≡ expression_height (expression_of left.node) }
+    ensures { Gives (λ x. (simple_of x.node, ahead x.rest)) result (sent_on literals MAX_ENTRIES room (expression_of left.entry.node) (ahead left.entry.rest)) }
+{
+    let channel = resumed_expression(alloc, literals, room, 7, left)?;
+    if channel.height > room as usize {
+        return Err(ParseFault::TooDeep(channel.rest.place()));
+    }
+    let (channel, value) = beside(
+        channel.node,
+        expression_behind(alloc, literals, room, TokenKind::Arrow, channel.rest),
+    )?;
+    Ok(Found {
+        node: SimpleNode::Send(channel, value.node),
+        rest: value.rest,
+    })
+}
+
+/// A call alone, or a send whose channel begins with the call, whose highest argument is `levels` high.
+fn alone_or_send<'a>(
     alloc: Global,
     literals: bool,
     room: u32,
     name: &[u8],
-    cursor: Cursor<'a>,
+    all: List<'a, ExpressionNode>,
+    levels: usize,
 ) -> Result<Found<'a, SimpleNode>, ParseFault>
-    ensures { Gives (λ x. (simple_of x.node, ahead x.rest)) result (as_one (CallAlone name.now) (arguments literals MAX_ENTRIES room (ahead cursor.entry))) }
+    requires height { levels ≡ highest expression_height (map expression_of all.entries.items) }
+    requires low { levels < 2 ^ 32 }
+    ensures { Gives (λ x. (simple_of x.node, ahead x.rest)) result (alone_or_sent literals MAX_ENTRIES room name.now (passed (map expression_of all.entry.entries.items) all.entry.trailing, ahead all.entry.rest)) }
 {
-    let found = arguments(alloc, literals, room, cursor)?;
-    let (passed, name) = beside(found.node, name_node(alloc, name))?;
-    Ok(Found {
-        node: SimpleNode::Call(name, passed),
-        rest: found.rest,
-    })
+    if begins_with(TokenKind::Period, all.rest) || begins_with(TokenKind::Arrow, all.rest) {
+        let left = call_operand(alloc, name, all, levels)?;
+        return send_on(alloc, literals, room, left);
+    }
+    call_alone(alloc, name, all)
 }
 
-/// A receive alone, behind its arrow, which stands at `first`.
-fn receive_statement<'a>(
+/// What begins with a call.
+#[tactic(auto, unfolding(crate::specs::Reading::called))]
+fn call_statement(
     alloc: Global,
     literals: bool,
     room: u32,
-    first: Cursor<'a>,
-    cursor: Cursor<'a>,
-) -> Result<Found<'a, SimpleNode>, ParseFault>
+    cursor: Cursor<'_>,
+) -> Result<Found<'_, SimpleNode>, ParseFault>
+    ensures { Gives (λ x. (simple_of x.node, ahead x.rest)) result (called literals MAX_ENTRIES room (ahead cursor.entry)) }
+{
+    let (name, behind) = cursor.plain_name()?;
+    let (all, levels) = measured_arguments(alloc, literals, room, behind)?;
+    alone_or_send(alloc, literals, room, name, all, levels)
+}
+
+/// A receive alone.
+fn receive_statement(
+    alloc: Global,
+    literals: bool,
+    room: u32,
+    cursor: Cursor<'_>,
+) -> Result<Found<'_, SimpleNode>, ParseFault>
     ensures { Gives (λ x. (simple_of x.node, ahead x.rest)) result (as_one ReceiveAlone (received literals MAX_ENTRIES room (ahead cursor.entry))) }
 {
-    let channel = receive_operand(alloc, literals, room, first.place(), cursor)?;
+    let channel = receive_operand(alloc, literals, room, cursor)?;
     Ok(Found {
         node: SimpleNode::Receive(channel.node),
         rest: channel.rest,
@@ -237,8 +302,8 @@ fn assignment(
         right_behind(alloc, literals, room, TokenKind::Assign, all.rest),
     )?;
     Ok(Found {
-        node: SimpleNode::Assign(entries, value.node),
-        rest: value.rest,
+        node: SimpleNode::Assign(entries, value.0),
+        rest: value.1,
     })
 }
 
@@ -258,8 +323,8 @@ fn short_var_declaration(
         right_behind(alloc, literals, room, TokenKind::Define, all.rest),
     )?;
     Ok(Found {
-        node: SimpleNode::Define(entries, value.node),
-        rest: value.rest,
+        node: SimpleNode::Define(entries, value.0),
+        rest: value.1,
     })
 }
 
@@ -362,7 +427,7 @@ fn place_statement(
     }
 }
 
-/// A simple statement, if anything else comes next than a value or a send.
+/// A simple statement that begins with a place or a name of its own, if one comes next.
 #[tactic(auto, unfolding(crate::specs::Reading::led))]
 pub fn statement_unless_value(
     alloc: Global,
@@ -374,15 +439,9 @@ pub fn statement_unless_value(
     ensures { Gives (λ x. (option_map simple_of x.node, ahead x.rest)) result (led literals defining MAX_ENTRIES room (ahead cursor.entry)) }
 {
     match cursor.next() {
-        Some((Word::Mark(TokenKind::Arrow), rest)) => {
-            as_some(receive_statement(alloc, literals, room, cursor, rest))
-        }
-        Some((Word::Name(name), rest)) => {
+        Some((Word::Name(name), rest)) if !makes_value(name) => {
             if is_builtin(name) {
                 return as_some(builtin_call(alloc, literals, room, name, cursor, rest));
-            }
-            if begins_with(TokenKind::LeftParenthesis, rest) {
-                return as_some(call_statement(alloc, literals, room, name, rest));
             }
             let form = form_of(cursor);
             place_statement(alloc, literals, defining, room, form, cursor)
@@ -441,6 +500,12 @@ pub fn simple_statement(
 ) -> Result<Found<'_, SimpleNode>, ParseFault>
     ensures { Gives (λ x. (simple_of x.node, ahead x.rest)) result (simple literals defining MAX_ENTRIES room (ahead cursor.entry)) }
 {
+    if begins_with(TokenKind::Arrow, cursor) {
+        return receive_statement(alloc, literals, room, cursor);
+    }
+    if begins_call(cursor) {
+        return call_statement(alloc, literals, room, cursor);
+    }
     let Found { node, rest } = statement_unless_value(alloc, literals, defining, room, cursor)?;
     match node {
         Some(node) => Ok(Found { node, rest }),

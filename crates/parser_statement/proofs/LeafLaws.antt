@@ -4,25 +4,24 @@ use Rattle.std.proofs.lemmas.Bool.{false≢true}
 use Rattle.scanner.specs.declared.kind.TokenKind.{TokenKind}
 use Rattle.scanner.specs.declared.kind.TokenKind.TheVariants as kinds
 use Rattle.syntax.specs.declared.node.Direction.TheVariants as directions
-use Rattle.syntax.specs.Tree.{Expression, TypeExpression, NamedType, ParenthesizedType, Channel, Arguments, Operation, Call, Receive, Make, Length, Capacity, Right, Returned, NoValue, ReturnedOperation, ReturnedValue, Statement, Empty, Alone, VarTyped, VarUntyped, Go, Return, Break, Continue}
-use Rattle.syntax.specs.Measures.{Listing, if_any, type_height, right_height, right_longest, returned_height, returned_longest, statement_height, statement_longest}
+use Rattle.syntax.specs.Tree.{Expression, TypeExpression, NamedType, ParenthesizedType, Channel, Arguments, Returned, NoValue, ReturnedValue, Statement, Empty, Alone, VarTyped, VarUntyped, Go, Return, Break, Continue}
+use Rattle.syntax.specs.Measures.{Listing, if_any, highest, type_height, expression_height, expression_longest, list_longest, returned_height, returned_longest, statement_height, statement_longest}
 use Rattle.parser_base.specs.Lexemes.{Lexeme, Literal, Name, Text, Mark}
-use Rattle.parser_base.specs.Spelling.{is_builtin, before, AreSome, IsGrouped}
-use Rattle.parser_base.specs.Reading.{Syntax, TooDeep, Reading, ◌>>=◌, expect, plain_name, begins, step_at, expression}
-use Rattle.parser_base.specs.TypeReading.{type_words, IsType, type_at}
+use Rattle.parser_base.specs.Spelling.{is_builtin, before, AreSome, IsGrouped, type_words, IsType}
+use Rattle.parser_base.specs.Reading.{Syntax, TooDeep, Reading, ◌>>=◌, as_one, expect, plain_name, begins, step_at, expression, type_at}
 use Rattle.parser_base.proofs.Marks.{bind_ok, ok_is, expect_is, plain_name_is, plain_name_again}
-use Rattle.parser_base.proofs.ListLaws.{AreFew, ReadBack, Found, High, Many}
-use Rattle.parser_base.proofs.ExpressionAgain.{shut, begins_again, height_positive, entries-le}
+use Rattle.parser_base.proofs.ListLaws.{AreFew, entries-le, ReadBack, Found, High, Many}
+use Rattle.parser_base.proofs.ExpressionAgain.{shut, begins_again, height_positive, type_outcome}
 use Rattle.parser_base.proofs.TypeLaws.{type_sound, type_height_positive}
-use Rattle.parser_base.proofs.Steps.{then_again, made_again, gave, Sound, made_is, either}
-use Rattle.parser_simple.specs.Spelling.{IsName, AreArguments, arguments_words, operation_words, IsOperation, right_words, IsRight}
-use Rattle.parser_simple.specs.Reading.{as_one, behind_mark, begins_with, names, arguments, begins_operation, operation, right, simple}
+use Rattle.parser_base.proofs.Steps.{then_again, made_again, needing_again, needing_ok, gave, Sound, made_is, either}
+use Rattle.parser_simple.specs.Spelling.{IsName, AreArguments, arguments_words, right_words, IsRight}
+use Rattle.parser_simple.specs.Reading.{behind_mark, begins_with, names, arguments, right, simple}
 use Rattle.parser_simple.proofs.PlaceLaws.{names_again, names_sound}
-use Rattle.parser_simple.proofs.RightLaws.{Stops, needing_again, needing_ok, value_again, arguments_again, below_is, type_outcome, right_positive, operation_again, operation_begins, no_operation, right_again, value_sound, arguments_sound, operation_sound, right_sound}
+use Rattle.parser_simple.proofs.RightLaws.{Stops, value_again, arguments_again, right_positive, right_again, value_sound, arguments_sound, right_sound}
 use Rattle.parser_simple.proofs.SimpleLaws.{simple_sound}
 use Rattle.parser_header.specs.Spelling.{IsAny}
 use Rattle.parser_statement.specs.Spelling.{returned_words, IsReturned, initial_words, names_words, statement_words, IsStatement}
-use Rattle.parser_statement.specs.Reading.{is_end, ends_statement, begins_returned, returned_value, returned, started, behind_next, typed, untyped, variables, variable, leaf}
+use Rattle.parser_statement.specs.Reading.{is_end, ends_statement, returned_value, returned, started, behind_next, typed, untyped, variables, variable, leaf}
 
 -- ---- what may follow a statement
 
@@ -34,10 +33,10 @@ pub data Ends : List Lexeme → Type 0 where
 
 pub ends_stop : (rest : List Lexeme) → Ends rest → Stops true rest
 unfolding step_at begins_with
-ends_stop _ (AtSemicolon rest) = record { ends = record { none = refl; shut = shut true kinds.Semicolon rest refl }; comma = refl; open' = refl }
-ends_stop _ (AtBrace rest) = record { ends = record { none = refl; shut = shut true kinds.RightBrace rest refl }; comma = refl; open' = refl }
-ends_stop _ (AtCase rest) = record { ends = record { none = refl; shut = shut true kinds.Case rest refl }; comma = refl; open' = refl }
-ends_stop _ (AtDefault rest) = record { ends = record { none = refl; shut = shut true kinds.Default rest refl }; comma = refl; open' = refl }
+ends_stop _ (AtSemicolon rest) = record { ends = record { none = refl; shut = shut true kinds.Semicolon rest refl refl }; comma = refl; arrow = refl }
+ends_stop _ (AtBrace rest) = record { ends = record { none = refl; shut = shut true kinds.RightBrace rest refl refl }; comma = refl; arrow = refl }
+ends_stop _ (AtCase rest) = record { ends = record { none = refl; shut = shut true kinds.Case rest refl refl }; comma = refl; arrow = refl }
+ends_stop _ (AtDefault rest) = record { ends = record { none = refl; shut = shut true kinds.Default rest refl refl }; comma = refl; arrow = refl }
 
 ends_end : (rest : List Lexeme) → Ends rest → ends_statement rest ≡ true
 unfolding ends_statement
@@ -75,40 +74,11 @@ started_again most room f all rest plain are =
 abbrev ReturnedOutcome : (most room : ℕ) → Reading Returned → Returned → List Lexeme → Type 0
 ReturnedOutcome most room read r rest = ReadBack read r rest (returned_height r) room (λ listing. returned_longest listing r) most
 
-operation_returns : (o : Operation) (rest : List Lexeme) → IsOperation true o → begins_returned (operation_words o rest) ≡ true
-unfolding begins_returned
-operation_returns (Call f all) rest is = rw is.0 refl
-operation_returns (Receive c) rest is = refl
-operation_returns (Make t s) rest is = refl
-operation_returns (Length c) rest is = refl
-operation_returns (Capacity c) rest is = refl
-
-plain_returns : (b c : Bool) → cond b false true ≡ true → cond b c true ≡ true
-plain_returns true c begun = absurd (false≢true begun)
-plain_returns false c begun = refl
-
-value_returns : (ws : List Lexeme) → begins ws ≡ true → begins_returned ws ≡ true
-unfolding begins_returned begins
-value_returns [] begun = absurd (false≢true begun)
-value_returns (Literal value ∷ ws) begun = refl
-value_returns (Name name ∷ ws) begun = plain_returns (is_builtin name) _ begun
-value_returns (Text bytes ∷ ws) begun = absurd (false≢true begun)
-value_returns (Mark kinds.Arrow ∷ ws) begun = refl
-value_returns (Mark kind ∷ ws) begun = begun
-
-returned_operation : (most room : ℕ) (o : Operation) (rest : List Lexeme) → IsOperation true o → Stops true rest → ReturnedOutcome most room (returned_value most room (operation_words o rest)) (ReturnedOperation o) rest
-unfolding returned_value
-returned_operation most zero o rest is stops = rw (operation_returns o rest is) (High (omega (arith, below_is o)) refl)
-returned_operation most (suc room) o rest is stops =
-    rw (operation_begins true o rest is)
-    (made_again ReturnedOperation (operation_again true most room o rest is stops) (λ high. omega (arith, below_is o)) (λ low. omega (arith, below_is o)) (λ listing. refl))
-
 returned_expression : (most room : ℕ) (v : Expression) (rest : List Lexeme) → IsGrouped true v → Stops true rest → ReturnedOutcome most room (returned_value most room (before v rest)) (ReturnedValue v) rest
 unfolding returned_value
-returned_expression most zero v rest is stops = rw (value_returns (before v rest) (begins_again true v rest is)) (High (height_positive v) refl)
+returned_expression most zero v rest is stops = rw (begins_again true v rest is) (High (height_positive v) refl)
 returned_expression most (suc room) v rest is stops =
-    rw (no_operation true v rest is stops.open')
-    (made_again ReturnedValue (value_again true most (suc room) v rest is stops.ends) (λ high. high) (λ low. low) (λ listing. refl))
+    made_again ReturnedValue (value_again true most (suc room) v rest is stops.ends) (λ high. high) (λ low. low) (λ listing. refl)
 
 -- no value ends a statement
 begun_no_end : (ws : List Lexeme) → begins ws ≡ true → ends_statement ws ≡ false
@@ -123,37 +93,28 @@ begun_no_end (Mark kinds.Case ∷ ws) begun = absurd (false≢true begun)
 begun_no_end (Mark kinds.Default ∷ ws) begun = absurd (false≢true begun)
 begun_no_end (Mark kind ∷ ws) begun = refl
 
-operation_no_end : (o : Operation) (rest : List Lexeme) → ends_statement (operation_words o rest) ≡ false
-unfolding ends_statement
-operation_no_end (Call f all) rest = refl
-operation_no_end (Receive c) rest = refl
-operation_no_end (Make t s) rest = refl
-operation_no_end (Length c) rest = refl
-operation_no_end (Capacity c) rest = refl
-
 returned_again : (most room : ℕ) (r : Returned) (rest : List Lexeme) → IsReturned r → Ends rest → ReturnedOutcome most room (returned most room (returned_words r rest)) r rest
 unfolding returned
 returned_again most room NoValue rest is ends = rw (ends_end rest ends) (Found (omega arith) (λ listing. omega arith) refl)
-returned_again most room (ReturnedOperation o) rest is ends = rw (operation_no_end o rest) (returned_operation most room o rest is (ends_stop rest ends))
 returned_again most room (ReturnedValue v) rest is ends =
     rw (begun_no_end (before v rest) (begins_again true v rest is)) (returned_expression most room v rest is (ends_stop rest ends))
 
-initial_again : (most room : ℕ) (r : Option Right) (rest : List Lexeme) → IsAny (IsRight true) r → Ends rest
-    → ReadBack (behind_next kinds.Assign (right true most room) (initial_words r rest)) r rest (if_any right_height r) room (λ listing. if_any (right_longest listing) r) most
+initial_again : (most room : ℕ) (r : Option (List Expression)) (rest : List Lexeme) → IsAny (IsRight true) r → Ends rest
+    → ReadBack (behind_next kinds.Assign (right true most room) (initial_words r rest)) r rest (if_any (highest expression_height) r) room (λ listing. if_any (list_longest expression_longest listing) r) most
 unfolding begins_with expect
 initial_again most room None rest is ends = rw (ends_no_value rest ends) (Found (omega arith) (λ listing. omega arith) refl)
 initial_again most room (Some r) rest is ends =
-    made_again (λ (x : Right). Some x) (right_again true most room r rest is (ends_stop rest ends)) (λ high. high) (λ low. low) (λ listing. refl)
+    made_again (λ (x : List Expression). Some x) (right_again true most room r rest is (ends_stop rest ends)) (λ high. high) (λ low. low) (λ listing. refl)
 
-typed_again : (most room : ℕ) (all : List (List ℕ)) (t : TypeExpression) (r : Option Right) (rest : List Lexeme) → IsType t → IsAny (IsRight true) r → Ends rest
-    → ReadBack (typed all most room (type_words t ++ initial_words r rest)) (VarTyped all t r) rest (max (type_height t) (if_any right_height r)) room (λ listing. if_any (right_longest listing) r) most
+typed_again : (most room : ℕ) (all : List (List ℕ)) (t : TypeExpression) (r : Option (List Expression)) (rest : List Lexeme) → IsType t → IsAny (IsRight true) r → Ends rest
+    → ReadBack (typed all most room (type_words t ++ initial_words r rest)) (VarTyped all t r) rest (max (type_height t) (if_any (highest expression_height) r)) room (λ listing. if_any (list_longest expression_longest listing) r) most
 unfolding typed
 typed_again most room all t r rest is right_is ends =
     then_again _ (type_outcome room most t (initial_words r rest) is) (λ high. omega arith) (λ listing. omega arith) (λ low few.
     made_again (VarTyped all t) (initial_again most room r rest right_is ends) (λ high. omega arith) (λ low'. omega arith) (λ listing. refl))
 
-untyped_again : (most room : ℕ) (all : List (List ℕ)) (r : Right) (rest : List Lexeme) → IsRight true r → Ends rest
-    → ReadBack (untyped all most room (Mark kinds.Assign ∷ right_words r rest)) (VarUntyped all r) rest (right_height r) room (λ listing. right_longest listing r) most
+untyped_again : (most room : ℕ) (all : List (List ℕ)) (r : List Expression) (rest : List Lexeme) → IsRight true r → Ends rest
+    → ReadBack (untyped all most room (Mark kinds.Assign ∷ right_words r rest)) (VarUntyped all r) rest (highest expression_height r) room (λ listing. list_longest expression_longest listing r) most
 unfolding untyped expect
 untyped_again most room all r rest is ends =
     made_again (VarUntyped all) (right_again true most room r rest is (ends_stop rest ends)) (λ high. high) (λ low. low) (λ listing. refl)
@@ -167,14 +128,14 @@ type_no_value (Channel directions.Both element) rest = (refl, refl)
 type_no_value (Channel directions.Send element) rest = (refl, refl)
 type_no_value (Channel directions.Receive element) rest = (refl, refl)
 
-variable_untyped : (most room : ℕ) (n : List ℕ) (ns : List (List ℕ)) (r : Right) (rest : List Lexeme) → AreSome IsName (n ∷ ns) → IsRight true r → Ends rest
+variable_untyped : (most room : ℕ) (n : List ℕ) (ns : List (List ℕ)) (r : List Expression) (rest : List Lexeme) → AreSome IsName (n ∷ ns) → IsRight true r → Ends rest
     → StatementOutcome most (suc room) (variable most room (names_words (n ∷ ns) (Mark kinds.Assign ∷ right_words r rest))) (VarUntyped (n ∷ ns) r) rest
 unfolding variables begins_with
 variable_untyped most room n ns r rest are is ends =
     needing_again 1 room (λ none. omega (arith, none, right_positive true r is)) (then_again _ (names_again kinds.Comma most n ns (Mark kinds.Assign ∷ right_words r rest) are refl) (λ high. omega arith) (λ listing. omega arith) (λ low few.
     widened (untyped_again most room (n ∷ ns) r rest is ends) (λ high. omega arith) (λ low'. omega arith) (λ listing. omega arith) (λ few' listing. omega (arith, few listing, few' listing))))
 
-variable_typed : (most room : ℕ) (n : List ℕ) (ns : List (List ℕ)) (t : TypeExpression) (r : Option Right) (rest : List Lexeme) → AreSome IsName (n ∷ ns) → IsType t → IsAny (IsRight true) r → Ends rest
+variable_typed : (most room : ℕ) (n : List ℕ) (ns : List (List ℕ)) (t : TypeExpression) (r : Option (List Expression)) (rest : List Lexeme) → AreSome IsName (n ∷ ns) → IsType t → IsAny (IsRight true) r → Ends rest
     → StatementOutcome most (suc room) (variable most room (names_words (n ∷ ns) (type_words t ++ initial_words r rest))) (VarTyped (n ∷ ns) t r) rest
 unfolding variables
 variable_typed most room n ns t r rest are is right_is ends =
@@ -189,12 +150,12 @@ leaf_go most room f all rest is = started_again most room f all rest is.0 is.1
 pub leaf_return : (most room : ℕ) (r : Returned) (rest : List Lexeme) → IsReturned r → Ends rest → StatementOutcome most (suc room) (leaf most room kinds.Return (returned_words r rest)) (Return r) rest
 leaf_return most room r rest is ends = made_again Return (returned_again most room r rest is ends) (λ high. omega arith) (λ low. omega arith) (λ listing. refl)
 
-pub leaf_untyped : (most room : ℕ) (ns : List (List ℕ)) (r : Right) (rest : List Lexeme) → IsStatement (VarUntyped ns r) → Ends rest
+pub leaf_untyped : (most room : ℕ) (ns : List (List ℕ)) (r : List Expression) (rest : List Lexeme) → IsStatement (VarUntyped ns r) → Ends rest
     → StatementOutcome most (suc room) (leaf most room kinds.Var (names_words ns (Mark kinds.Assign ∷ right_words r rest))) (VarUntyped ns r) rest
 leaf_untyped most room [] r rest is ends = absurd is.0
 leaf_untyped most room (n ∷ ns) r rest is ends = variable_untyped most room n ns r rest is.0 is.1 ends
 
-pub leaf_typed : (most room : ℕ) (ns : List (List ℕ)) (t : TypeExpression) (r : Option Right) (rest : List Lexeme) → IsStatement (VarTyped ns t r) → Ends rest
+pub leaf_typed : (most room : ℕ) (ns : List (List ℕ)) (t : TypeExpression) (r : Option (List Expression)) (rest : List Lexeme) → IsStatement (VarTyped ns t r) → Ends rest
     → StatementOutcome most (suc room) (leaf most room kinds.Var (names_words ns (type_words t ++ initial_words r rest))) (VarTyped ns t r) rest
 leaf_typed most room [] t r rest is ends = absurd is.0
 leaf_typed most room (n ∷ ns) t r rest is ends = variable_typed most room n ns t r rest is.0 is.1 is.2 ends
@@ -233,18 +194,11 @@ no_returned false r rest e = cc
 
 returned_value_sound : (most room : ℕ) (ws : List Lexeme) (r : Returned) (rest : List Lexeme) → returned_value most room ws ≡ gave r rest → ReturnedSound most room ws r rest
 unfolding returned_value
-returned_value_sound most zero ws r rest e = absurd (no_returned (begins_returned ws) r rest e)
+returned_value_sound most zero ws r rest e = absurd (no_returned (begins ws) r rest e)
 returned_value_sound most (suc room) ws r rest e =
-    elim (either (begins_operation ws) (as_one ReturnedOperation (operation true most room ws)) (as_one ReturnedValue (expression true most (suc room) 0 ws)) (r, rest) e) [
-      | inl operates ↦
-          let a = made_is ReturnedOperation (operation true most room ws) r rest operates.1 in
-          let p = operation_sound true most room ws a.0 rest a.1 in
-          subst (λ (x : Returned). ReturnedSound most (suc room) ws x rest) a.2 (record { parts = p.parts; is = p.is; low = omega (arith, p.low, below_is a.0); few = p.few })
-      | inr values ↦
-          let a = made_is ReturnedValue (expression true most (suc room) 0 ws) r rest values.1 in
-          let p = value_sound true most (suc room) ws a.0 rest a.1 in
-          subst (λ (x : Returned). ReturnedSound most (suc room) ws x rest) a.2 (record { parts = p.parts; is = p.is; low = p.low; few = p.few })
-    ]
+    let a = made_is ReturnedValue (expression true most (suc room) 0 ws) r rest e in
+    let p = value_sound true most (suc room) ws a.0 rest a.1 in
+    subst (λ (x : Returned). ReturnedSound most (suc room) ws x rest) a.2 (record { parts = p.parts; is = p.is; low = p.low; few = p.few })
 
 returned_sound : (most room : ℕ) (ws : List Lexeme) (r : Returned) (rest : List Lexeme) → returned most room ws ≡ gave r rest → ReturnedSound most room ws r rest
 unfolding returned
@@ -260,23 +214,23 @@ return_sound most room ws s rest e =
     let p = returned_sound most room ws a.0 rest a.1 in
     subst (λ (x : Statement). StatementSound most (suc room) (Mark kinds.Return ∷ ws) x rest) a.2 (record { parts = ap (λ (x : List Lexeme). Mark kinds.Return ∷ x) p.parts; is = p.is; low = omega (arith, p.low); few = p.few })
 
-abbrev InitialSound : (most room : ℕ) → List Lexeme → Option Right → List Lexeme → Type 0
-InitialSound most room = Sound initial_words (IsAny (IsRight true)) (if_any right_height) room (λ listing. if_any (right_longest listing)) most
+abbrev InitialSound : (most room : ℕ) → List Lexeme → Option (List Expression) → List Lexeme → Type 0
+InitialSound most room = Sound initial_words (IsAny (IsRight true)) (if_any (highest expression_height)) room (λ listing. if_any (list_longest expression_longest listing)) most
 
-initial_sound : (most room : ℕ) (ws : List Lexeme) (r : Option Right) (rest : List Lexeme) → behind_next kinds.Assign (right true most room) ws ≡ gave r rest → InitialSound most room ws r rest
+initial_sound : (most room : ℕ) (ws : List Lexeme) (r : Option (List Expression)) (rest : List Lexeme) → behind_next kinds.Assign (right true most room) ws ≡ gave r rest → InitialSound most room ws r rest
 initial_sound most room ws r rest e =
-    elim (either (begins_with kinds.Assign ws) (as_one (λ (x : Right). Some x) (behind_mark kinds.Assign (right true most room) ws)) (gave None ws) (r, rest) e) [
+    elim (either (begins_with kinds.Assign ws) (as_one (λ (x : List Expression). Some x) (behind_mark kinds.Assign (right true most room) ws)) (gave None ws) (r, rest) e) [
       | inl some ↦
-          let b = made_is (λ (x : Right). Some x) (behind_mark kinds.Assign (right true most room) ws) r rest some.1 in
+          let b = made_is (λ (x : List Expression). Some x) (behind_mark kinds.Assign (right true most room) ws) r rest some.1 in
           let a = bind_ok (expect kinds.Assign ws) (right true most room) (b.0, rest) b.1 in
           let p = right_sound true most room a.0 b.0 rest a.2 in
-          subst (λ (x : Option Right). InitialSound most room ws x rest) b.2 (record {
+          subst (λ (x : Option (List Expression)). InitialSound most room ws x rest) b.2 (record {
             parts = expect_is kinds.Assign ws a.0 a.1 ∙ ap (λ (x : List Lexeme). Mark kinds.Assign ∷ x) p.parts;
             is = p.is;
             low = p.low;
             few = p.few;
           })
-      | inr none ↦ subst (λ (x : Option Right × List Lexeme). InitialSound most room ws x.0 x.1) (ok_is (None, ws) (r, rest) none.1) (record { parts = refl; is = tt; low = omega arith; few = λ listing. omega arith })
+      | inr none ↦ subst (λ (x : Option (List Expression) × List Lexeme). InitialSound most room ws x.0 x.1) (ok_is (None, ws) (r, rest) none.1) (record { parts = refl; is = tt; low = omega arith; few = λ listing. omega arith })
     ]
 
 -- some names were read, and these words follow them

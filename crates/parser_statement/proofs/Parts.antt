@@ -7,9 +7,9 @@ use Rattle.syntax.specs.Tree.{Expression, Comm, IfHead, ForHead, Statement, Bloc
 use Rattle.syntax.specs.View.{OneClause}
 use Rattle.std.proofs.lemmas.Bool.{leb-false}
 use Rattle.parser_base.specs.Lexemes.{Lexeme, Mark}
-use Rattle.parser_base.specs.Reading.{Refusal, TooDeep, Syntax, Fails, Reading, expect, listed}
+use Rattle.parser_base.specs.Reading.{Refusal, TooDeep, Syntax, Fails, Reading, expect, listed, needing}
 use Rattle.parser_base.proofs.Results.{fails_on}
-use Rattle.parser_simple.specs.Reading.{needing, begins_with}
+use Rattle.parser_simple.specs.Reading.{begins_with}
 use Rattle.parser_header.specs.Reading.{if_header, for_header}
 use Rattle.parser_statement.specs.Reading.{statement, block, branch, other, otherwise, branched, repeated, waited, clause_body, one_clause, clause_next, marked, leaf}
 

@@ -2,25 +2,23 @@
 use Rattle.std.proofs.Common.{◌≡◌, ◌+◌, ◌≤◌, List, [], ◌∷◌, ◌++◌, length, sum_by, refl, arith, length-append, Option, Some, None}
 use Rattle.std.proofs.lemmas.List.Sums.{sum_by-cons}
 use Rattle.scanner.specs.declared.kind.TokenKind.TheVariants as kinds
-use Rattle.syntax.specs.Tree.{Right, Comm, Returned, NoValue, ReturnedOperation, ReturnedValue, Statement, Statements, NoStatement, Then, Empty, Alone, VarTyped, VarUntyped, Block, If, For, Select, Go, Return, Break, Continue, Branch, Conditional, Otherwise, NoElse, ElseBlock, ElseIf, Clauses, NoClause, Clause, statements_in}
-use Rattle.syntax.specs.Measures.{right_size, comm_size, returned_size, statement_size, statements_size, branch_size, otherwise_size, clauses_size, if_any}
+use Rattle.syntax.specs.Tree.{Expression, Comm, Returned, NoValue, ReturnedValue, Statement, Statements, NoStatement, Then, Empty, Alone, VarTyped, VarUntyped, Block, If, For, Select, Go, Return, Break, Continue, Branch, Conditional, Otherwise, NoElse, ElseBlock, ElseIf, Clauses, NoClause, Clause, statements_in}
+use Rattle.syntax.specs.Measures.{expression_size, comm_size, returned_size, statement_size, statements_size, branch_size, otherwise_size, clauses_size, if_any}
 use Rattle.parser_base.specs.Lexemes.{Lexeme, Mark}
-use Rattle.parser_base.specs.Spelling.{behind, AreAll, AreSome, separated, joined, before}
-use Rattle.parser_base.specs.TypeReading.{type_words}
+use Rattle.parser_base.specs.Spelling.{behind, AreAll, AreSome, separated, joined, before, type_words}
 use Rattle.parser_base.proofs.TypeLaws.{type_size-le}
 use Rattle.parser_simple.specs.Spelling.{right_words}
 use Rattle.parser_statement.specs.Spelling.{returned_words, initial_words, clause_start, statement_words, body_words, more_words, branch_words, otherwise_words, clauses_words, IsStatement}
-use Rattle.parser_simple.proofs.Sizes.{value_size, arguments_grow, operation_grows, right_grows, names_grow, simple_grows, simple_positive}
+use Rattle.parser_simple.proofs.Sizes.{value_size, arguments_grow, right_grows, names_grow, simple_grows, simple_positive}
 use Rattle.parser_header.proofs.Sizes.{if_head_grows, for_head_grows, comm_grows}
 
 -- ---- what stands behind `return`, `var` and `case`
 
 returned_grows : (r : Returned) (rest : List Lexeme) → returned_size r + length rest ≤ length (returned_words r rest)
 returned_grows NoValue rest = omega arith
-returned_grows (ReturnedOperation o) rest = operation_grows o rest
 returned_grows (ReturnedValue v) rest = value_size v rest
 
-initial_grows : (r : Option Right) (rest : List Lexeme) → if_any right_size r + length rest ≤ length (initial_words r rest)
+initial_grows : (r : Option (List Expression)) (rest : List Lexeme) → if_any (sum_by expression_size) r + length rest ≤ length (initial_words r rest)
 initial_grows None rest = omega arith
 initial_grows (Some r) rest = omega (arith, right_grows r rest)
 

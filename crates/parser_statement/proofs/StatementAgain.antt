@@ -2,7 +2,7 @@
 use Rattle.std.proofs.Common.{◌≡◌, ℕ, zero, suc, ◌≤◌, Bool, true, false, Option, Some, None, max, List, [], ◌∷◌, length, Ok, refl, ap, ◌∙◌, subst, arith}
 use Rattle.std.proofs.lemmas.Bool.{false≢true}
 use Rattle.scanner.specs.declared.kind.TokenKind.TheVariants as kinds
-use Rattle.syntax.specs.Tree.{Expression, TypeExpression, Arguments, Right, Returned, Simple, CallAlone, Close, Print, ReceiveAlone, Send, Increment, Decrement, Assign, Define, Update, IfHead, ForHead, Comm, CommSend, CommReceive, CommDefine, CommAssign, Statement, Empty, Alone, VarTyped, VarUntyped, Block, If, For, Select, Go, Return, Break, Continue, Statements, NoStatement, Then, statements_in, statements as made_statements, Branch, Conditional, Otherwise, NoElse, ElseBlock, ElseIf, Clauses, NoClause, Clause}
+use Rattle.syntax.specs.Tree.{Expression, TypeExpression, Arguments, Returned, Simple, CallAlone, Close, Print, ReceiveAlone, Send, Increment, Decrement, Assign, Define, Update, IfHead, ForHead, Comm, CommSend, CommReceive, CommDefine, CommAssign, Statement, Empty, Alone, VarTyped, VarUntyped, Block, If, For, Select, Go, Return, Break, Continue, Statements, NoStatement, Then, statements_in, statements as made_statements, Branch, Conditional, Otherwise, NoElse, ElseBlock, ElseIf, Clauses, NoClause, Clause}
 use Rattle.syntax.specs.Measures.{SelectClauses, clauses as clause_entries, if_any, comm_height, comm_longest, statement_height, statements_height, branch_height, otherwise_height, block_height, clauses_height, statement_longest, statements_longest, branch_longest, otherwise_longest, clauses_longest, clauses_count}
 use Rattle.syntax.specs.View.{OneClause, clauses}
 use Rattle.syntax.proofs.Lists.{statements-statements_in}
@@ -10,16 +10,16 @@ use Rattle.parser_base.specs.declared.list.Next.{Next}
 use Rattle.parser_base.specs.declared.list.Next.TheVariants.{More, End}
 use Rattle.parser_base.specs.Lexemes.{Lexeme, Literal, Name, Text, Mark}
 use Rattle.parser_base.specs.Spelling.{behind, before, separated, AreAll}
-use Rattle.parser_base.specs.Reading.{Syntax, TooMany, Reading, ◌>>=◌, expect, begins, listed}
+use Rattle.parser_base.specs.Reading.{Syntax, TooMany, Reading, ◌>>=◌, as_one, expect, begins, listed}
 use Rattle.parser_base.proofs.ListLaws.{ReadBack, Found, High, Many, Found as AllFound, High as AllHigh, Many as AllMany, Full, Entries, IsReadAgain, Separates, listed_again}
 use Rattle.parser_base.proofs.ExpressionAgain.{begins_again, height_positive}
-use Rattle.parser_base.proofs.Steps.{then_again, made_again, gave}
+use Rattle.parser_base.proofs.Steps.{then_again, made_again, needing_again, gave}
 use Rattle.parser_simple.specs.Spelling.{simple_words, IsSimple}
-use Rattle.parser_simple.specs.Reading.{as_one, begins_with, simple}
-use Rattle.parser_simple.proofs.RightLaws.{needing_again}
+use Rattle.parser_simple.specs.Reading.{begins_with, simple}
 use Rattle.parser_simple.proofs.SimpleLaws.{simple_again}
 use Rattle.parser_header.specs.Spelling.{IsAny, comm_words, IsComm, IsForHead}
-use Rattle.parser_header.proofs.HeaderLaws.{if_header_again, for_header_again, comm_below_is, comm_again}
+use Rattle.parser_header.proofs.HeaderLaws.{if_header_again, for_header_again}
+use Rattle.parser_header.proofs.CommLaws.{comm_below_is, comm_again}
 use Rattle.parser_statement.specs.Spelling.{clause_start, statement_words, body_words, branch_words, otherwise_words, clauses_words, IsStatement, IsBody, AreStatements, IsBranch, IsOtherwise, AreClauses}
 use Rattle.parser_statement.specs.Reading.{ends_statement, statement_next, clause_next, braced, other, otherwise, branched, repeated, waited, clause_body, one_clause, no_clause, clauses_next, selected, stated, statement, block, branch, clause}
 use Rattle.parser_statement.proofs.Sizes.{statement_longer, separated_longer}
@@ -393,11 +393,11 @@ no_room : (most : ℕ) (s : Statement) → IsReadAgain (statements 0 most) Ends 
 unfolding statement
 no_room most s rest ends = High (positive s) refl
 
-var_typed : (most room : ℕ) (ns : List (List ℕ)) (t : TypeExpression) (r : Option Right) → IsStatement (VarTyped ns t r) → IsReadAgain (statements (suc room) most) Ends (VarTyped ns t r)
+var_typed : (most room : ℕ) (ns : List (List ℕ)) (t : TypeExpression) (r : Option (List Expression)) → IsStatement (VarTyped ns t r) → IsReadAgain (statements (suc room) most) Ends (VarTyped ns t r)
 unfolding statement stated
 var_typed most room ns t r is rest ends = leaf_typed most room ns t r rest is ends
 
-var_untyped : (most room : ℕ) (ns : List (List ℕ)) (r : Right) → IsStatement (VarUntyped ns r) → IsReadAgain (statements (suc room) most) Ends (VarUntyped ns r)
+var_untyped : (most room : ℕ) (ns : List (List ℕ)) (r : List Expression) → IsStatement (VarUntyped ns r) → IsReadAgain (statements (suc room) most) Ends (VarUntyped ns r)
 unfolding statement stated
 var_untyped most room ns r is rest ends = leaf_untyped most room ns r rest is ends
 

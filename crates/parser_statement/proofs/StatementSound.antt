@@ -10,19 +10,19 @@ use Rattle.parser_base.specs.declared.list.Next.{Next}
 use Rattle.parser_base.specs.declared.list.Next.TheVariants.{More, End}
 use Rattle.parser_base.specs.Lexemes.{Lexeme, Literal, Name, Text, Mark}
 use Rattle.parser_base.specs.Spelling.{behind, separated, joined, AreAll, AreSome}
-use Rattle.parser_base.specs.Reading.{Syntax, TooMany, Reading, ◌>>=◌, expect, listed}
+use Rattle.parser_base.specs.Reading.{Syntax, TooMany, Reading, ◌>>=◌, expect, listed, as_one}
 use Rattle.parser_base.proofs.Marks.{bind_ok, ok_is, expect_is}
 use Rattle.parser_base.proofs.ListLaws.{IsEntry, ReadsSoundly, AreEntries, listed_sound, ends_with, goes_on_with, all_of}
-use Rattle.parser_base.proofs.Steps.{gave, Sound, made_is, either}
-use Rattle.parser_simple.specs.Reading.{as_one, begins_with}
+use Rattle.parser_base.proofs.Steps.{gave, Sound, made_is, either, needing_ok}
+use Rattle.parser_simple.specs.Reading.{begins_with}
 use Rattle.parser_header.specs.Spelling.{comm_words, IsComm, for_head_words}
 use Rattle.parser_header.specs.Reading.{if_header, for_header}
-use Rattle.parser_header.proofs.HeaderLaws.{if_header_words, if_header_sound, for_header_sound, comm_below_is, comm_sound}
+use Rattle.parser_header.proofs.HeaderLaws.{if_header_words, if_header_sound, for_header_sound}
+use Rattle.parser_header.proofs.CommLaws.{comm_below_is, comm_sound}
 use Rattle.parser_statement.specs.Spelling.{statement_words, body_words, branch_words, otherwise_words, clauses_words, IsStatement, IsBody, IsBranch, IsOtherwise, AreClauses}
 use Rattle.parser_statement.specs.Reading.{ends_statement, statement_next, clause_next, braced, other, otherwise, branched, repeated, waited, clause_body, one_clause, no_clause, clauses_next, selected, marked, stated, statement, block, branch, clause}
 use Rattle.parser_statement.proofs.StatementLists.{body_list, are_body, highest_in, longest_in, clauses_in, clauses_in-clauses, clause_words, IsClause, clause_height, clause_longest, unseparated, clauses_list, are_clauses, clauses_highest, clauses_longest_in, clauses_length, clause_entries-le, clause_entries_few}
 use Rattle.parser_statement.proofs.LeafLaws.{StatementSound, alone_sound, leaf_sound}
-use Rattle.parser_simple.proofs.RightLaws.{needing_ok}
 use Rattle.parser_statement.proofs.StatementAgain.{statements_to, statements, clause_statements, block_words, clauses_of}
 
 -- ---- what is read is spelt so: lists of statements

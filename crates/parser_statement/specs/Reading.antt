@@ -3,16 +3,15 @@
 use Rattle.std.specs.Prelude.{ℕ, zero, suc, Bool, true, false, List, [], ◌∷◌, ◌||◌, Option, Some, None, Ok, Err, if◌then◌else◌, length, bytes_eq, codes}
 use Rattle.scanner.specs.declared.kind.TokenKind.{TokenKind}
 use Rattle.scanner.specs.declared.kind.TokenKind.TheVariants as kinds
-use Rattle.syntax.specs.Tree.{Comm, Returned, NoValue, ReturnedOperation, ReturnedValue, Statement, Empty, Alone, VarTyped, VarUntyped, Block, If, For, Select, Go, Return, Break, Continue, Statements, statements, Branch, Conditional, Otherwise, NoElse, ElseBlock, ElseIf, Clauses}
+use Rattle.syntax.specs.Tree.{Comm, Returned, NoValue, ReturnedValue, Statement, Empty, Alone, VarTyped, VarUntyped, Block, If, For, Select, Go, Return, Break, Continue, Statements, statements, Branch, Conditional, Otherwise, NoElse, ElseBlock, ElseIf, Clauses}
 use Rattle.syntax.specs.Measures.{SelectClauses}
 use Rattle.syntax.specs.View.{OneClause, clauses}
 use Rattle.parser_base.specs.declared.list.Next.{Next}
 use Rattle.parser_base.specs.declared.list.Next.TheVariants.{More, End}
 use Rattle.parser_base.specs.Lexemes.{Lexeme, Name, Mark}
 use Rattle.parser_base.specs.Spelling.{is_builtin}
-use Rattle.parser_base.specs.Reading.{Syntax, TooDeep, TooMany, Reading, ◌>>=◌, expect, plain_name, begins, listed, expression}
-use Rattle.parser_base.specs.TypeReading.{type_at}
-use Rattle.parser_simple.specs.Reading.{as_one, behind_mark, needing, begins_with, names, arguments, begins_operation, operation, right, simple}
+use Rattle.parser_base.specs.Reading.{Syntax, TooDeep, TooMany, Reading, ◌>>=◌, as_one, needing, expect, plain_name, begins, listed, expression, type_at}
+use Rattle.parser_simple.specs.Reading.{behind_mark, begins_with, names, arguments, right, simple}
 use Rattle.parser_header.specs.Reading.{comm, if_header, for_header}
 
 -- ---- what ends a statement
@@ -43,19 +42,10 @@ clause_next words = if ends_statement words then Ok (End false, words) else Err 
 
 -- ---- statements in which none stands
 
--- whether a value or an operation behind `return` can begin so
-unfoldable pub begins_returned : List Lexeme → Bool
-begins_returned (Name name ∷ rest) =
-    if is_builtin name then bytes_eq name (codes "make") || bytes_eq name (codes "len") || bytes_eq name (codes "cap") else true
-begins_returned (Mark kinds.Arrow ∷ rest) = true
-begins_returned words = begins words
-
 -- a value behind `return`, of at most so many levels
 unfoldable pub returned_value : ℕ → ℕ → List Lexeme → Reading Returned
-returned_value most zero words = if begins_returned words then Err TooDeep else Err Syntax
-returned_value most (suc room) words =
-    if begins_operation words then as_one ReturnedOperation (operation true most room words)
-    else as_one ReturnedValue (expression true most (suc room) 0 words)
+returned_value most zero words = if begins words then Err TooDeep else Err Syntax
+returned_value most (suc room) words = as_one ReturnedValue (expression true most (suc room) 0 words)
 
 -- what stands behind `return`
 unfoldable pub returned : ℕ → ℕ → List Lexeme → Reading Returned

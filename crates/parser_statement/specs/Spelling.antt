@@ -4,27 +4,24 @@
 -- then `rest`.
 use Rattle.std.specs.Prelude.{ℕ, true, false, List, ◌∷◌, ◌++◌, Option, Some, None}
 use Rattle.scanner.specs.declared.kind.TokenKind.TheVariants as kinds
-use Rattle.syntax.specs.Tree.{Right, Comm, Returned, NoValue, ReturnedOperation, ReturnedValue, Statement, Empty, Alone, VarTyped, VarUntyped, Block, If, For, Select, Go, Return, Break, Continue, Statements, NoStatement, Then, Branch, Conditional, Otherwise, NoElse, ElseBlock, ElseIf, Clauses, NoClause, Clause}
+use Rattle.syntax.specs.Tree.{Expression, Comm, Returned, NoValue, ReturnedValue, Statement, Empty, Alone, VarTyped, VarUntyped, Block, If, For, Select, Go, Return, Break, Continue, Statements, NoStatement, Then, Branch, Conditional, Otherwise, NoElse, ElseBlock, ElseIf, Clauses, NoClause, Clause}
 use Rattle.parser_base.specs.Lexemes.{Lexeme, Name, Mark}
-use Rattle.parser_base.specs.Spelling.{behind, joined, before, AreSome, IsGrouped}
-use Rattle.parser_base.specs.TypeReading.{type_words, IsType}
-use Rattle.parser_simple.specs.Spelling.{name_words, IsName, arguments_words, AreArguments, operation_words, IsOperation, right_words, IsRight, simple_words, IsSimple}
+use Rattle.parser_base.specs.Spelling.{behind, joined, before, AreSome, IsGrouped, type_words, IsType}
+use Rattle.parser_simple.specs.Spelling.{name_words, IsName, arguments_words, AreArguments, right_words, IsRight, simple_words, IsSimple}
 use Rattle.parser_header.specs.Spelling.{IsAny, comm_words, IsComm, if_head_words, IsIfHead, for_head_words, IsForHead}
 
 -- ---- what stands behind `return` and `var`
 
 abbrev pub returned_words : Returned → List Lexeme → List Lexeme
 returned_words NoValue rest = rest
-returned_words (ReturnedOperation operation) rest = operation_words operation rest
 returned_words (ReturnedValue value) rest = before value rest
 
 abbrev pub IsReturned : Returned → Type 0
 IsReturned NoValue = Unit {0}
-IsReturned (ReturnedOperation operation) = IsOperation true operation
 IsReturned (ReturnedValue value) = IsGrouped true value
 
--- the first value of what is declared, if there is one
-abbrev pub initial_words : Option Right → List Lexeme → List Lexeme
+-- the first values of what is declared, if there are any
+abbrev pub initial_words : Option (List Expression) → List Lexeme → List Lexeme
 initial_words None rest = rest
 initial_words (Some right) rest = Mark kinds.Assign ∷ right_words right rest
 

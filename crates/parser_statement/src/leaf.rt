@@ -7,24 +7,24 @@ ghost use Rattle.syntax.specs.Tree.{Alone, Return};
 ghost use Rattle.syntax.specs.View.{name_of, right_of, returned_of, statement_of};
 ghost use Rattle.parser_base.specs.Lexemes.{Mark};
 ghost use Rattle.parser_base.specs.Cursor.{ahead};
-ghost use Rattle.parser_base.specs.Reading.{Gives};
-ghost use Rattle.parser_simple.specs.Reading.{as_one, right, simple};
-ghost use Rattle.parser_statement.specs.Reading.{is_end, ends_statement, begins_returned, returned_value, returned, started, behind_next, typed, untyped, variables, variable, leaf};
+ghost use Rattle.parser_base.specs.Reading.{Gives, as_one};
+ghost use Rattle.parser_simple.specs.Reading.{right, simple};
+ghost use Rattle.parser_statement.specs.Reading.{is_end, ends_statement, returned_value, returned, started, behind_next, typed, untyped, variables, variable, leaf};
 
 use go_text::Span;
 use parser_base::beside::beside;
-use parser_base::cursor::{Cursor, Word, is_builtin};
+use parser_base::cursor::{Cursor, Word};
 use parser_base::expression::{begins, expression};
 use parser_base::fault::ParseFault;
 use parser_base::types::type_at;
 use parser_simple::form::begins_with;
 use parser_simple::place::{name_at, names};
-use parser_simple::right::{arguments, begins_operation, operation, right_behind};
+use parser_simple::right::{arguments, right_behind};
 use parser_simple::simple;
 use scanner::TokenKind;
 use std::alloc::Global;
 use syntax::limits::MAX_ENTRIES;
-use syntax::{Name, ReturnNode, RightNode, StatementNode};
+use syntax::{ExpressionNode, Name, ReturnNode, StatementNode};
 
 /// Whether a statement ends before this mark.
 pub(crate) fn is_end(kind: TokenKind) -> bool
@@ -73,21 +73,6 @@ pub(crate) fn go_statement(
     Ok((StatementNode::Go(function, passed.node), passed.rest))
 }
 
-/// Whether a value or an operation behind `return` can begin here.
-#[tactic(auto, unfolding(crate::specs::Reading::begins_returned))]
-fn begins_return_value(cursor: Cursor<'_>) -> bool
-    ensures { result ≡ begins_returned (ahead cursor.entry) }
-{
-    match cursor.next() {
-        Some((Word::Name(name), _)) if is_builtin(name) => {
-            name == b"make".as_slice() || name == b"len".as_slice() || name == b"cap".as_slice()
-        }
-        Some((Word::Name(_), _)) => true,
-        Some((Word::Mark(TokenKind::Arrow), _)) => true,
-        _ => begins(cursor),
-    }
-}
-
 /// A value behind `return`, of at most so many levels.
 #[tactic(auto, unfolding(crate::specs::Reading::returned_value))]
 fn return_value(
@@ -98,15 +83,10 @@ fn return_value(
     ensures { Gives (λ x. (returned_of x.0, ahead x.1)) result (returned_value MAX_ENTRIES room (ahead cursor.entry)) }
 {
     if room == 0 {
-        if begins_return_value(cursor) {
+        if begins(cursor) {
             return Err(ParseFault::TooDeep(cursor.place()));
         }
         return Err(ParseFault::Syntax(cursor.place()));
-    }
-    if begins_operation(cursor) {
-        let found = operation(alloc, true, room - 1, cursor)?;
-        let operation = Box::new(alloc, found.node)?;
-        return Ok((ReturnNode::Operation(operation), found.rest));
     }
     let found = expression(alloc, true, room, 0, cursor)?;
     Ok((ReturnNode::Value(found.node), found.rest))
@@ -145,14 +125,14 @@ fn initial_values(
     alloc: Global,
     room: u32,
     cursor: Cursor<'_>,
-) -> Result<(Option<RightNode>, Cursor<'_>), ParseFault>
+) -> Result<(Option<Vec<ExpressionNode>>, Cursor<'_>), ParseFault>
     ensures { Gives (λ x. (option_map right_of x.0, ahead x.1)) result (behind_next kinds.Assign (right true MAX_ENTRIES room) (ahead cursor.entry)) }
 {
     if !begins_with(TokenKind::Assign, cursor) {
         return Ok((None, cursor));
     }
-    let found = right_behind(alloc, true, room, TokenKind::Assign, cursor)?;
-    Ok((Some(found.node), found.rest))
+    let (values, rest) = right_behind(alloc, true, room, TokenKind::Assign, cursor)?;
+    Ok((Some(values), rest))
 }
 
 /// The type of these names, which a `var` declares, and their values, if there are any.
@@ -183,11 +163,11 @@ fn untyped_var(
 ) -> Result<(StatementNode, Cursor<'_>), ParseFault>
     ensures { Gives (λ x. (statement_of x.0, ahead x.1)) result (untyped (map name_of names.items) MAX_ENTRIES room (ahead cursor.entry)) }
 {
-    let (names, found) = beside(
+    let (names, (values, rest)) = beside(
         names,
         right_behind(alloc, true, room, TokenKind::Assign, cursor),
     )?;
-    Ok((StatementNode::Untyped(names, found.node), found.rest))
+    Ok((StatementNode::Untyped(names, values), rest))
 }
 
 /// The names behind a `var`, and their type or values.

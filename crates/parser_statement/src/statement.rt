@@ -7,8 +7,7 @@ ghost use Rattle.syntax.specs.Measures.{SelectClauses};
 ghost use Rattle.syntax.specs.View.{comm_of, statement_of, body_of, clauses};
 ghost use Rattle.parser_base.specs.Lexemes.{Mark};
 ghost use Rattle.parser_base.specs.Cursor.{ahead};
-ghost use Rattle.parser_base.specs.Reading.{Gives, Fails, Syntax, TooMany, listed};
-ghost use Rattle.parser_simple.specs.Reading.{as_one};
+ghost use Rattle.parser_base.specs.Reading.{Gives, Fails, Syntax, TooMany, listed, as_one};
 ghost use Rattle.parser_statement.specs.Reading.{statement_next, clause_next, next_of, clauses_next, waited, clause_body, other, otherwise, branched, repeated, one_clause, no_clause, selected, marked, stated, statement, block, branch, clause};
 ghost use Rattle.parser_statement.specs.Views.{branch_of, otherwise_of, clause_of};
 

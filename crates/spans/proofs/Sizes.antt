@@ -3,11 +3,11 @@ use Rattle.std.proofs.Common.{◌≡◌, ℕ, ◌+◌, ◌*◌, Option, Some, No
 use Rattle.std.proofs.lemmas.List.Sums.{sum_by-cons}
 use Rattle.go_text.specs.declared.place.Span.{Span}
 use Rattle.scanner.specs.declared.token.Token.{Token}
-use Rattle.syntax.specs.Tree.{TypeExpression, NamedType, ParenthesizedType, Channel, Expression, Integer, Named, Parenthesized, Selection, Composite, Unary, Binary, Expressions, NoMore, Behind, expressions, Arguments, Operation, Call, Receive, Make, Length, Capacity, Right, RightOperation, Values, Place, Part, Value, Text, Simple, CallAlone, Close, Print, ReceiveAlone, Send, Increment, Decrement, Assign, Define, Update, IfHead, Bare, Semicolon, First, Target, NoTarget, DefineTarget, AssignTarget, ForHead, Forever, While, ForClauses, Range, Comm, CommSend, CommReceive, CommDefine, CommAssign, Returned, NoValue, ReturnedOperation, ReturnedValue, Statement, Empty, Alone, VarTyped, VarUntyped, Block, If, For, Select, Go, Return, Break, Continue, Statements, NoStatement, Then, Otherwise, Branch, Conditional, NoElse, ElseBlock, ElseIf, Clauses, NoClause, Clause, Declared, Top, StructTop, FunctionTop, File}
-use Rattle.syntax.specs.Measures.{type_size, expression_size, expressions_size, arguments_size, operation_size, right_size, part_size, simple_size, if_head_size, target_size, for_head_size, comm_size, if_any, returned_size, statement_size, statements_size, branch_size, otherwise_size, clauses_size, declared_size, top_size, size}
+use Rattle.syntax.specs.Tree.{TypeExpression, NamedType, ParenthesizedType, Channel, Expression, Integer, Named, Parenthesized, Selection, Composite, Unary, Binary, Call, Receive, Make, MakeSized, Length, Capacity, Expressions, NoMore, Behind, expressions, Arguments, Place, Part, Value, Text, Simple, CallAlone, Close, Print, ReceiveAlone, Send, Increment, Decrement, Assign, Define, Update, IfHead, Bare, Semicolon, First, Target, NoTarget, DefineTarget, AssignTarget, ForHead, Forever, While, ForClauses, Range, Comm, CommSend, CommReceive, CommDefine, CommAssign, Returned, NoValue, ReturnedValue, Statement, Empty, Alone, VarTyped, VarUntyped, Block, If, For, Select, Go, Return, Break, Continue, Statements, NoStatement, Then, Otherwise, Branch, Conditional, NoElse, ElseBlock, ElseIf, Clauses, NoClause, Clause, Declared, Top, StructTop, FunctionTop, File}
+use Rattle.syntax.specs.Measures.{type_size, expression_size, expressions_size, arguments_size, part_size, simple_size, if_head_size, target_size, for_head_size, comm_size, if_any, returned_size, statement_size, statements_size, branch_size, otherwise_size, clauses_size, declared_size, top_size, size}
 use Rattle.syntax.proofs.Lists.{expressions_size-of}
 use Rattle.spans.specs.Words.{joined, braced, direction_count, type_count, expression_count, place_count, place_step, part_step, simple_count, if_head_count, target_count, for_head_count, second_name_count, start_count, statement_count, body_count, clause_count, group_step, groups_count, top_step}
-use Rattle.spans.specs.Places.{type_spans, expression_spans, values_spans, arguments_spans, size_spans, below_operation, operation_spans, right_spans, part_spans, parts_spans, places_spans, below_simple, simple_spans, optional_spans, if_head_spans, target_spans, for_head_spans, receive_spans, below_comm, start_spans, initial_spans, returned_spans, statement_spans, body_spans, branch_spans, otherwise_spans, clauses_spans, group_spans, groups_spans, top_spans, tops_spans, file_spans}
+use Rattle.spans.specs.Places.{type_spans, expression_spans, values_spans, arguments_spans, right_spans, part_spans, parts_spans, places_spans, below_simple, simple_spans, optional_spans, if_head_spans, target_spans, for_head_spans, receive_spans, below_comm, start_spans, initial_spans, returned_spans, statement_spans, body_spans, branch_spans, otherwise_spans, clauses_spans, group_spans, groups_spans, top_spans, tops_spans, file_spans}
 
 -- ---- types and expressions
 
@@ -32,6 +32,18 @@ mutual
       omega (arith, length-append {A = Span}, length-expression_spans tokens (at + 1) operand)
   length-expression_spans tokens at (Binary operator left right) =
       omega (arith, length-append {A = Span}, length-expression_spans tokens at left, length-expression_spans tokens (at + expression_count left + 1) right)
+  length-expression_spans tokens at (Call function values trailing) =
+      omega (arith, length-append {A = Span}, length-values_spans tokens (at + 2) values)
+  length-expression_spans tokens at (Receive channel) =
+      omega (arith, length-append {A = Span}, length-expression_spans tokens (at + 1) channel)
+  length-expression_spans tokens at (Make channel) =
+      omega (arith, length-append {A = Span}, length-type_spans tokens (at + 2) channel)
+  length-expression_spans tokens at (MakeSized channel size) =
+      omega (arith, length-append {A = Span}, length-type_spans tokens (at + 2) channel, length-expression_spans tokens (at + 2 + type_count channel + 1) size)
+  length-expression_spans tokens at (Length channel) =
+      omega (arith, length-append {A = Span}, length-expression_spans tokens (at + 2) channel)
+  length-expression_spans tokens at (Capacity channel) =
+      omega (arith, length-append {A = Span}, length-expression_spans tokens (at + 2) channel)
 
   length-values_spans : (tokens : List Token) (at : ℕ) (es : Expressions) → length (values_spans tokens at es) ≡ expressions_size es
   length-values_spans tokens at NoMore = refl
@@ -44,24 +56,8 @@ length-arguments_spans : (tokens : List Token) (at : ℕ) (arguments : Arguments
 length-arguments_spans tokens at arguments =
     omega (arith, length-values_spans tokens (at + 1) (expressions arguments.values), expressions_size-of arguments.values)
 
-length-size_spans : (tokens : List Token) (at : ℕ) (buffer : Option Expression) → length (size_spans tokens at buffer) ≡ if_any expression_size buffer
-length-size_spans tokens at None = refl
-length-size_spans tokens at (Some buffer) = length-expression_spans tokens (at + 1) buffer
-
-length-below_operation : (tokens : List Token) (at : ℕ) (o : Operation) → length (below_operation tokens at o) + 1 ≡ operation_size o
-length-below_operation tokens at (Call function arguments) = omega (arith, length-arguments_spans tokens (at + 1) arguments)
-length-below_operation tokens at (Receive channel) = omega (arith, length-expression_spans tokens (at + 1) channel)
-length-below_operation tokens at (Make channel buffer) =
-    omega (arith, length-append {A = Span}, length-type_spans tokens (at + 2) channel, length-size_spans tokens (at + 2 + type_count channel) buffer)
-length-below_operation tokens at (Length channel) = omega (arith, length-expression_spans tokens (at + 2) channel)
-length-below_operation tokens at (Capacity channel) = omega (arith, length-expression_spans tokens (at + 2) channel)
-
-length-operation_spans : (tokens : List Token) (at : ℕ) (o : Operation) → length (operation_spans tokens at o) ≡ operation_size o
-length-operation_spans tokens at o = omega (arith, length-append {A = Span}, length-below_operation tokens at o)
-
-length-right_spans : (tokens : List Token) (at : ℕ) (r : Right) → length (right_spans tokens at r) ≡ right_size r
-length-right_spans tokens at (RightOperation operation) = length-operation_spans tokens at operation
-length-right_spans tokens at (Values values) =
+length-right_spans : (tokens : List Token) (at : ℕ) (values : List Expression) → length (right_spans tokens at values) ≡ sum_by expression_size values
+length-right_spans tokens at values =
     omega (arith, length-values_spans tokens at (expressions values), expressions_size-of values)
 
 -- ---- simple statements
@@ -150,13 +146,12 @@ length-start_spans tokens at (Some comm) = omega (arith, length-append {A = Span
 
 -- ---- statements
 
-length-initial_spans : (tokens : List Token) (at : ℕ) (right : Option Right) → length (initial_spans tokens at right) ≡ if_any right_size right
+length-initial_spans : (tokens : List Token) (at : ℕ) (right : Option (List Expression)) → length (initial_spans tokens at right) ≡ if_any (sum_by expression_size) right
 length-initial_spans tokens at None = refl
 length-initial_spans tokens at (Some right) = length-right_spans tokens (at + 1) right
 
 length-returned_spans : (tokens : List Token) (at : ℕ) (returned : Returned) → length (returned_spans tokens at returned) ≡ returned_size returned
 length-returned_spans tokens at NoValue = refl
-length-returned_spans tokens at (ReturnedOperation operation) = length-operation_spans tokens at operation
 length-returned_spans tokens at (ReturnedValue value) = length-expression_spans tokens at value
 
 mutual

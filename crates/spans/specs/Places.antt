@@ -6,8 +6,8 @@
 use Rattle.std.specs.Prelude.{ℕ, zero, suc, ◌+◌, ◌*◌, length, sum_by, Option, Some, None, List, [], ◌∷◌, ◌++◌, slice_get}
 use Rattle.go_text.specs.declared.place.Span.{Span}
 use Rattle.scanner.specs.declared.token.Token.{Token}
-use Rattle.syntax.specs.Tree.{TypeExpression, NamedType, ParenthesizedType, Channel, Expression, Integer, Named, Parenthesized, Selection, Composite, Unary, Binary, Expressions, NoMore, Behind, expressions, Arguments, Operation, Call, Receive, Make, Length, Capacity, Right, RightOperation, Values, Place, Part, Value, Text, Simple, CallAlone, Close, Print, ReceiveAlone, Send, Increment, Decrement, Assign, Define, Update, IfHead, Bare, Semicolon, First, Target, NoTarget, DefineTarget, AssignTarget, ForHead, Forever, While, ForClauses, Range, Comm, CommSend, CommReceive, CommDefine, CommAssign, Returned, NoValue, ReturnedOperation, ReturnedValue, Statement, Empty, Alone, VarTyped, VarUntyped, Block, If, For, Select, Go, Return, Break, Continue, Statements, NoStatement, Then, Otherwise, Branch, Conditional, NoElse, ElseBlock, ElseIf, Clauses, NoClause, Clause, Declared, Function, Top, StructTop, FunctionTop, File}
-use Rattle.spans.specs.Words.{joined, braced, direction_count, type_count, expression_count, operation_count, place_count, place_step, part_step, simple_count, if_head_count, target_count, for_head_count, second_count, second_name_count, comm_count, start_count, statement_count, body_count, branch_count, clause_count, group_count, group_step, groups_count, top_count, top_step, file_count}
+use Rattle.syntax.specs.Tree.{TypeExpression, NamedType, ParenthesizedType, Channel, Expression, Integer, Named, Parenthesized, Selection, Composite, Unary, Binary, Call, Receive, Make, MakeSized, Length, Capacity, Expressions, NoMore, Behind, expressions, Arguments, Place, Part, Value, Text, Simple, CallAlone, Close, Print, ReceiveAlone, Send, Increment, Decrement, Assign, Define, Update, IfHead, Bare, Semicolon, First, Target, NoTarget, DefineTarget, AssignTarget, ForHead, Forever, While, ForClauses, Range, Comm, CommSend, CommReceive, CommDefine, CommAssign, Returned, NoValue, ReturnedValue, Statement, Empty, Alone, VarTyped, VarUntyped, Block, If, For, Select, Go, Return, Break, Continue, Statements, NoStatement, Then, Otherwise, Branch, Conditional, NoElse, ElseBlock, ElseIf, Clauses, NoClause, Clause, Declared, Function, Top, StructTop, FunctionTop, File}
+use Rattle.spans.specs.Words.{joined, braced, direction_count, type_count, expression_count, place_count, place_step, part_step, simple_count, if_head_count, target_count, for_head_count, second_count, second_name_count, comm_count, start_count, statement_count, body_count, branch_count, clause_count, group_count, group_step, groups_count, top_count, top_step, file_count}
 use Rattle.syntax.specs.Measures.{if_any}
 
 abbrev pub from_of : Option Token → ℕ
@@ -65,6 +65,21 @@ abbrev mutual
   expression_spans tokens at (Binary operator left right) =
       under (expression_spans tokens at left ++ expression_spans tokens (at + expression_count left + 1) right)
       (over tokens at (expression_count (Binary operator left right)))
+  -- function ( values )
+  expression_spans tokens at (Call function values trailing) =
+      under (values_spans tokens (at + 2) values) (over tokens at (expression_count (Call function values trailing)))
+  -- <- channel
+  expression_spans tokens at (Receive channel) = under (expression_spans tokens (at + 1) channel) (over tokens at (expression_count (Receive channel)))
+  -- make ( channel )
+  expression_spans tokens at (Make channel) = under (type_spans tokens (at + 2) channel) (over tokens at (expression_count (Make channel)))
+  -- make ( channel , size )
+  expression_spans tokens at (MakeSized channel size) =
+      under (type_spans tokens (at + 2) channel ++ expression_spans tokens (at + 2 + type_count channel + 1) size)
+      (over tokens at (expression_count (MakeSized channel size)))
+  -- len ( channel )
+  expression_spans tokens at (Length channel) = under (expression_spans tokens (at + 2) channel) (over tokens at (expression_count (Length channel)))
+  -- cap ( channel )
+  expression_spans tokens at (Capacity channel) = under (expression_spans tokens (at + 2) channel) (over tokens at (expression_count (Capacity channel)))
 
   -- expressions with a mark behind each
   pub values_spans : List Token → ℕ → Expressions → List Span
@@ -78,34 +93,9 @@ abbrev mutual
 abbrev pub arguments_spans : List Token → ℕ → Arguments → List Span
 arguments_spans tokens at arguments = values_spans tokens (at + 1) (expressions arguments.values)
 
--- , size
-abbrev pub size_spans : List Token → ℕ → Option Expression → List Span
-size_spans tokens at None = []
-size_spans tokens at (Some size) = expression_spans tokens (at + 1) size
-
-abbrev pub below_operation : List Token → ℕ → Operation → List Span
--- function ( values )
-below_operation tokens at (Call function arguments) = arguments_spans tokens (at + 1) arguments
--- <- channel
-below_operation tokens at (Receive channel) = expression_spans tokens (at + 1) channel
--- make ( channel , size )
-below_operation tokens at (Make channel size) =
-    type_spans tokens (at + 2) channel
-    ++ size_spans tokens (at + 2 + type_count channel) size
--- len ( channel )
-below_operation tokens at (Length channel) = expression_spans tokens (at + 2) channel
--- cap ( channel )
-below_operation tokens at (Capacity channel) = expression_spans tokens (at + 2) channel
-
-abbrev pub operation_spans : List Token → ℕ → Operation → List Span
-operation_spans tokens at operation =
-    under (below_operation tokens at operation)
-    (over tokens at (operation_count operation))
-
--- an operation, or values with commas between them
-abbrev pub right_spans : List Token → ℕ → Right → List Span
-right_spans tokens at (RightOperation operation) = operation_spans tokens at operation
-right_spans tokens at (Values values) = values_spans tokens at (expressions values)
+-- values with commas between them
+abbrev pub right_spans : List Token → ℕ → List Expression → List Span
+right_spans tokens at values = values_spans tokens at (expressions values)
 
 -- ---- simple statements
 
@@ -144,12 +134,12 @@ below_simple tokens at (Send channel value) =
 below_simple tokens at (Increment place) = place_span tokens at place ∷ []
 -- place --
 below_simple tokens at (Decrement place) = place_span tokens at place ∷ []
--- places = right
-below_simple tokens at (Assign places right) =
+-- places = values
+below_simple tokens at (Assign places values) =
     places_spans tokens at places
-    ++ right_spans tokens (at + sum_by place_step places) right
--- names := right
-below_simple tokens at (Define names right) = right_spans tokens (at + length names * 2) right
+    ++ right_spans tokens (at + sum_by place_step places) values
+-- names := values
+below_simple tokens at (Define names values) = right_spans tokens (at + length names * 2) values
 -- place += value
 below_simple tokens at (Update place operator value) =
     place_span tokens at place
@@ -239,15 +229,14 @@ with_clause tokens at comm body below =
 
 -- ---- statements
 
--- = right
-abbrev pub initial_spans : List Token → ℕ → Option Right → List Span
+-- = values
+abbrev pub initial_spans : List Token → ℕ → Option (List Expression) → List Span
 initial_spans tokens at None = []
-initial_spans tokens at (Some right) = right_spans tokens (at + 1) right
+initial_spans tokens at (Some values) = right_spans tokens (at + 1) values
 
 -- what follows a `return`
 abbrev pub returned_spans : List Token → ℕ → Returned → List Span
 returned_spans tokens at NoValue = []
-returned_spans tokens at (ReturnedOperation operation) = operation_spans tokens at operation
 returned_spans tokens at (ReturnedValue value) = expression_spans tokens at value
 
 -- a block whose statements have these nodes: these, and the block; its `{` has the number `at`
@@ -259,15 +248,15 @@ abbrev mutual
   -- the empty statement has no token: it stands where the next one begins
   statement_spans tokens at Empty = over tokens at 0 ∷ []
   statement_spans tokens at (Alone simple) = simple_spans tokens at simple
-  -- var names kind = right
-  statement_spans tokens at (VarTyped names kind right) =
+  -- var names kind = values
+  statement_spans tokens at (VarTyped names kind values) =
       let behind_names = at + 1 + joined (length names * 2) in
-      under (type_spans tokens behind_names kind ++ initial_spans tokens (behind_names + type_count kind) right)
-      (over tokens at (statement_count (VarTyped names kind right)))
-  -- var names = right
-  statement_spans tokens at (VarUntyped names right) =
-      under (right_spans tokens (at + 1 + length names * 2) right)
-      (over tokens at (statement_count (VarUntyped names right)))
+      under (type_spans tokens behind_names kind ++ initial_spans tokens (behind_names + type_count kind) values)
+      (over tokens at (statement_count (VarTyped names kind values)))
+  -- var names = values
+  statement_spans tokens at (VarUntyped names values) =
+      under (right_spans tokens (at + 1 + length names * 2) values)
+      (over tokens at (statement_count (VarUntyped names values)))
   -- { body }
   statement_spans tokens at (Block body) =
       under (with_block tokens at body (body_spans tokens (at + 1) body))

@@ -2,7 +2,7 @@
 use Rattle.std.specs.Prelude.{ℕ, ◌+◌, ◌-◌, ◌*◌, ◌^◌, ◌<◌, Bool, true, false, Option, Some, None, List, length, sum_by}
 use Rattle.syntax.specs.declared.node.Direction.{Direction}
 use Rattle.syntax.specs.declared.node.Direction.TheVariants as directions
-use Rattle.syntax.specs.Tree.{TypeExpression, NamedType, ParenthesizedType, Channel, Expression, Integer, Named, Parenthesized, Selection, Composite, Unary, Binary, Expressions, NoMore, Behind, expressions, Arguments, Operation, Call, Receive, Make, Length, Capacity, Right, RightOperation, Values, Place, Part, Value, Text, Simple, CallAlone, Close, Print, ReceiveAlone, Send, Increment, Decrement, Assign, Define, Update, IfHead, Bare, Semicolon, First, Target, NoTarget, DefineTarget, AssignTarget, ForHead, Forever, While, ForClauses, Range, Comm, CommSend, CommReceive, CommDefine, CommAssign, Returned, NoValue, ReturnedOperation, ReturnedValue, Statement, Empty, Alone, VarTyped, VarUntyped, Block, If, For, Select, Go, Return, Break, Continue, Statements, NoStatement, Then, Otherwise, Branch, Conditional, NoElse, ElseBlock, ElseIf, Clauses, NoClause, Clause, Declared, Top, StructTop, FunctionTop, File}
+use Rattle.syntax.specs.Tree.{TypeExpression, NamedType, ParenthesizedType, Channel, Expression, Integer, Named, Parenthesized, Selection, Composite, Unary, Binary, Call, Receive, Make, MakeSized, Length, Capacity, Expressions, NoMore, Behind, expressions, Arguments, Place, Part, Value, Text, Simple, CallAlone, Close, Print, ReceiveAlone, Send, Increment, Decrement, Assign, Define, Update, IfHead, Bare, Semicolon, First, Target, NoTarget, DefineTarget, AssignTarget, ForHead, Forever, While, ForClauses, Range, Comm, CommSend, CommReceive, CommDefine, CommAssign, Returned, NoValue, ReturnedValue, Statement, Empty, Alone, VarTyped, VarUntyped, Block, If, For, Select, Go, Return, Break, Continue, Statements, NoStatement, Then, Otherwise, Branch, Conditional, NoElse, ElseBlock, ElseIf, Clauses, NoClause, Clause, Declared, Top, StructTop, FunctionTop, File}
 use Rattle.syntax.specs.Measures.{if_any}
 
 -- So many tokens from the one with the number `at` on end before number 2^40: their numbers can be added.
@@ -46,6 +46,12 @@ abbrev mutual
   expression_count (Composite name values trailing) = joined (values_count values) + trailing_count trailing + 3
   expression_count (Unary operator operand) = expression_count operand + 1
   expression_count (Binary operator left right) = expression_count left + expression_count right + 1
+  expression_count (Call function values trailing) = joined (values_count values) + trailing_count trailing + 3
+  expression_count (Receive channel) = expression_count channel + 1
+  expression_count (Make channel) = type_count channel + 3
+  expression_count (MakeSized channel size) = type_count channel + expression_count size + 4
+  expression_count (Length channel) = expression_count channel + 3
+  expression_count (Capacity channel) = expression_count channel + 3
 
   -- each of these, and the mark behind it
   pub values_count : Expressions → ℕ
@@ -58,21 +64,9 @@ abbrev mutual
 abbrev pub arguments_count : Arguments → ℕ
 arguments_count arguments = joined (values_count (expressions arguments.values)) + trailing_count arguments.trailing + 2
 
--- the size of a channel's buffer, and the comma before it
-abbrev pub size_count : Option Expression → ℕ
-size_count None = 0
-size_count (Some size) = expression_count size + 1
-
-abbrev pub operation_count : Operation → ℕ
-operation_count (Call function arguments) = arguments_count arguments + 1
-operation_count (Receive channel) = expression_count channel + 1
-operation_count (Make channel size) = type_count channel + size_count size + 3
-operation_count (Length channel) = expression_count channel + 3
-operation_count (Capacity channel) = expression_count channel + 3
-
-abbrev pub right_count : Right → ℕ
-right_count (RightOperation operation) = operation_count operation
-right_count (Values values) = joined (values_count (expressions values))
+-- the values of a right side, with commas between them
+abbrev pub right_count : List Expression → ℕ
+right_count values = joined (values_count (expressions values))
 
 -- a name, and fields each behind a period
 abbrev pub place_count : Place → ℕ
@@ -98,8 +92,8 @@ simple_count (ReceiveAlone channel) = expression_count channel + 1
 simple_count (Send channel value) = expression_count channel + expression_count value + 1
 simple_count (Increment place) = place_count place + 1
 simple_count (Decrement place) = place_count place + 1
-simple_count (Assign places right) = sum_by place_step places + right_count right
-simple_count (Define names right) = length names * 2 + right_count right
+simple_count (Assign places values) = sum_by place_step places + right_count values
+simple_count (Define names values) = length names * 2 + right_count values
 simple_count (Update place operator value) = place_count place + expression_count value + 1
 
 -- ---- headers
@@ -144,15 +138,14 @@ comm_count (CommAssign item ok channel) = place_count item + second_count ok + e
 -- what follows a `return`
 abbrev pub returned_count : Returned → ℕ
 returned_count NoValue = 0
-returned_count (ReturnedOperation operation) = operation_count operation
 returned_count (ReturnedValue value) = expression_count value
 
 -- ---- statements
 
 -- the values of a `var` with a type, and the `=` before them
-abbrev pub initial_count : Option Right → ℕ
+abbrev pub initial_count : Option (List Expression) → ℕ
 initial_count None = 0
-initial_count (Some right) = right_count right + 1
+initial_count (Some values) = right_count values + 1
 
 -- a clause of a select up to its colon
 abbrev pub start_count : Option Comm → ℕ
@@ -163,8 +156,8 @@ abbrev mutual
   pub statement_count : Statement → ℕ
   statement_count Empty = 0
   statement_count (Alone simple) = simple_count simple
-  statement_count (VarTyped names kind right) = joined (length names * 2) + type_count kind + initial_count right + 1
-  statement_count (VarUntyped names right) = length names * 2 + right_count right + 1
+  statement_count (VarTyped names kind values) = joined (length names * 2) + type_count kind + initial_count values + 1
+  statement_count (VarUntyped names values) = length names * 2 + right_count values + 1
   statement_count (Block body) = braced (body_count body)
   statement_count (If branch) = branch_count branch
   statement_count (For head body) = for_head_count head + braced (body_count body) + 1

@@ -9,12 +9,12 @@ ghost use Rattle.spans.specs.Places.{optional_spans, expression_spans, simple_sp
 
 use crate::expression::expression_spans;
 use crate::over::add_node;
-use crate::simple::{operation_spans, place_span, right_spans, send_spans, simple_spans};
+use crate::simple::{place_span, right_spans, send_spans, simple_spans};
 use go_text::{Memory, Span};
 use scanner::Token;
 use syntax::{
     CommNode, ExpressionNode, ForHeader, IfHeader, Name, PlaceNode, RangeTarget, ReturnNode,
-    RightNode, SimpleNode,
+    SimpleNode,
 };
 
 /// Adds the spans of what stands between an `if` and its condition.
@@ -245,7 +245,7 @@ pub(crate) fn start_spans(
 
 /// Adds the spans of the values of a `var` with a type, if there are any, behind a `=`.
 pub(crate) fn initial_spans(
-    right: &Option<RightNode>,
+    right: &Option<Vec<ExpressionNode>>,
     tokens: &[Token],
     at: usize,
     spans: &mut Vec<Span>,
@@ -273,7 +273,6 @@ pub(crate) fn returned_spans(
 {
     match returned {
         ReturnNode::Nothing => Ok(0),
-        ReturnNode::Operation(operation) => operation_spans(operation, tokens, at, spans),
         ReturnNode::Value(value) => expression_spans(value, tokens, at, spans),
     }
 }

@@ -1,18 +1,15 @@
 //! Where the nodes of simple statements stand.
 
-ghost use Rattle.std.specs.Prelude.{◌≡◌, ◌+◌, ◌++◌, ◌∷◌, [], IfOk, map, option_map, sum_by};
-ghost use Rattle.syntax.specs.View.{arguments_of, expression_of, operation_of, right_of, part_of, place_of, simple_of};
-ghost use Rattle.spans.specs.Words.{EndsInReach, joined, arguments_count, size_count, operation_count, right_count, place_count, place_step, part_count, part_step, simple_count, expression_count, trailing_count as trailing_of};
-ghost use Rattle.spans.specs.Places.{under, expression_spans, arguments_spans, size_spans, operation_spans, right_spans, place_span, places_spans, part_spans, parts_spans, below_simple, simple_spans};
+ghost use Rattle.std.specs.Prelude.{◌≡◌, ◌+◌, ◌++◌, ◌∷◌, [], IfOk, map, sum_by};
+ghost use Rattle.syntax.specs.View.{arguments_of, expression_of, right_of, part_of, place_of, simple_of};
+ghost use Rattle.spans.specs.Words.{EndsInReach, joined, arguments_count, right_count, place_count, place_step, part_count, part_step, simple_count, expression_count, trailing_count as trailing_of};
+ghost use Rattle.spans.specs.Places.{under, expression_spans, arguments_spans, right_spans, place_span, places_spans, part_spans, parts_spans, below_simple, simple_spans};
 
 use crate::expression::{expression_spans, trailing_count, values_spans};
 use crate::over::add_node;
-use crate::types::type_spans;
 use go_text::{Memory, Span};
 use scanner::Token;
-use syntax::{
-    ArgumentsNode, ExpressionNode, OperationNode, PartNode, PlaceNode, RightNode, SimpleNode,
-};
+use syntax::{ArgumentsNode, ExpressionNode, PartNode, PlaceNode, SimpleNode};
 
 /// Adds the spans of arguments in parentheses.
 pub(crate) fn arguments_spans(
@@ -29,66 +26,19 @@ pub(crate) fn arguments_spans(
     Ok(count.saturating_sub(1) + trailing_count(arguments.trailing) + 2)
 }
 
-/// Adds the spans of a buffer's size, if there is one, behind a comma.
-fn size_spans(
-    size: &Option<ExpressionNode>,
-    tokens: &[Token],
-    at: usize,
-    spans: &mut Vec<Span>,
-) -> Result<usize, Memory>
-    requires { EndsInReach at (size_count (option_map expression_of size.now)) }
-    ensures count { IfOk result (λ count. count ≡ size_count (option_map expression_of size.now)) }
-    ensures spans { IfOk result (λ _. spans.new.items ≡ spans.old.items ++ size_spans tokens.now at (option_map expression_of size.now)) }
-{
-    match size {
-        None => Ok(0),
-        Some(size) => Ok(expression_spans(size, tokens, at + 1, spans)? + 1),
-    }
-}
-
-/// Adds the spans of an operation.
-pub(crate) fn operation_spans(
-    operation: &OperationNode,
-    tokens: &[Token],
-    at: usize,
-    spans: &mut Vec<Span>,
-) -> Result<usize, Memory>
-    requires { EndsInReach at (operation_count (operation_of operation.now)) }
-    ensures count { IfOk result (λ count. count ≡ operation_count (operation_of operation.now)) }
-    ensures spans { IfOk result (λ _. spans.new.items ≡ spans.old.items ++ operation_spans tokens.now at (operation_of operation.now)) }
-{
-    let count = match operation {
-        OperationNode::Call(_, arguments) => arguments_spans(arguments, tokens, at + 1, spans)? + 1,
-        OperationNode::Receive(channel) => expression_spans(channel, tokens, at + 1, spans)? + 1,
-        OperationNode::Make(channel, size) => {
-            let count = type_spans(channel, tokens, at + 2, spans)?;
-            count + size_spans(size, tokens, at + 2 + count, spans)? + 3
-        }
-        OperationNode::Length(channel) | OperationNode::Capacity(channel) => {
-            expression_spans(channel, tokens, at + 2, spans)? + 3
-        }
-    };
-    add_node(tokens, at, count, spans)
-}
-
-/// Adds the spans of an assignment's right side.
+/// Adds the spans of the values of a right side.
 pub(crate) fn right_spans(
-    right: &RightNode,
+    values: &Vec<ExpressionNode>,
     tokens: &[Token],
     at: usize,
     spans: &mut Vec<Span>,
 ) -> Result<usize, Memory>
-    requires { EndsInReach at (right_count (right_of right.now)) }
-    ensures count { IfOk result (λ count. count ≡ right_count (right_of right.now)) }
-    ensures spans { IfOk result (λ _. spans.new.items ≡ spans.old.items ++ right_spans tokens.now at (right_of right.now)) }
+    requires { EndsInReach at (right_count (right_of values.now)) }
+    ensures count { IfOk result (λ count. count ≡ right_count (right_of values.now)) }
+    ensures spans { IfOk result (λ _. spans.new.items ≡ spans.old.items ++ right_spans tokens.now at (right_of values.now)) }
 {
-    match right {
-        RightNode::Operation(operation) => operation_spans(operation, tokens, at, spans),
-        RightNode::Values(values) => {
-            let count = values_spans(values.as_slice(), tokens, at, spans)?;
-            Ok(count.saturating_sub(1))
-        }
-    }
+    let count = values_spans(values.as_slice(), tokens, at, spans)?;
+    Ok(count.saturating_sub(1))
 }
 
 /// Adds the spans of an argument of a print.
@@ -193,7 +143,7 @@ pub(crate) fn send_spans(
 /// Adds the spans of the nodes below an assignment.
 fn assignment_spans(
     places: &[PlaceNode],
-    right: &RightNode,
+    right: &Vec<ExpressionNode>,
     tokens: &[Token],
     at: usize,
     spans: &mut Vec<Span>,

@@ -1,14 +1,15 @@
-use Rattle.std.proofs.Common.{◌-◌, ◌<◌, ◌≤◌, is_ok, map, refl, ap, sym, arith}
+use Rattle.std.proofs.Common.{◌≡◌, ◌-◌, ◌<◌, ◌≤◌, is_ok, map, refl, ap, sym, arith}
 use Rattle.std.proofs.ResultArms.{chosen}
 use Rattle.std.proofs.lemmas.Result.{err_from_is_err_and}
 use Rattle.syntax.specs.Measures.{Entries, expression_height}
-use Rattle.syntax.specs.View.{expression_of}
+use Rattle.syntax.specs.View.{type_of, expression_of}
 use Rattle.syntax.proofs.Lists.{expressions_height-of}
 use Rattle.parser_base.specs.Cursor.{ahead}
-use Rattle.parser_base.specs.Reading.{TooMany, value_next, parenthesized, composite, expression}
+use Rattle.parser_base.specs.Reading.{TooMany, value_next, composite, expression, operations}
 use Rattle.parser_base.proofs.Results.{step_fails}
 use Rattle.parser_base.proofs.Lists.{more, ends, one_fails, next_fails, is_full, highest-pushed}
-use Rattle.parser_base.proofs.Operations.{opens, turn_stops, turn_too_high, turn_done, turn_fails}
+use Rattle.parser_base.proofs.Operations.{opens, opens_fails, resumes, turn_stops, turn_too_high, turn_done, turn_fails}
+use Rattle.parser_base.proofs.TypeLaws.{type_sound}
 use Rattle.parser_base.proofs.expression.+expression.Goals as goal
 
 pub applied-returns-in-Period-clause-tree : goal.applied-returns-in-Period-clause-tree
@@ -20,36 +21,57 @@ composite_literal-returns-clause-height t c = (
   omega (arith, c.in_ok-values.ensures.within),
 )
 
-pub measured_expression-loop-init : goal.measured_expression-loop-init
-measured_expression-loop-init t c = record {
-  total = opens c.args.literals 64 c.args.room c.args.least (ahead c.args.cursor) (expression_of c.in_ok-left.left.node) (ahead c.in_ok-left.left.rest) (omega arith) c.in_ok-left.ensures.tree;
-  height = c.in_ok-left.ensures.height.0;
-  within = c.in_ok-left.ensures.height.1;
+pub call-returns-clause-height : goal.call-returns-clause-height
+call-returns-clause-height t c = (
+  omega (arith, ap expression_height c.in_ok-node.ensures.ok, expressions_height-of (map expression_of c.in_ok-values.values.entries.items), c.in_ok-values.ensures.height),
+  omega (arith, c.in_ok-values.ensures.within),
+)
+
+pub make_call-make_of-requires : goal.make_call-make_of-requires
+make_call-make_of-requires t c =
+    let kind = type_sound (c.args.room - 1) (ahead c.in_ok-inside.inside) (type_of c.in_ok-channel.channel.node) (ahead c.in_ok-channel.channel.rest) c.in_ok-channel.ensures in
+    (omega arith, (c.requires, omega (arith, kind.low, c.requires)))
+
+pub measured_expression-returns-clause-tree : goal.measured_expression-returns-clause-tree
+measured_expression-returns-clause-tree t c =
+    rw (opens c.args.literals 64 c.args.room c.args.least (ahead c.args.cursor) (expression_of c.in_ok-left.left.node) (ahead c.in_ok-left.left.rest) (omega arith) c.in_ok-left.ensures.tree) c.resumed_expression.ensures.tree
+
+pub resumed_expression-loop-init : goal.resumed_expression-loop-init
+resumed_expression-loop-init t c = record {
+  total = resumes c.args.literals 64 c.args.room c.args.least (expression_of c.args.left.node) (ahead c.args.left.rest);
+  height = c.requires;
+  within = λ low. low;
 }
 
-pub measured_expression-returns-in_default-clause-tree : goal.measured_expression-returns-in_default-clause-tree
-measured_expression-returns-in_default-clause-tree t c =
+pub resumed_expression-returns-in_default-clause-tree : goal.resumed_expression-returns-in_default-clause-tree
+resumed_expression-returns-in_default-clause-tree t c =
     turn_stops (expression c.args.literals 64 (c.args.room - 1)) c.args.room c.args.least c.args.room c.loop.counter (expression_of c.loop.left.node) (ahead c.loop.left.rest) _ c.loop-test.true (sym (rw c.in_default.is at c.step_at.ensures)) c.loop.invariant.total
 
-pub measured_expression-returns-then-left-room-clause-tree : goal.measured_expression-returns-then-left-room-clause-tree
-measured_expression-returns-then-left-room-clause-tree t c =
+pub resumed_expression-returns-then-left-room-clause-tree : goal.resumed_expression-returns-then-left-room-clause-tree
+resumed_expression-returns-then-left-room-clause-tree t c =
     let high : c.args.room ≤ expression_height (expression_of c.loop.left.node) = omega (arith, c.loop.invariant.height) in
     turn_too_high (expression c.args.literals 64 (c.args.room - 1)) c.args.room c.args.least c.args.room c.loop.counter (expression_of c.loop.left.node) (ahead c.loop.left.rest) c.in-Some.step (ahead c.in-Some.after) _ c.loop-test.true c.in-Some.ensures high c.loop.invariant.total
 
-pub measured_expression-returns-in_err-left-2-clause-tree : goal.measured_expression-returns-in_err-left-2-clause-tree
-measured_expression-returns-in_err-left-2-clause-tree t c =
-    let p = err_from_is_err_and c.from_residual-in_err-left-2.result c.from_residual-in_err-left-2.ensures.1 in
+pub resumed_expression-returns-in_err-left-clause-tree : goal.resumed_expression-returns-in_err-left-clause-tree
+resumed_expression-returns-in_err-left-clause-tree t c =
+    let p = err_from_is_err_and c.from_residual.result c.from_residual.ensures.1 in
     let low : expression_height (expression_of c.loop.left.node) < c.args.room = omega (arith, c.loop.invariant.height) in
-    rw (p.1, p.2) (turn_fails c.in_err-left-2.field-0.0 (expression c.args.literals 64 (c.args.room - 1)) c.args.room c.args.least c.args.room c.loop.counter (expression_of c.loop.left.node) (ahead c.loop.left.rest) c.in-Some.step (ahead c.in-Some.after) _ c.loop-test.true c.in-Some.ensures low c.in_err-left-2.ensures.tree c.loop.invariant.total)
+    rw (p.1, p.2) (turn_fails c.in_err-left.field-0.0 (expression c.args.literals 64 (c.args.room - 1)) c.args.room c.args.least c.args.room c.loop.counter (expression_of c.loop.left.node) (ahead c.loop.left.rest) c.in-Some.step (ahead c.in-Some.after) _ c.loop-test.true c.in-Some.ensures low c.in_err-left.ensures.tree c.loop.invariant.total)
 
-pub measured_expression-loop-preserved : goal.measured_expression-loop-preserved
-measured_expression-loop-preserved t c =
+pub resumed_expression-loop-preserved : goal.resumed_expression-loop-preserved
+resumed_expression-loop-preserved t c =
     let low : expression_height (expression_of c.loop.left.node) < c.args.room = omega (arith, c.loop.invariant.height) in
     record {
-      total = turn_done (expression c.args.literals 64 (c.args.room - 1)) c.args.room c.args.least c.args.room c.loop.counter (expression_of c.loop.left.node) (ahead c.loop.left.rest) c.in-Some.step (ahead c.in-Some.after) (expression_of c.in_ok-left-2.left.node) (ahead c.in_ok-left-2.left.rest) _ c.loop-test.true c.in-Some.ensures low c.in_ok-left-2.ensures.tree c.loop.invariant.total;
-      height = c.in_ok-left-2.ensures.height.0;
-      within = c.in_ok-left-2.ensures.height.1;
+      total = turn_done (expression c.args.literals 64 (c.args.room - 1)) c.args.room c.args.least c.args.room c.loop.counter (expression_of c.loop.left.node) (ahead c.loop.left.rest) c.in-Some.step (ahead c.in-Some.after) (expression_of c.in_ok-left.left.node) (ahead c.in_ok-left.left.rest) _ c.loop-test.true c.in-Some.ensures low c.in_ok-left.ensures.tree c.loop.invariant.total;
+      height = c.in_ok-left.ensures.height.0;
+      within = λ low'. c.in_ok-left.ensures.height.1;
     }
+
+pub resumed_expression-returns-clause-tree : goal.resumed_expression-returns-clause-tree
+unfolding operations
+resumed_expression-returns-clause-tree t c =
+    let none : c.args.room - c.loop.counter ≡ 0 = omega (arith, c.loop-test.false) in
+    sym (rw none at c.loop.invariant.total)
 
 pub expression_list-returns-in_err-found-clause-values : goal.expression_list-returns-in_err-found-clause-values
 expression_list-returns-in_err-found-clause-values t c =
@@ -82,27 +104,6 @@ expression_list-loop-preserved t c =
 
 pub expression_list-returns-clause-values : goal.expression_list-returns-clause-values
 expression_list-returns-clause-values t c = is_full (expression c.args.literals 64 c.args.room 0) (value_next c.args.close) (TooMany Entries) 64 c.loop.counter _ (ahead c.loop.rest) _ c.loop-test.false c.loop.invariant.total
-
-pub parenthesized-returns-in_err-inner-clause-tree : goal.parenthesized-returns-in_err-inner-clause-tree
-unfolding parenthesized
-parenthesized-returns-in_err-inner-clause-tree t c =
-    let p = err_from_is_err_and c.from_residual.result c.from_residual.ensures.1 in
-    rw (p.1, p.2) (step_fails c.in_err-inner.field-0.0 _ _ c.in_err-inner.ensures.tree)
-
-pub parenthesized-returns-in_err-rest-clause-tree : goal.parenthesized-returns-in_err-rest-clause-tree
-unfolding parenthesized
-parenthesized-returns-in_err-rest-clause-tree t c =
-    let p = err_from_is_err_and c.from_residual-in_err-rest.result c.from_residual-in_err-rest.ensures.1 in
-    rw (p.1, p.2, c.in_ok-inner.ensures.tree) (step_fails c.in_err-rest.field-0.0 _ _ c.in_err-rest.ensures)
-
-pub parenthesized-returns-in_err-node-clause-tree : goal.parenthesized-returns-in_err-node-clause-tree
-parenthesized-returns-in_err-node-clause-tree t c =
-    let p = err_from_is_err_and c.from_residual-in_err-node.result c.from_residual-in_err-node.ensures.1 in
-    rw (p.1, p.2, c.in_err-node.ensures.err) refl
-
-pub parenthesized-returns-clause-tree : goal.parenthesized-returns-clause-tree
-unfolding parenthesized
-parenthesized-returns-clause-tree t c = rw (c.in_ok-node.ensures.ok, c.in_ok-inner.ensures.tree, c.in_ok-rest.ensures) refl
 
 pub unary_expression-returns-in_err-operand-clause-tree : goal.unary_expression-returns-in_err-operand-clause-tree
 unary_expression-returns-in_err-operand-clause-tree t c =

@@ -1,6 +1,6 @@
 use Rattle.std.proofs.Common.{refl}
 use Rattle.std.proofs.lemmas.Result.{err_from_is_err_and}
-use Rattle.parser_base.specs.TypeReading.{parenthesized_type, behind_arrow}
+use Rattle.parser_base.specs.Reading.{parenthesized_type, behind_arrow}
 use Rattle.parser_base.proofs.Results.{step_fails}
 use Rattle.parser_base.proofs.types.+type_at.Goals as goal
 

@@ -1,12 +1,13 @@
-use Rattle.std.proofs.Common.{◌≡◌, ◌∷◌, ◌+◌, suc, ℕ, map, drop, arith, drop-cons, [], rules}
+use Rattle.std.proofs.Common.{append_assoc, ◌++◌, ◌≡◌, ◌∷◌, ◌+◌, suc, ℕ, map, drop, arith, drop-cons, [], rules}
 use Rattle.std.proofs.lemmas.List.{append-nil, drop_all}
 use Rattle.syntax.specs.declared.node.ExpressionNode.TheFolds.{the_lemmas}
 use Rattle.syntax.specs.Tree.{expressions}
 use Rattle.syntax.specs.View.{expression_of}
 use Rattle.spans.specs.Words.{expression_count}
-use Rattle.spans.specs.Places.{expression_spans, values_spans}
+use Rattle.spans.specs.Places.{over, under, expression_spans, values_spans}
 use Rattle.spans.proofs.Walks.{next_spans}
 use Rattle.spans.proofs.expression.+expression_spans.Goals as goal
+use Rattle.spans.proofs.expression.+expression_spans.Goals.{expression_spans-in-Parenthesized+in_ok-expression_spans-in-Parenthesized, expression_spans-in-Selection+in_ok-expression_spans-in-Selection, expression_spans-in-Composite+in_ok-count-in-Composite, expression_spans-in-Unary+in_ok-expression_spans-in-Unary, expression_spans-in-Binary+in_ok-left-in-Binary+in_ok-right-in-Binary, expression_spans-in-Make+in_ok-type_spans-in-Make, expression_spans-in-MakeSized+in_ok-channel-in-MakeSized+in_ok-size-in-MakeSized, expression_spans-in-Call+in_ok-count-in-Call, expression_spans-in-Receive+in_ok-expression_spans-in-Receive, expression_spans-in-Length+in_ok-expression_spans-in-Length, expression_spans-in-Capacity+in_ok-expression_spans-in-Capacity, expression_spans-in-Integer, expression_spans-in-Integer-2}
 
 pub values_spans-loop-value-preserved : goal.values_spans-loop-value-preserved
 values_spans-loop-value-preserved t c =
@@ -86,3 +87,41 @@ values_spans-overflow_add-count-in-loop-value t c =
     let cut : drop c.loop-value.value-index c.args.values.now ≡ c.value-item.result ∷ drop (suc c.loop-value.value-index) c.args.values.now =
     rw c.value-item.is (drop-cons c.args.values.now c.loop-value.value-index _ c.loop-value-test.true) in
     omega (arith, c.requires, c.in_ok-count.ensures.count, rw cut at c.loop-value.invariant.0)
+
+pub expression_spans-returns-clause-count : goal.expression_spans-returns-clause-count
+expression_spans-returns-clause-count t c =
+    elim c.match-expression.branch [
+      | expression_spans-in-Parenthesized+in_ok-expression_spans-in-Parenthesized w ↦ search (rules, the_lemmas)
+      | expression_spans-in-Selection+in_ok-expression_spans-in-Selection w ↦ search (rules, the_lemmas)
+      | expression_spans-in-Composite+in_ok-count-in-Composite w ↦ search (rules, the_lemmas)
+      | expression_spans-in-Unary+in_ok-expression_spans-in-Unary w ↦ search (rules, the_lemmas)
+      | expression_spans-in-Binary+in_ok-left-in-Binary+in_ok-right-in-Binary w ↦ search (rules, the_lemmas)
+      | expression_spans-in-Make+in_ok-type_spans-in-Make w ↦ search (rules, the_lemmas)
+      | expression_spans-in-MakeSized+in_ok-channel-in-MakeSized+in_ok-size-in-MakeSized w ↦ search (rules, the_lemmas)
+      | expression_spans-in-Call+in_ok-count-in-Call w ↦ search (rules, the_lemmas)
+      | expression_spans-in-Receive+in_ok-expression_spans-in-Receive w ↦ search (rules, the_lemmas)
+      | expression_spans-in-Length+in_ok-expression_spans-in-Length w ↦ search (rules, the_lemmas)
+      | expression_spans-in-Capacity+in_ok-expression_spans-in-Capacity w ↦ search (rules, the_lemmas)
+      | expression_spans-in-Integer w ↦ search (rules, the_lemmas)
+      | expression_spans-in-Integer-2 w ↦ search (rules, the_lemmas)
+    ]
+
+pub expression_spans-returns-clause-spans : goal.expression_spans-returns-clause-spans
+expression_spans-returns-clause-spans t c =
+    let all : under c.match-expression.spans.items (over c.args.tokens.now c.args.at c.match-expression.count) ≡ c.args.spans.now.items ++ expression_spans c.args.tokens.now c.args.at (expression_of c.args.expression.now) =
+    elim c.match-expression.branch [
+      | expression_spans-in-Parenthesized+in_ok-expression_spans-in-Parenthesized w ↦ search (rules, the_lemmas, append_assoc)
+      | expression_spans-in-Selection+in_ok-expression_spans-in-Selection w ↦ search (rules, the_lemmas, append_assoc)
+      | expression_spans-in-Composite+in_ok-count-in-Composite w ↦ search (rules, the_lemmas, append_assoc)
+      | expression_spans-in-Unary+in_ok-expression_spans-in-Unary w ↦ search (rules, the_lemmas, append_assoc)
+      | expression_spans-in-Binary+in_ok-left-in-Binary+in_ok-right-in-Binary w ↦ search (rules, the_lemmas, append_assoc)
+      | expression_spans-in-Make+in_ok-type_spans-in-Make w ↦ search (rules, the_lemmas, append_assoc)
+      | expression_spans-in-MakeSized+in_ok-channel-in-MakeSized+in_ok-size-in-MakeSized w ↦ search (rules, the_lemmas, append_assoc)
+      | expression_spans-in-Call+in_ok-count-in-Call w ↦ search (rules, the_lemmas, append_assoc)
+      | expression_spans-in-Receive+in_ok-expression_spans-in-Receive w ↦ search (rules, the_lemmas, append_assoc)
+      | expression_spans-in-Length+in_ok-expression_spans-in-Length w ↦ search (rules, the_lemmas, append_assoc)
+      | expression_spans-in-Capacity+in_ok-expression_spans-in-Capacity w ↦ search (rules, the_lemmas, append_assoc)
+      | expression_spans-in-Integer w ↦ search (rules, the_lemmas, append_assoc)
+      | expression_spans-in-Integer-2 w ↦ search (rules, the_lemmas, append_assoc)
+    ] in
+    rw all at c.add_node.ensures.spans

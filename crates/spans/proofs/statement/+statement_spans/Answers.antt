@@ -4,7 +4,6 @@ use Rattle.std.proofs.lemmas.Result.{IfOk-equal}
 use Rattle.syntax.specs.declared.node.ElseNode.TheFolds.{the_lemmas}
 use Rattle.syntax.specs.declared.node.Name.{Name}
 use Rattle.syntax.specs.declared.node.TypeNode.{TypeNode}
-use Rattle.syntax.specs.declared.node.RightNode.{RightNode}
 use Rattle.syntax.specs.declared.node.IfNode.{IfNode}
 use Rattle.syntax.specs.declared.node.ForHeader.{ForHeader}
 use Rattle.syntax.specs.declared.node.ArgumentsNode.{ArgumentsNode}
@@ -12,7 +11,7 @@ use Rattle.syntax.specs.declared.node.ReturnNode.{ReturnNode}
 use Rattle.syntax.specs.declared.node.ClauseNode.{ClauseNode}
 use Rattle.syntax.specs.declared.node.StatementNode.{StatementNode}
 use Rattle.syntax.specs.declared.node.StatementNode.TheVariants as nodes
-use Rattle.syntax.specs.Tree.{VarTyped, VarUntyped, Block, For, Select, Go, Return, Conditional, Statement, TypeExpression, Right}
+use Rattle.syntax.specs.Tree.{VarTyped, VarUntyped, Block, For, Select, Go, Return, Conditional, Statement, TypeExpression, Expression}
 use Rattle.syntax.specs.View.{name_of, type_of, expression_of, arguments_of, right_of, if_head_of, for_head_of, comm_of, returned_of, statement_of, body_of, branch_of, otherwise_of, clause_of, clauses}
 use Rattle.spans.specs.Words.{joined, statement_count, body_count, clauses_count, clause_count, EndsInReach, type_count, initial_count, right_count}
 use Rattle.spans.specs.Places.{statement_spans, body_spans, clause_spans, clauses_spans}
@@ -30,11 +29,11 @@ clause_reach : (at count one rest total : ℕ) → count + (one + rest) ≡ tota
 clause_reach at count one rest total is reach = omega arith
 
 -- how far a `var` reaches, by its parts
-typed_reach : (at : ℕ) (s : Statement) (names : List Name) (kind : TypeExpression) (right : Option Right) → s ≡ VarTyped (map name_of names) kind right
+typed_reach : (at : ℕ) (s : Statement) (names : List Name) (kind : TypeExpression) (right : Option (List Expression)) → s ≡ VarTyped (map name_of names) kind right
     → EndsInReach at (statement_count s) → at + (length names * 2 - 1 + type_count kind + initial_count right + 1) < 2 ^ 40
 typed_reach at s names kind right is reach = omega (arith, rw is at reach, length-map names name_of)
 
-untyped_reach : (at : ℕ) (s : Statement) (names : List Name) (right : Right) → s ≡ VarUntyped (map name_of names) right
+untyped_reach : (at : ℕ) (s : Statement) (names : List Name) (right : List Expression) → s ≡ VarUntyped (map name_of names) right
     → EndsInReach at (statement_count s) → at + (length names * 2 + right_count right + 1) < 2 ^ 40
 untyped_reach at s names right is reach = omega (arith, rw is at reach, length-map names name_of)
 
