@@ -1,22 +1,24 @@
--- Values of literals, one behind the other, in the places of fields.
-use Rattle.std.proofs.Common.{◌≡◌, ◌==◌, true, false, ℕ, suc, ◌+◌, ◌⊎◌, inl, inr, zero, Bool, List, [], ◌∷◌, map, drop, slice_get, Option, Some, None, Result, Ok, Err, length, sum_by, refl, arith}
+-- Values of literals and calls, one behind the other, and the types that are wanted.
+use Rattle.std.proofs.Common.{◌≡◌, ◌==◌, true, false, ℕ, suc, ◌+◌, ◌⊎◌, inl, inr, zero, Bool, List, [], ◌∷◌, map, drop, slice_get, option_map, Option, Some, None, Result, Ok, Err, length, sum_by, refl, arith}
 use Rattle.std.specs.Option.{IfSome}
 use Rattle.std.specs.Result.{IfOk, IfErr}
 use Rattle.std.proofs.lemmas.Bool.Decides.{nat_tests}
-use Rattle.syntax.specs.Tree.{Expression, Expressions, Composite, expressions}
+use Rattle.syntax.specs.Tree.{Expression, Composite, Call, expressions}
 use Rattle.syntax.specs.Measures.{expression_size, expressions_size}
 use Rattle.syntax.proofs.Lists.{expressions_in-expressions, expressions_size-of}
 use Rattle.type_table.specs.declared.entry.FieldEntry.{FieldEntry}
+use Rattle.type_table.specs.declared.value_type.ValueType.{ValueType as Kind}
 use Rattle.type_table.specs.Types.{ValueType}
-use Rattle.type_table.specs.Views.{field_in}
+use Rattle.type_table.specs.Views.{kind_of, field_in}
 use Rattle.type_table.specs.Containment.{Field, fields_of}
 use Rattle.type_table.specs.Scopes.{Globals, Scope}
 use Rattle.typing_rules.specs.declared.flaw.Flaw.{Flaw}
 use Rattle.go_text.specs.declared.rule.Rule.TheVariants as rules
 use Rattle.typing_rules.specs.Flaws.{Nodes, IsBroken}
 use Rattle.typing_rules.specs.Worths.{Worth, literal_struct, worth}
-use Rattle.checker_base.specs.Views.{kind_in, Tells}
-use Rattle.typing_rules.specs.Expressions.{ExpressionHas, ExpressionsHave, FieldsHave, ValuesFail, ValueHas, field_kinds, nodes_of}
+use Rattle.typing_rules.specs.Calls.{IsFunction, callee, parameters_of, result_of}
+use Rattle.checker_base.specs.Views.{known_kind, kind_at, CallWith, Tells}
+use Rattle.typing_rules.specs.Expressions.{ExpressionHas, ExpressionsHave, FieldsHave, PassedHave, ValuesFail, ValueHas, YieldHas, field_kinds, nodes_of}
 
 -- P of the flaw that is told; where none is, P says what Q says of the rest
 abbrev pub Narrows : Option Flaw → (Flaw → Type 0) → (Flaw → Type 0) → Type 0
@@ -45,12 +47,23 @@ no_type (Some w) nodes flaw has = has
 abbrev pub Begins : List (Option ValueType) → Option ValueType → List (Option ValueType) → Type 0
 Begins kinds kind more = (kinds ≡ kind ∷ more) ⊎ ((kinds ≡ []) × (more ≡ []) × (kind ≡ None))
 
-pub next_field : (types : List (List ℕ)) (fields : List FieldEntry) (i : ℕ)
-    → Begins (field_kinds (map (field_in types) (drop i fields))) (kind_in types (slice_get fields i)) (field_kinds (map (field_in types) (drop (suc i) fields)))
-next_field types [] zero = inr (refl, refl, refl)
-next_field types [] (suc i) = inr (refl, refl, refl)
-next_field types (field ∷ rest) zero = inl refl
-next_field types (field ∷ rest) (suc i) = next_field types rest i
+pub next_kind : (kinds : List (Option ValueType)) (i : ℕ) → Begins (drop i kinds) (kind_at kinds i) (drop (suc i) kinds)
+next_kind [] zero = inr (refl, refl, refl)
+next_kind [] (suc i) = inr (refl, refl, refl)
+next_kind (kind ∷ rest) zero = inl refl
+next_kind (kind ∷ rest) (suc i) = next_kind rest i
+
+pub field_kind_at : (types : List (List ℕ)) (fields : List FieldEntry) (n : ℕ) → kind_at (field_kinds (map (field_in types) fields)) n ≡ option_map (λ (field : FieldEntry). kind_of types field.kind) (slice_get fields n)
+field_kind_at types [] zero = refl
+field_kind_at types [] (suc n) = refl
+field_kind_at types (field ∷ rest) zero = refl
+field_kind_at types (field ∷ rest) (suc n) = field_kind_at types rest n
+
+pub parameter_kind_at : (types : List (List ℕ)) (kinds : List Kind) (n : ℕ) → kind_at (map (known_kind types) kinds) n ≡ option_map (kind_of types) (slice_get kinds n)
+parameter_kind_at types [] zero = refl
+parameter_kind_at types [] (suc n) = refl
+parameter_kind_at types (kind ∷ rest) zero = refl
+parameter_kind_at types (kind ∷ rest) (suc n) = parameter_kind_at types rest n
 
 -- ---- one value further
 
@@ -80,13 +93,12 @@ fits_next globals scope P first value rest kinds more kind None told (inr is) na
     narrows-next P (ValueHas (worth globals scope value) kind (nodes_of first value)) (ValuesFail globals scope (first + expression_size value) rest more) told
     (λ flaw. (λ p. absurd ((none flaw).0 p), λ has. elim has [ inl v ↦ absurd (no_value flaw v) | inr m ↦ absurd (no_more flaw m) ])) (new refl)
 
--- ---- whole literals
+-- ---- as many values as places
 
-pub fields_agree : (globals : Globals) (scope : Scope) (first : ℕ) (values : List Expression) (kinds : List (Option ValueType)) (end : ℕ) (flaw : Flaw) → length values ≡ length kinds
-    → (ValuesFail globals scope first values kinds flaw → ⊥) → FieldsHave globals scope first values kinds end flaw → ⊥
-fields_agree globals scope first [] kinds end flaw e fit has = has
-fields_agree globals scope first (value ∷ rest) kinds end flaw e fit (inl numbers) = let wrong = numbers.0 in grind (arith, nat_tests)
-fields_agree globals scope first (value ∷ rest) kinds end flaw e fit (inr fail) = fit fail
+pub passed_agree : (globals : Globals) (scope : Scope) (first : ℕ) (values : List Expression) (kinds : List (Option ValueType)) (end : ℕ) (flaw : Flaw) → length values ≡ length kinds
+    → (ValuesFail globals scope first values kinds flaw → ⊥) → PassedHave globals scope first values kinds end flaw → ⊥
+passed_agree globals scope first values kinds end flaw e fit (inl numbers) = let wrong = numbers.0 in grind (arith, nat_tests)
+passed_agree globals scope first values kinds end flaw e fit (inr fail) = fit fail
 
 pub is_none : (n : ℕ) → (n == 0) ≡ true → n ≡ 0
 is_none zero e = refl
@@ -96,49 +108,96 @@ pub is_some : (n : ℕ) → (n == 0) ≡ false → n ≡ 0 → ⊥
 is_some zero e none = cc
 is_some (suc n) e none = omega (arith, none)
 
-pub no_fields : (globals : Globals) (scope : Scope) (first : ℕ) (values : List Expression) (kinds : List (Option ValueType)) (end : ℕ) (flaw : Flaw) → length values ≡ 0
-    → FieldsHave globals scope first values kinds end flaw → ⊥
-no_fields globals scope first [] kinds end flaw none has = has
-no_fields globals scope first (value ∷ rest) kinds end flaw none has = omega (arith, none)
+pub number_has : (globals : Globals) (scope : Scope) (first : ℕ) (values : List Expression) (kinds : List (Option ValueType)) (end : ℕ) (flaw : Flaw)
+    → (length values ≡ length kinds → ⊥) → IsBroken rules.Numbers end flaw → PassedHave globals scope first values kinds end flaw
+number_has globals scope first values kinds end flaw other broken = inl (grind (arith, nat_tests, other), broken)
 
-pub number_has : (globals : Globals) (scope : Scope) (first : ℕ) (values : List Expression) (kinds : List (Option ValueType)) (end : ℕ) (flaw : Flaw) → (length values ≡ 0 → ⊥)
-    → (length values ≡ length kinds → ⊥) → IsBroken rules.Numbers end flaw → FieldsHave globals scope first values kinds end flaw
-number_has globals scope first [] kinds end flaw some other broken = absurd (some refl)
-number_has globals scope first (value ∷ rest) kinds end flaw some other broken = inl (grind (arith, nat_tests, other), broken)
+-- ---- whole literals
 
-pub value_has : (globals : Globals) (scope : Scope) (first : ℕ) (values : List Expression) (kinds : List (Option ValueType)) (end : ℕ) (flaw : Flaw) → (length values ≡ 0 → ⊥)
-    → ValuesFail globals scope first values kinds flaw → FieldsHave globals scope first values kinds end flaw
-value_has globals scope first [] kinds end flaw some fail = absurd (some refl)
-value_has globals scope first (value ∷ rest) kinds end flaw some fail = inr fail
+-- the values of a literal are none, or as many as its fields
+fields_pass : (globals : Globals) (scope : Scope) (first : ℕ) (values : List Expression) (kinds : List (Option ValueType)) (end : ℕ) (flaw : Flaw)
+    → FieldsHave globals scope first values kinds end flaw → PassedHave globals scope first values kinds end flaw
+fields_pass globals scope first [] kinds end flaw has = absurd has
+fields_pass globals scope first (value ∷ rest) kinds end flaw has = has
+
+pass_fields : (globals : Globals) (scope : Scope) (first : ℕ) (values : List Expression) (kinds : List (Option ValueType)) (end : ℕ) (flaw : Flaw) → (length values ≡ 0 → ⊥)
+    → PassedHave globals scope first values kinds end flaw → FieldsHave globals scope first values kinds end flaw
+pass_fields globals scope first [] kinds end flaw some has = absurd (some refl)
+pass_fields globals scope first (value ∷ rest) kinds end flaw some has = has
 
 pub composite_has : (globals : Globals) (scope : Scope) (first number : ℕ) (name : List ℕ) (values : List Expression) (fields : List Field) (trailing : Bool) (flaw : Flaw)
-    → literal_struct globals scope name ≡ Some number → fields ≡ fields_of globals.structs number
-    → ExpressionsHave globals scope first (expressions values) flaw ⊎ FieldsHave globals scope first values (field_kinds fields) (first + (expressions_size (expressions values) + 1)) flaw
+    → literal_struct globals scope name ≡ Some number → fields ≡ fields_of globals.structs number → (length values ≡ 0 → ⊥)
+    → ExpressionsHave globals scope first (expressions values) flaw ⊎ PassedHave globals scope first values (field_kinds fields) (first + (expressions_size (expressions values) + 1)) flaw
     → ExpressionHas globals scope first (Composite name (expressions values) trailing) flaw
-composite_has globals scope first number name values fields trailing flaw e f (inl bad) = inl bad
-composite_has globals scope first number name values fields trailing flaw e f (inr bad) = inr (rw (e, expressions_in-expressions values, ← f) bad)
+composite_has globals scope first number name values fields trailing flaw e f some (inl bad) = inl bad
+composite_has globals scope first number name values fields trailing flaw e f some (inr bad) =
+    inr (rw (e, expressions_in-expressions values, ← f) (pass_fields globals scope first values (field_kinds fields) (first + (expressions_size (expressions values) + 1)) flaw some bad))
 
 pub composite_in : (globals : Globals) (scope : Scope) (first number : ℕ) (name : List ℕ) (values : List Expression) (fields : List Field) (trailing : Bool) (flaw : Flaw)
     → literal_struct globals scope name ≡ Some number → fields ≡ fields_of globals.structs number
     → ExpressionHas globals scope first (Composite name (expressions values) trailing) flaw
-    → ExpressionsHave globals scope first (expressions values) flaw ⊎ FieldsHave globals scope first values (field_kinds fields) (first + (expressions_size (expressions values) + 1)) flaw
+    → ExpressionsHave globals scope first (expressions values) flaw ⊎ PassedHave globals scope first values (field_kinds fields) (first + (expressions_size (expressions values) + 1)) flaw
 composite_in globals scope first number name values fields trailing flaw e f (inl bad) = inl bad
-composite_in globals scope first number name values fields trailing flaw e f (inr bad) = inr (rw (e, expressions_in-expressions values, ← f) at bad)
+composite_in globals scope first number name values fields trailing flaw e f (inr bad) =
+    inr (fields_pass globals scope first values (field_kinds fields) (first + (expressions_size (expressions values) + 1)) flaw (rw (e, expressions_in-expressions values, ← f) at bad))
+
+-- a literal without values is the zero value
+pub composite_none : (globals : Globals) (scope : Scope) (first number : ℕ) (name : List ℕ) (values : List Expression) (trailing : Bool) (flaw : Flaw)
+    → literal_struct globals scope name ≡ Some number → length values ≡ 0
+    → ExpressionHas globals scope first (Composite name (expressions values) trailing) flaw → ⊥
+composite_none globals scope first number name [] trailing flaw e none (inl bad) = bad
+composite_none globals scope first number name [] trailing flaw e none (inr bad) = rw e at bad
+composite_none globals scope first number name (value ∷ rest) trailing flaw e none has = omega (arith, none)
 
 pub size_of_values : (values : List Expression) → expressions_size (expressions values) ≡ sum_by expression_size values
 size_of_values values = expressions_size-of values
 
--- what holds of a literal with any last comma holds of the one that was written
-pub literal_free : {X : Type 0} (r : Result X Flaw) (globals : Globals) (scope : Scope) (first : ℕ) (name : List ℕ) (values : Expressions) (trailing : Bool) (whole : Expression)
-    → whole ≡ Composite name values trailing
-    → IfOk r (λ _. (any : Bool) (flaw : Flaw) → ExpressionHas globals scope first (Composite name values any) flaw → ⊥)
+-- what holds with any last comma holds with the one that was written
+pub comma_free : {X : Type 0} (r : Result X Flaw) (globals : Globals) (scope : Scope) (first : ℕ) (form : Bool → Expression) (trailing : Bool) (whole : Expression)
+    → whole ≡ form trailing
+    → IfOk r (λ _. (any : Bool) (flaw : Flaw) → ExpressionHas globals scope first (form any) flaw → ⊥)
     → IfOk r (λ _. (flaw : Flaw) → ExpressionHas globals scope first whole flaw → ⊥)
-literal_free (Ok x) globals scope first name values trailing whole e free = λ flaw. rw e (free trailing flaw)
-literal_free (Err flaw) globals scope first name values trailing whole e free = tt
+comma_free (Ok x) globals scope first form trailing whole e free = λ flaw. rw e (free trailing flaw)
+comma_free (Err flaw) globals scope first form trailing whole e free = tt
 
-pub literal_flawed : {X : Type 0} (r : Result X Flaw) (globals : Globals) (scope : Scope) (first : ℕ) (name : List ℕ) (values : Expressions) (trailing : Bool) (whole : Expression)
-    → whole ≡ Composite name values trailing
-    → IfErr r (λ flaw. (any : Bool) → ExpressionHas globals scope first (Composite name values any) flaw)
+pub comma_flawed : {X : Type 0} (r : Result X Flaw) (globals : Globals) (scope : Scope) (first : ℕ) (form : Bool → Expression) (trailing : Bool) (whole : Expression)
+    → whole ≡ form trailing
+    → IfErr r (λ flaw. (any : Bool) → ExpressionHas globals scope first (form any) flaw)
     → IfErr r (ExpressionHas globals scope first whole)
-literal_flawed (Ok x) globals scope first name values trailing whole e has = tt
-literal_flawed (Err flaw) globals scope first name values trailing whole e has = rw e (has trailing)
+comma_flawed (Ok x) globals scope first form trailing whole e has = tt
+comma_flawed (Err flaw) globals scope first form trailing whole e has = rw e (has trailing)
+
+-- ---- whole calls
+
+pub call_has : (globals : Globals) (scope : Scope) (first number end : ℕ) (name : List ℕ) (values : List Expression) (kinds : List (Option ValueType)) (flaw : Flaw)
+    → callee globals scope name ≡ IsFunction number → kinds ≡ parameters_of globals number → end ≡ first + sum_by expression_size values + 1
+    → ExpressionsHave globals scope first (expressions values) flaw ⊎ PassedHave globals scope first values kinds end flaw → CallWith globals scope first name values flaw
+call_has globals scope first number end name values kinds flaw is k e (inl bad) = inl bad
+call_has globals scope first number end name values kinds flaw is k e (inr bad) = inr (rw (is, ← k, ← e) bad)
+
+pub call_in : (globals : Globals) (scope : Scope) (first number : ℕ) (name : List ℕ) (values : List Expression) (kinds : List (Option ValueType)) (flaw : Flaw)
+    → callee globals scope name ≡ IsFunction number → kinds ≡ parameters_of globals number → CallWith globals scope first name values flaw
+    → ExpressionsHave globals scope first (expressions values) flaw ⊎ PassedHave globals scope first values kinds (first + sum_by expression_size values + 1) flaw
+call_in globals scope first number name values kinds flaw is k (inl bad) = inl bad
+call_in globals scope first number name values kinds flaw is k (inr bad) = inr (rw (is, ← k) at bad)
+
+call_end : (first : ℕ) (values : List Expression) → first + (expressions_size (expressions values) + 1) ≡ first + sum_by expression_size values + 1
+call_end first values = omega (arith, size_of_values values)
+
+-- a call is a value if nothing is wrong with it, and it has a result
+pub called_has : (globals : Globals) (scope : Scope) (first : ℕ) (name : List ℕ) (values : List Expression) (trailing : Bool) (flaw : Flaw)
+    → CallWith globals scope first name values flaw → ExpressionHas globals scope first (Call name (expressions values) trailing) flaw
+called_has globals scope first name values trailing flaw (inl bad) = inl (inl bad)
+called_has globals scope first name values trailing flaw (inr bad) = inl (inr (rw (call_end first values, expressions_in-expressions values) bad))
+
+pub result_has : (globals : Globals) (scope : Scope) (first number end : ℕ) (name : List ℕ) (values : List Expression) (trailing : Bool) (flaw : Flaw)
+    → callee globals scope name ≡ IsFunction number → end ≡ first + (expressions_size (expressions values) + 1)
+    → YieldHas (result_of globals number) end flaw → ExpressionHas globals scope first (Call name (expressions values) trailing) flaw
+result_has globals scope first number end name values trailing flaw is e bad = inr (rw (is, ← e) bad)
+
+pub called_in : (globals : Globals) (scope : Scope) (first number : ℕ) (name : List ℕ) (values : List Expression) (trailing : Bool) (flaw : Flaw)
+    → callee globals scope name ≡ IsFunction number → ExpressionHas globals scope first (Call name (expressions values) trailing) flaw
+    → CallWith globals scope first name values flaw ⊎ YieldHas (result_of globals number) (first + (expressions_size (expressions values) + 1)) flaw
+called_in globals scope first number name values trailing flaw is (inl (inl bad)) = inl (inl bad)
+called_in globals scope first number name values trailing flaw is (inl (inr bad)) = inl (inr (rw (call_end first values, expressions_in-expressions values) at bad))
+called_in globals scope first number name values trailing flaw is (inr bad) = inr (rw is at bad)

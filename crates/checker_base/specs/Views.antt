@@ -1,5 +1,6 @@
 -- What expressions are worth, and what is refused, as the definitions see it.
-use Rattle.std.specs.Prelude.{◌≤◌, ◌^◌, ℕ, ◌+◌, List, nat_abs, Option, Some, None, Result, Ok, Err}
+use Rattle.std.specs.Prelude.{◌≤◌, ◌^◌, ℕ, zero, suc, ◌+◌, false, List, [], ◌∷◌, map, nat_abs, Option, Some, None, Result, Ok, Err}
+use Rattle.syntax.specs.Tree.{Expression}
 use Rattle.typing_rules.specs.declared.flaw.Flaw.{Flaw}
 use Rattle.typing_rules.specs.declared.flaw.Misuse.{Misuse}
 use Rattle.checker_base.specs.declared.refusal.Refusal.{Refusal}
@@ -8,11 +9,15 @@ use Rattle.checker_base.specs.declared.worth.Worth.{Worth as InMemory}
 use Rattle.checker_base.specs.declared.worth.Worth.TheVariants as worths
 use Rattle.checker_base.specs.declared.operand.Operand.{Operand}
 use Rattle.type_table.specs.declared.value_type.ValueType.{ValueType as Kind}
-use Rattle.type_table.specs.declared.entry.FieldEntry.{FieldEntry}
+use Rattle.checker_base.specs.declared.wanted.Wanted.{Wanted}
+use Rattle.checker_base.specs.declared.wanted.Wanted.TheVariants as wanteds
 use Rattle.type_table.specs.Types.{ValueType}
-use Rattle.type_table.specs.Views.{kind_of}
+use Rattle.type_table.specs.Scopes.{Globals, Scope}
+use Rattle.type_table.specs.Views.{kind_of, field_in}
 use Rattle.typing_rules.specs.Flaws.{Nodes}
 use Rattle.typing_rules.specs.Worths.{Worth, Typed, Constant, Nil}
+use Rattle.typing_rules.specs.Expressions.{field_kinds}
+use Rattle.typing_rules.specs.Operations.{CallHas}
 
 abbrev pub worth_of : List (List ℕ) → InMemory → Worth
 worth_of types (worths.Typed kind) = Typed (kind_of types kind)
@@ -42,10 +47,20 @@ Refuses P (Flawed flaw) = P flaw
 abbrev pub known_kind : List (List ℕ) → Kind → Option ValueType
 known_kind types kind = Some (kind_of types kind)
 
--- the type of a field, if there is one
-abbrev pub kind_in : List (List ℕ) → Option FieldEntry → Option ValueType
-kind_in types None = None
-kind_in types (Some field) = Some (kind_of types field.kind)
+-- the types that are wanted, in order
+abbrev pub kinds_in : List (List ℕ) → Wanted → List (Option ValueType)
+kinds_in types (wanteds.Fields fields) = field_kinds (map (field_in types) fields.now)
+kinds_in types (wanteds.Parameters kinds) = map (known_kind types) kinds.now
+
+-- the one with this number, if there is one
+abbrev pub kind_at : List (Option ValueType) → ℕ → Option ValueType
+kind_at [] number = None
+kind_at (kind ∷ rest) zero = kind
+kind_at (kind ∷ rest) (suc number) = kind_at rest number
+
+-- what is wrong with a call of these values, with or without a comma behind the last one
+abbrev pub CallWith : Globals → Scope → ℕ → List ℕ → List Expression → Flaw → Type 0
+CallWith globals scope first function values flaw = CallHas globals scope first function (record { values = values; trailing = false }) flaw
 
 -- P of the flaw that is told; where none is, P of none
 abbrev pub Tells : (Flaw → Type 0) → Option Flaw → Type 0

@@ -9,7 +9,7 @@ ghost use Rattle.typing_rules.specs.Operations.{CallHas};
 ghost use Rattle.type_table.specs.Visible.{globals_in, scope_of};
 
 use checker_base::refusal::Refusal;
-use checker_operation::operation::call;
+use checker_base::operand::call;
 use syntax::{ArgumentsNode, Name, NodeId};
 use type_table::scope::Visible;
 use type_table::table::TypeTable;

@@ -12,7 +12,7 @@ ghost use Rattle.type_table.specs.Visible.{globals_in, scope_of};
 use checker_base::operand::checked;
 use checker_base::refusal::Refusal;
 use checker_base::value::{channel, sent, value};
-use checker_operation::operation::{measured, receive};
+use checker_base::operand::{measured, receive};
 use syntax::{ExpressionNode, NodeId};
 use type_table::scope::Visible;
 use type_table::table::TypeTable;

@@ -18,7 +18,7 @@ use checker_base::operand::{Operand, checked};
 use checker_base::refusal::Refusal;
 use checker_base::value::value;
 use checker_base::worth::{Worth, binary_worth};
-use checker_operation::place::read_place;
+use checker_base::place::read_place;
 use go_text::Rule;
 use syntax::{BinaryOperator, ExpressionNode, NodeId, PlaceNode};
 use type_table::scope::Visible;

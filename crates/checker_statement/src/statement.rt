@@ -20,7 +20,7 @@ use checker_base::operand::{Operand, checked};
 use checker_base::refusal::Refusal;
 use checker_base::value::value;
 use checker_base::worth::Worth;
-use checker_operation::operation::operation;
+use checker_base::operand::operation;
 use checker_simple::call::call_alone;
 use checker_simple::simple::{comm, simple};
 use checker_simple::variables::{typed_variables, untyped_variables};

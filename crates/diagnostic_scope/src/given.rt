@@ -5,7 +5,7 @@ use crate::scene::Scene;
 use crate::unit::{Found, Unit};
 use checker_base::operand::worth;
 use checker_base::worth::Worth;
-use checker_operation::place::place;
+use checker_base::place::place;
 use std::alloc::Global;
 use syntax::{
     ArgumentsNode, BinaryOperator, CommNode, ExpressionNode, Name, NodeId, OperationNode, PartNode,

@@ -1,17 +1,18 @@
-use Rattle.std.proofs.Common.{rules, arith, ◌≡◌, ◌∙◌, [], refl, sym, ◌∷◌, ◌+◌, suc, inl, inr, Some, drop, map, slice_get, length, option_copied, drop-cons}
-use Rattle.std.proofs.lemmas.List.{drop_all, length-map}
+use Rattle.std.proofs.Common.{rules, arith, ◌≡◌, ◌∙◌, refl, sym, ◌∷◌, ◌+◌, suc, inl, inr, Some, drop, map, option_map, length, sum_by, drop-cons}
+use Rattle.std.proofs.lemmas.List.{length-map}
 use Rattle.std.proofs.lemmas.Result.{err_from_is_err_and, IfOk-weaker, IfErr-weaker}
 use Rattle.syntax.specs.declared.node.ExpressionNode.TheFolds.{the_lemmas}
 use Rattle.syntax.specs.Measures.{expression_size, expressions_size}
-use Rattle.syntax.specs.Tree.{Composite, expressions}
+use Rattle.syntax.specs.Tree.{Composite, Call, expressions}
 use Rattle.syntax.specs.View.{name_of, expression_of}
-use Rattle.type_table.specs.Views.{field_in}
+use Rattle.type_table.specs.Views.{kind_of, field_in}
 use Rattle.type_table.specs.Visible.{types_of, globals_in, scope_of}
 use Rattle.typing_rules.specs.Worths.{literal_struct, worth}
-use Rattle.checker_base.specs.Views.{kind_in}
-use Rattle.typing_rules.specs.Expressions.{ExpressionsHave, ValuesFail, field_kinds, nodes_of}
-use Rattle.syntax.proofs.Nodes.{integer_is, named_is, parenthesized_is, selection_is, unary_is, binary_is, composite_is}
-use Rattle.checker_base.proofs.Literals.{is_none, is_some, no_fields, number_has, value_has, narrows-end, next_field, found_next, passed_next, fits_next, fields_agree, composite_has, composite_in, literal_free, literal_flawed}
+use Rattle.checker_base.specs.Views.{known_kind, kinds_in}
+use Rattle.typing_rules.specs.Calls.{NotDeclared, NoFunction, IsFunction, callee}
+use Rattle.typing_rules.specs.Expressions.{ExpressionsHave, ValuesFail, nodes_of}
+use Rattle.syntax.proofs.Nodes.{integer_is, named_is, parenthesized_is, selection_is, unary_is, binary_is, composite_is, call_is, make_sized_is}
+use Rattle.checker_base.proofs.Literals.{is_none, is_some, next_kind, found_next, passed_next, fits_next, composite_has, composite_in, composite_none, size_of_values, comma_free, comma_flawed, call_has, call_in, called_has, called_in}
 use Rattle.checker_base.proofs.operand.+checked.Goals as goal
 
 pub checked-returns-in-Composite-clause-worth : goal.checked-returns-in-Composite-clause-worth
@@ -21,130 +22,14 @@ checked-returns-in-Composite-clause-worth t c =
 pub checked-returns-in-Composite-clause-none : goal.checked-returns-in-Composite-clause-none
 checked-returns-in-Composite-clause-none t c =
     let is : expression_of c.args.expression.now ≡ Composite (name_of c.in-Composite.name) (expressions (map expression_of c.in-Composite.values.items)) c.in-Composite.field-2 = composite_is _ _ _ _ c.in-Composite.is in
-    literal_free c.composite.result (globals_in c.args.table.now) (scope_of c.args.table.now c.args.visible.now) c.args.first (name_of c.in-Composite.name) (expressions (map expression_of c.in-Composite.values.items)) c.in-Composite.field-2
+    comma_free c.composite.result (globals_in c.args.table.now) (scope_of c.args.table.now c.args.visible.now) c.args.first (λ any. Composite (name_of c.in-Composite.name) (expressions (map expression_of c.in-Composite.values.items)) any) c.in-Composite.field-2
     (expression_of c.args.expression.now) is (rw c.as_slice-in-Composite.ensures.value at c.composite.ensures.none)
 
 pub checked-returns-in-Composite-clause-one : goal.checked-returns-in-Composite-clause-one
 checked-returns-in-Composite-clause-one t c =
     let is : expression_of c.args.expression.now ≡ Composite (name_of c.in-Composite.name) (expressions (map expression_of c.in-Composite.values.items)) c.in-Composite.field-2 = composite_is _ _ _ _ c.in-Composite.is in
-    literal_flawed c.composite.result (globals_in c.args.table.now) (scope_of c.args.table.now c.args.visible.now) c.args.first (name_of c.in-Composite.name) (expressions (map expression_of c.in-Composite.values.items)) c.in-Composite.field-2
+    comma_flawed c.composite.result (globals_in c.args.table.now) (scope_of c.args.table.now c.args.visible.now) c.args.first (λ any. Composite (name_of c.in-Composite.name) (expressions (map expression_of c.in-Composite.values.items)) any) c.in-Composite.field-2
     (expression_of c.args.expression.now) is (rw c.as_slice-in-Composite.ensures.value at c.composite.ensures.one)
-
-pub composite-returns-in_err-node-clause-one : goal.composite-returns-in_err-node-clause-one
-composite-returns-in_err-node-clause-one t c =
-    let p = err_from_is_err_and c.from_residual.result c.from_residual.ensures.1 in
-    let globals = globals_in c.args.table.now in
-    let scope = scope_of c.args.table.now c.args.visible.now in
-    let a = c.as_slice.ensures.value in
-    let b = c.literal_struct.ensures in
-    let d = c.in-Some.is in
-    let is : literal_struct globals scope (name_of c.args.name.now) ≡ Some c.in-Some.number = cc in
-    let values = map expression_of c.args.values.now in
-    rw (p.1, p.2) (λ trailing. composite_has globals scope c.args.first c.in-Some.number (name_of c.args.name.now) values (map (field_in (types_of c.args.table.now)) c.fields_at.result.now) trailing c.in_err-node.field-0.0 is c.fields_at.ensures
-    (c.in_err-node.ensures.one (c.args.first + (expressions_size (expressions values) + 1)) (omega arith)))
-
-pub composite-returns-clause-none : goal.composite-returns-clause-none
-composite-returns-clause-none t c =
-    let globals = globals_in c.args.table.now in
-    let scope = scope_of c.args.table.now c.args.visible.now in
-    let a = c.as_slice.ensures.value in
-    let b = c.literal_struct.ensures in
-    let d = c.in-Some.is in
-    let is : literal_struct globals scope (name_of c.args.name.now) ≡ Some c.in-Some.number = cc in
-    let values = map expression_of c.args.values.now in
-    λ trailing flaw has. elim (composite_in globals scope c.args.first c.in-Some.number (name_of c.args.name.now) values (map (field_in (types_of c.args.table.now)) c.fields_at.result.now) trailing flaw is c.fields_at.ensures has) [
-      | inl bad ↦ c.in_ok-node.ensures.none flaw bad
-      | inr bad ↦ c.in_ok-node.ensures.fits (c.args.first + (expressions_size (expressions values) + 1)) flaw bad
-    ]
-
-pub filled-returns-in-None-clause-fits : goal.filled-returns-in-None-clause-fits
-filled-returns-in-None-clause-fits t c =
-    let fit = rw c.in-None.is at c.in_ok-filling.ensures.misfit in
-    let values = map expression_of c.args.values.now in
-    let kinds = field_kinds (map (field_in (types_of c.args.table.now)) c.args.fields.now) in
-    let same : length values ≡ length kinds = simp length-map c.if-values-fields.false in
-    λ end flaw has. fields_agree (globals_in c.args.table.now) (scope_of c.args.table.now c.args.visible.now) c.args.first values kinds end flaw same (fit flaw) has
-
-pub fit_fields-loop-number-preserved : goal.fit_fields-loop-number-preserved
-fit_fields-loop-number-preserved t c =
-    let globals = globals_in c.args.table.now in
-    let scope = scope_of c.args.table.now c.args.visible.now in
-    let types = types_of c.args.table.now in
-    let value = expression_of c.index-values-number.result in
-    let left = drop (suc c.loop-number.number) c.args.values.now in
-    let rest = map expression_of left in
-    let kinds = field_kinds (map (field_in types) (drop c.loop-number.number c.args.fields.now)) in
-    let others = field_kinds (map (field_in types) (drop (suc c.loop-number.number) c.args.fields.now)) in
-    let more : c.loop-number.number + 1 ≡ suc c.loop-number.number = omega arith in
-    let cut : drop c.loop-number.number c.args.values.now ≡ c.index-values-number.result ∷ left = rw c.index-values-number.is (drop-cons c.args.values.now c.loop-number.number _ c.loop-number-test.true) in
-    let next : c.loop-number.end + expression_size value ≡ c.in_ok-operand.operand.node + 1 = c.in_ok-operand.ensures.end in
-    let has = ExpressionsHave globals scope c.args.first (expressions (map expression_of c.args.values.now)) in
-    let found = rw cut at c.loop-number.invariant.found in
-    let passed = rw cut at c.loop-number.invariant.passed in
-    let fits = rw cut at c.loop-number.invariant.fits in
-    let end = rw cut at c.loop-number.invariant.end in
-    let lookup : option_copied c.field_at.result ≡ slice_get c.args.fields.now c.loop-number.number = c.field_at.ensures in
-    let begins = rw (← lookup) at (next_field types c.args.fields.now c.loop-number.number) in
-    record {
-      end = rw more (omega arith);
-      found = rw (more, ← next) (found_next globals scope has c.loop-number.end value rest found);
-      passed = rw (more, ← next) (passed_next globals scope has c.loop-number.end value rest passed c.in_ok-operand.ensures.none);
-      fits = rw (more, ← next) (fits_next globals scope (ValuesFail globals scope c.args.first (map expression_of c.args.values.now) (field_kinds (map (field_in types) c.args.fields.now))) c.loop-number.end value rest kinds others (kind_in types (option_copied c.field_at.result)) c.loop-number.misfit c.first_misfit-misfit.result begins fits c.first_misfit-misfit.ensures.known
-          (λ none. c.first_misfit-misfit.ensures.new none (worth globals scope value) c.in_ok-operand.ensures.worth (nodes_of c.loop-number.end value) c.in_ok-operand.ensures.first next));
-    }
-
-pub composite-returns-clause-worth : goal.composite-returns-clause-worth
-composite-returns-clause-worth t c =
-    let a = c.as_slice.ensures.value in
-    let b = c.literal_struct.ensures in
-    let d = c.in-Some.is in
-    let is : literal_struct (globals_in c.args.table.now) (scope_of c.args.table.now c.args.visible.now) (name_of c.args.name.now) ≡ Some c.in-Some.number = cc in
-    λ trailing. rw is refl
-
-pub filled-returns-in_err-filling-clause-one : goal.filled-returns-in_err-filling-clause-one
-filled-returns-in_err-filling-clause-one t c =
-    let p = err_from_is_err_and c.from_residual.result c.from_residual.ensures.1 in
-    rw (p.1, p.2) (λ end is. inl c.in_err-filling.ensures.one)
-
-pub filled-returns-then-is_empty-clause-fits : goal.filled-returns-then-is_empty-clause-fits
-filled-returns-then-is_empty-clause-fits t c =
-    let values = map expression_of c.args.values.now in
-    let none : length values ≡ 0 = simp length-map (is_none (length c.args.values.now) (sym c.is_empty.ensures ∙ c.if-is_empty.true)) in
-    λ end flaw has. no_fields (globals_in c.args.table.now) (scope_of c.args.table.now c.args.visible.now) c.args.first values (field_kinds (map (field_in (types_of c.args.table.now)) c.args.fields.now)) end flaw none has
-
-pub filled-returns-then-values-fields-clause-one : goal.filled-returns-then-values-fields-clause-one
-filled-returns-then-values-fields-clause-one t c =
-    let values = map expression_of c.args.values.now in
-    let kinds = field_kinds (map (field_in (types_of c.args.table.now)) c.args.fields.now) in
-    let some : length values ≡ 0 → ⊥ = simp length-map (is_some (length c.args.values.now) (sym c.is_empty.ensures ∙ c.if-is_empty.false)) in
-    let other : length values ≡ length kinds → ⊥ = simp length-map c.if-values-fields.true in
-    λ end is. inr (number_has (globals_in c.args.table.now) (scope_of c.args.table.now c.args.visible.now) c.args.first values kinds end _ some other (refl, omega (arith, is, c.in_ok-filling.ensures.end)))
-
-pub filled-returns-in-Some-clause-one : goal.filled-returns-in-Some-clause-one
-filled-returns-in-Some-clause-one t c =
-    let values = map expression_of c.args.values.now in
-    let kinds = field_kinds (map (field_in (types_of c.args.table.now)) c.args.fields.now) in
-    let some : length values ≡ 0 → ⊥ = simp length-map (is_some (length c.args.values.now) (sym c.is_empty.ensures ∙ c.if-is_empty.false)) in
-    let fail = rw c.in-Some.is at c.in_ok-filling.ensures.misfit in
-    λ end is. inr (value_has (globals_in c.args.table.now) (scope_of c.args.table.now c.args.visible.now) c.args.first values kinds end c.in-Some.flaw some fail)
-
-pub fit_fields-loop-number-init : goal.fit_fields-loop-number-init
-fit_fields-loop-number-init t c = record { end = refl; found = λ flaw has. has; passed = λ flaw has. has; fits = λ flaw. (λ has. has, λ has. has) }
-
-pub fit_fields-returns-clause-none : goal.fit_fields-returns-clause-none
-fit_fields-returns-clause-none t c =
-    let none : drop c.loop-number.number c.args.values.now ≡ [] = drop_all c.loop-number.number c.args.values.now c.loop-number-test.false in
-    λ flaw has. rw none at (c.loop-number.invariant.passed flaw has)
-
-pub fit_fields-returns-clause-misfit : goal.fit_fields-returns-clause-misfit
-fit_fields-returns-clause-misfit t c =
-    let globals = globals_in c.args.table.now in
-    let scope = scope_of c.args.table.now c.args.visible.now in
-    let types = types_of c.args.table.now in
-    let none : drop c.loop-number.number c.args.values.now ≡ [] = drop_all c.loop-number.number c.args.values.now c.loop-number-test.false in
-    narrows-end (ValuesFail globals scope c.args.first (map expression_of c.args.values.now) (field_kinds (map (field_in types) c.args.fields.now)))
-    (ValuesFail globals scope c.loop-number.end (map expression_of (drop c.loop-number.number c.args.values.now)) (field_kinds (map (field_in types) (drop c.loop-number.number c.args.fields.now))))
-    c.loop-number.misfit (λ flaw has. rw none at has) c.loop-number.invariant.fits
 
 pub checked-returns-in-Integer-clause-worth : goal.checked-returns-in-Integer-clause-worth
 checked-returns-in-Integer-clause-worth t c = rw (integer_is _ _ c.in-Integer.is) (IfOk-weaker c.integer.result _ _ (λ o every. every (types_of c.args.table.now)) c.integer.ensures.worth)
@@ -301,3 +186,146 @@ checked-overflow_add-result t c = search (rules, the_lemmas)
 
 pub checked-overflow_add-left : goal.checked-overflow_add-left
 checked-overflow_add-left t c = search (rules, the_lemmas)
+
+pub checked-returns-in-Call-clause-worth : goal.checked-returns-in-Call-clause-worth
+checked-returns-in-Call-clause-worth t c =
+    rw (call_is _ _ _ _ c.in-Call.is) (IfOk-weaker c.called.result _ _ (λ o every. every c.in-Call.field-2) c.called.ensures.worth)
+
+pub checked-returns-in-Call-clause-none : goal.checked-returns-in-Call-clause-none
+checked-returns-in-Call-clause-none t c =
+    let is : expression_of c.args.expression.now ≡ Call (name_of c.in-Call.function) (expressions (map expression_of c.in-Call.values.items)) c.in-Call.field-2 = call_is _ _ _ _ c.in-Call.is in
+    comma_free c.called.result (globals_in c.args.table.now) (scope_of c.args.table.now c.args.visible.now) c.args.first (λ any. Call (name_of c.in-Call.function) (expressions (map expression_of c.in-Call.values.items)) any) c.in-Call.field-2
+    (expression_of c.args.expression.now) is (rw c.as_slice-in-Call.ensures.value at c.called.ensures.none)
+
+pub checked-returns-in-Call-clause-one : goal.checked-returns-in-Call-clause-one
+checked-returns-in-Call-clause-one t c =
+    let is : expression_of c.args.expression.now ≡ Call (name_of c.in-Call.function) (expressions (map expression_of c.in-Call.values.items)) c.in-Call.field-2 = call_is _ _ _ _ c.in-Call.is in
+    comma_flawed c.called.result (globals_in c.args.table.now) (scope_of c.args.table.now c.args.visible.now) c.args.first (λ any. Call (name_of c.in-Call.function) (expressions (map expression_of c.in-Call.values.items)) any) c.in-Call.field-2
+    (expression_of c.args.expression.now) is (rw c.as_slice-in-Call.ensures.value at c.called.ensures.one)
+
+pub checked-make_sized-requires : goal.checked-make_sized-requires
+checked-make_sized-requires t c =
+    let small = rw (make_sized_is _ _ _ c.in-MakeSized.is, ← c.deref-in-MakeSized.ensures, ← c.deref-in-MakeSized-2.ensures) at c.requires.small in
+    (search (rules, the_lemmas), omega (arith, small))
+
+pub make_sized-checked-requires : goal.make_sized-checked-requires
+make_sized-checked-requires t c = (search (rules, the_lemmas), omega (arith, c.requires.small, c.type_size.ensures))
+
+pub composite-returns-in_err-node-clause-one : goal.composite-returns-in_err-node-clause-one
+composite-returns-in_err-node-clause-one t c =
+    let p = err_from_is_err_and c.from_residual.result c.from_residual.ensures.1 in
+    let globals = globals_in c.args.table.now in
+    let scope = scope_of c.args.table.now c.args.visible.now in
+    let a = c.as_slice.ensures.value in
+    let b = c.literal_struct.ensures in
+    let d = c.in-Some.is in
+    let is : literal_struct globals scope (name_of c.args.name.now) ≡ Some c.in-Some.number = cc in
+    let values = map expression_of c.args.values.now in
+    let some : length values ≡ 0 → ⊥ = simp length-map (is_some (length c.args.values.now) (sym c.is_empty.ensures ∙ c.if-is_empty.false)) in
+    rw (p.1, p.2) (λ trailing. composite_has globals scope c.args.first c.in-Some.number (name_of c.args.name.now) values (map (field_in (types_of c.args.table.now)) c.fields_at.result.now) trailing c.in_err-node.field-0.0 is c.fields_at.ensures some
+    (c.in_err-node.ensures.one (c.args.first + (expressions_size (expressions values) + 1)) (omega arith)))
+
+pub composite-returns-clause-none : goal.composite-returns-clause-none
+composite-returns-clause-none t c =
+    let globals = globals_in c.args.table.now in
+    let scope = scope_of c.args.table.now c.args.visible.now in
+    let a = c.as_slice.ensures.value in
+    let b = c.literal_struct.ensures in
+    let d = c.in-Some.is in
+    let is : literal_struct globals scope (name_of c.args.name.now) ≡ Some c.in-Some.number = cc in
+    let values = map expression_of c.args.values.now in
+    λ trailing flaw has. elim (composite_in globals scope c.args.first c.in-Some.number (name_of c.args.name.now) values (map (field_in (types_of c.args.table.now)) c.fields_at.result.now) trailing flaw is c.fields_at.ensures has) [
+      | inl bad ↦ c.in_ok-node.ensures.none flaw bad
+      | inr bad ↦ c.in_ok-node.ensures.fits (c.args.first + (expressions_size (expressions values) + 1)) flaw bad
+    ]
+
+pub composite-returns-then-is_empty-clause-none : goal.composite-returns-then-is_empty-clause-none
+composite-returns-then-is_empty-clause-none t c =
+    let globals = globals_in c.args.table.now in
+    let scope = scope_of c.args.table.now c.args.visible.now in
+    let a = c.as_slice.ensures.value in
+    let b = c.literal_struct.ensures in
+    let d = c.in-Some.is in
+    let is : literal_struct globals scope (name_of c.args.name.now) ≡ Some c.in-Some.number = cc in
+    let values = map expression_of c.args.values.now in
+    let none : length values ≡ 0 = simp length-map (is_none (length c.args.values.now) (sym c.is_empty.ensures ∙ c.if-is_empty.true)) in
+    λ trailing flaw has. composite_none globals scope c.args.first c.in-Some.number (name_of c.args.name.now) values trailing flaw is none has
+
+pub fit-loop-number-preserved : goal.fit-loop-number-preserved
+fit-loop-number-preserved t c =
+    let globals = globals_in c.args.table.now in
+    let scope = scope_of c.args.table.now c.args.visible.now in
+    let types = types_of c.args.table.now in
+    let value = expression_of c.index-values-number.result in
+    let left = drop (suc c.loop-number.number) c.args.values.now in
+    let rest = map expression_of left in
+    let kinds = kinds_in types c.args.wanted in
+    let more : c.loop-number.number + 1 ≡ suc c.loop-number.number = omega arith in
+    let cut : drop c.loop-number.number c.args.values.now ≡ c.index-values-number.result ∷ left = rw c.index-values-number.is (drop-cons c.args.values.now c.loop-number.number _ c.loop-number-test.true) in
+    let next : c.loop-number.end + expression_size value ≡ c.in_ok-operand.operand.node + 1 = c.in_ok-operand.ensures.end in
+    let has = ExpressionsHave globals scope c.args.first (expressions (map expression_of c.args.values.now)) in
+    let found = rw cut at c.loop-number.invariant.found in
+    let passed = rw cut at c.loop-number.invariant.passed in
+    let fits = rw cut at c.loop-number.invariant.fits in
+    let end = rw cut at c.loop-number.invariant.end in
+    let begins = rw (← c.kind_at.ensures types) at (next_kind kinds c.loop-number.number) in
+    record {
+      end = rw more (omega arith);
+      found = rw (more, ← next) (found_next globals scope has c.loop-number.end value rest found);
+      passed = rw (more, ← next) (passed_next globals scope has c.loop-number.end value rest passed c.in_ok-operand.ensures.none);
+      fits = rw (more, ← next) (fits_next globals scope (ValuesFail globals scope c.args.first (map expression_of c.args.values.now) kinds) c.loop-number.end value rest (drop c.loop-number.number kinds) (drop (suc c.loop-number.number) kinds) (option_map (kind_of types) c.kind_at.result) c.loop-number.misfit c.first_misfit-misfit.result begins fits c.first_misfit-misfit.ensures.known
+          (λ none. c.first_misfit-misfit.ensures.new none (worth globals scope value) c.in_ok-operand.ensures.worth (nodes_of c.loop-number.end value) c.in_ok-operand.ensures.first next));
+    }
+
+pub call-returns-in_err-node-in-Function-clause-one : goal.call-returns-in_err-node-in-Function-clause-one
+call-returns-in_err-node-in-Function-clause-one t c =
+    let p = err_from_is_err_and c.from_residual.result c.from_residual.ensures.1 in
+    let globals = globals_in c.args.table.now in
+    let scope = scope_of c.args.table.now c.args.visible.now in
+    let is : callee globals scope (name_of c.args.function.now) ≡ IsFunction c.in-Function.number = sym (rw (c.in-Function.is, c.as_slice.ensures.value) at c.callee_named.ensures) in
+    let values = map expression_of c.args.values.now in
+    let end = c.args.first + expressions_size (expressions values) + 1 in
+    rw (p.1, p.2) (call_has globals scope c.args.first c.in-Function.number end (name_of c.args.function.now) values (map (known_kind (types_of c.args.table.now)) c.parameters_of.result.now) c.in_err-node-in-Function.field-0.0 is c.parameters_of.ensures (omega (arith, size_of_values values))
+    (c.in_err-node-in-Function.ensures.one end refl))
+
+pub call-returns-in-NotDeclared-clause-one : goal.call-returns-in-NotDeclared-clause-one
+call-returns-in-NotDeclared-clause-one t c =
+    let globals = globals_in c.args.table.now in
+    let scope = scope_of c.args.table.now c.args.visible.now in
+    let values = map expression_of c.args.values.now in
+    let is : callee globals scope (name_of c.args.function.now) ≡ NotDeclared = sym (rw (c.in-NotDeclared.is, c.as_slice.ensures.value) at c.callee_named.ensures) in
+    inr (rw is (refl, omega (arith, c.values_size.ensures, size_of_values values)))
+
+pub call-returns-in-NoFunction-clause-one : goal.call-returns-in-NoFunction-clause-one
+call-returns-in-NoFunction-clause-one t c =
+    let globals = globals_in c.args.table.now in
+    let scope = scope_of c.args.table.now c.args.visible.now in
+    let values = map expression_of c.args.values.now in
+    let is : callee globals scope (name_of c.args.function.now) ≡ NoFunction = sym (rw (c.in-NoFunction.is, c.as_slice.ensures.value) at c.callee_named.ensures) in
+    inr (rw is (refl, omega (arith, c.values_size-in-NoFunction.ensures, size_of_values values)))
+
+pub call-returns-in_ok-node-in-Function-clause-none : goal.call-returns-in_ok-node-in-Function-clause-none
+call-returns-in_ok-node-in-Function-clause-none t c =
+    let globals = globals_in c.args.table.now in
+    let scope = scope_of c.args.table.now c.args.visible.now in
+    let values = map expression_of c.args.values.now in
+    let is : callee globals scope (name_of c.args.function.now) ≡ IsFunction c.in-Function.number = sym (rw (c.in-Function.is, c.as_slice.ensures.value) at c.callee_named.ensures) in
+    λ flaw has. elim (call_in globals scope c.args.first c.in-Function.number (name_of c.args.function.now) values (map (known_kind (types_of c.args.table.now)) c.parameters_of.result.now) flaw is c.parameters_of.ensures has) [
+      | inl bad ↦ c.in_ok-node-in-Function.ensures.none flaw bad
+      | inr bad ↦ c.in_ok-node-in-Function.ensures.fits (c.args.first + sum_by expression_size values + 1) flaw bad
+    ]
+
+pub called-returns-in_err-called-clause-one : goal.called-returns-in_err-called-clause-one
+called-returns-in_err-called-clause-one t c =
+    let p = err_from_is_err_and c.from_residual.result c.from_residual.ensures.1 in
+    rw (p.1, p.2) (λ trailing. called_has (globals_in c.args.table.now) (scope_of c.args.table.now c.args.visible.now) c.args.first (name_of c.args.function.now) (map expression_of c.args.values.now) trailing c.in_err-called.field-0.0 c.in_err-called.ensures.one)
+
+pub called-returns-clause-none : goal.called-returns-clause-none
+called-returns-clause-none t c =
+    let globals = globals_in c.args.table.now in
+    let scope = scope_of c.args.table.now c.args.visible.now in
+    let values = map expression_of c.args.values.now in
+    IfOk-weaker c.call_value.result _ _ (λ o free trailing flaw has. elim (called_in globals scope c.args.first c.in_ok-called.called.function (name_of c.args.function.now) values trailing flaw c.in_ok-called.ensures.function has) [
+      | inl bad ↦ c.in_ok-called.ensures.none flaw bad
+      | inr bad ↦ free (c.args.first + (expressions_size (expressions values) + 1)) flaw bad
+    ]) c.call_value.ensures.none

@@ -1,4 +1,0 @@
-pub mod Paths
-pub mod Calls
-pub mod Goes
-pub mod Givens

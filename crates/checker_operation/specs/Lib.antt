@@ -1,2 +1,0 @@
-pub mod Givens
-pub mod Paths
