@@ -2,6 +2,7 @@ pub mod Finding
 pub mod Premises
 pub mod Emitting
 pub mod Operating
+pub mod Requesting
 pub mod Leading
 pub mod Choosing
 pub mod Widths
