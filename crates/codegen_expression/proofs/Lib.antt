@@ -3,6 +3,7 @@ pub mod Premises
 pub mod Emitting
 pub mod Operating
 pub mod Requesting
+pub mod Pushed
 pub mod Leading
 pub mod Choosing
 pub mod Widths

@@ -37,7 +37,7 @@ has_type None made is = absurd cc
 has_type (Some kind) made is = (kind, sym (same_Some (Typed kind) made is))
 
 -- an instruction behind a part
-puts_then : (part : Plan → Plan) (i : Instr) (i0 i1 i2 : List Instr) → Puts i0 i1 part → i2 ≡ i1 ++ i ∷ [] → Puts i0 i2 (λ rest. part (Do i rest))
+pub puts_then : (part : Plan → Plan) (i : Instr) (i0 i1 i2 : List Instr) → Puts i0 i1 part → i2 ≡ i1 ++ i ∷ [] → Puts i0 i2 (λ rest. part (Do i rest))
 puts_then part i i0 i1 i2 p is = puts_both i0 i1 i2 part (Do i) p (puts_do i1 i2 i is)
 
 pub typed_puts : (w : Worth) (old new : List Instr) (part : Plan → Plan) → IsTyped w → Emits (Some w) old new part → Puts old new part

@@ -2,8 +2,8 @@
 
 ghost use Rattle.std.specs.Prelude.{◌≡◌, ◌++◌, ◌∷◌, [], IfOk, OnOk, Some, map, option_copied, option_map, slice_get};
 ghost use Rattle.syntax.specs.Tree.{Make};
-ghost use Rattle.syntax.specs.View.{name_of, type_of as written_of};
-ghost use Rattle.type_table.specs.Types.{IntType};
+ghost use Rattle.syntax.specs.View.{expression_of, name_of, type_of as written_of};
+ghost use Rattle.type_table.specs.Types.{IntType, element_type};
 ghost use Rattle.type_table.specs.Views.{kind_of};
 ghost use Rattle.type_table.specs.Visible.{globals_in, types_of};
 ghost use Rattle.checker_base.specs.Views.{IsSmall, worth_of};
@@ -11,17 +11,22 @@ ghost use Rattle.typing_rules.specs.Calls.{parameters_of};
 ghost use Rattle.typing_rules.specs.Worths.{Typed, element_of, worth};
 ghost use Rattle.meaning.specs.Expressions.{number_of};
 ghost use Rattle.meaning.specs.Values.{known};
-ghost use Rattle.codegen_expression.specs.Emission.{IsTyped, making, receiving};
+ghost use Rattle.codegen_base.specs.Layouts.{carried};
+ghost use Rattle.codegen_base.specs.Pushes.{pushes_own};
+ghost use Rattle.codegen_base.specs.Statements.{pushes_arguments, pushes_received};
+ghost use Rattle.codegen_expression.specs.Emission.{IsTyped, Puts, making, receiving};
 ghost use Rattle.codegen_expression.specs.Contexts.{elements_of, globals_of, scope_in, types_in};
 
 use crate::context::Context;
+use crate::emission::{emit, emit_all};
 use crate::halt::Halt;
-use crate::operand::{carried_shape, put};
+use crate::operand::{carried_shape, number, put};
 use crate::shape::shape_of;
+use crate::value::push_own;
 use bytecode::Instr;
 use checker_base::operand::worth_made;
 use checker_base::worth::Worth;
-use syntax::{Name, TypeNode};
+use syntax::{ArgumentsNode, ExpressionNode, Name, TypeNode};
 use type_table::entry::FunctionEntry;
 use type_table::layout::function_number;
 use type_table::scope::Visible;
@@ -55,6 +60,16 @@ pub fn parameters_at<'a, 't>(
     match function_at(table, number) {
         Some(function) => Ok(function.parameters.as_slice()),
         None => Err(Halt::Flawed),
+    }
+}
+
+/// The type of what a channel of this type carries.
+fn carried_by<'t>(table: &TypeTable<'t>, kind: ValueType<'t>) -> ValueType<'t>
+    ensures { kind_of (types_of table.now) result ≡ known (element_type (kind_of (types_of table.now) kind.entry)) }
+{
+    match kind {
+        ValueType::Channel(_, carried) => element_in(table, carried),
+        _ => ValueType::Int,
     }
 }
 
@@ -113,4 +128,55 @@ pub(crate) fn put_measure<'k>(
     };
     put(code, instr)?;
     Ok(Worth::Typed(ValueType::Int))
+}
+
+/// Pushes a channel, and returns the type of what it carries.
+pub fn push_channel<'k>(
+    context: &Context<'_, 'k>,
+    visible: &Visible<'k>,
+    channel: &'k ExpressionNode,
+    code: &mut Vec<Instr>,
+) -> Result<ValueType<'k>, Halt>
+    ensures kind { IfOk result (λ kind. carried (globals_of context.now) (elements_of context.now) (scope_in context.now visible.now) (expression_of channel.now) ≡ kind_of (types_in context.now) kind) }
+    ensures pushed { OnOk result (Puts code.old.items code.new.items (pushes_own (globals_of context.now) (elements_of context.now) (scope_in context.now visible.now) (expression_of channel.now))) }
+{
+    let kind = push_own(context, visible, channel, code)?;
+    Ok(carried_by(context.table, kind))
+}
+
+/// Receives from a channel: the item and whether it was sent are pushed. Returns the item's type.
+pub fn push_received<'k>(
+    context: &Context<'_, 'k>,
+    visible: &Visible<'k>,
+    channel: &'k ExpressionNode,
+    code: &mut Vec<Instr>,
+) -> Result<ValueType<'k>, Halt>
+    ensures kind { IfOk result (λ kind. carried (globals_of context.now) (elements_of context.now) (scope_in context.now visible.now) (expression_of channel.now) ≡ kind_of (types_in context.now) kind) }
+    ensures pushed { OnOk result (Puts code.old.items code.new.items (pushes_received (globals_of context.now) (elements_of context.now) (scope_in context.now visible.now) (expression_of channel.now))) }
+{
+    let channel = emit(context, visible, channel, code)?;
+    match put_receive(context, channel, code)? {
+        Worth::Typed(kind) => Ok(kind),
+        _ => Err(Halt::Flawed),
+    }
+}
+
+/// Pushes the arguments of a call of the function of this name, and returns its number.
+///
+/// Errors: something is wrong with the call; out of memory.
+pub fn push_arguments<'k>(
+    context: &Context<'_, 'k>,
+    visible: &Visible<'k>,
+    name: &Name,
+    arguments: &'k ArgumentsNode,
+    code: &mut Vec<Instr>,
+) -> Result<u32, Halt>
+    ensures number { IfOk result (λ n. n ≡ number_of (globals_of context.now) (name_of name.now)) }
+    ensures pushed { OnOk result (Puts code.old.items code.new.items (pushes_arguments (globals_of context.now) (elements_of context.now) (scope_in context.now visible.now) (number_of (globals_of context.now) (name_of name.now)) (map expression_of arguments.now.values.items))) }
+{
+    let function = callee(context.table, name)?;
+    let kinds = parameters_at(context.table, function)?;
+    let values = arguments.values.as_slice();
+    emit_all(context, visible, kinds, values, code)?;
+    number(function)
 }

@@ -10,3 +10,4 @@ pub mod noting;
 pub mod operand;
 pub mod operator;
 pub mod shape;
+pub mod value;
