@@ -65,7 +65,7 @@ pub(crate) fn parameters_of<'t, 'a>(table: &'t TypeTable<'a>, number: usize) -> 
 }
 
 /// The type of the result of the function with this number, if it has one.
-pub(crate) fn result_of<'a>(table: &TypeTable<'a>, number: usize) -> Option<ValueType<'a>>
+pub fn result_of<'a>(table: &TypeTable<'a>, number: usize) -> Option<ValueType<'a>>
     ensures { yield_of (types_of table.now) result ≡ result_of (globals_in table.now) number }
 {
     match table.functions.get(number) {

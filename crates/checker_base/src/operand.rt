@@ -417,7 +417,7 @@ fn worth_between<'a>(
 }
 
 /// What a call of this name is worth, if it is one of a function with a result.
-fn worth_called<'a>(
+pub fn worth_called<'a>(
     table: &TypeTable<'a>,
     visible: &Visible<'a>,
     function: &[u8],
@@ -435,7 +435,7 @@ fn worth_called<'a>(
 }
 
 /// What a receive is worth, if its operand is a channel.
-fn worth_received<'a>(table: &TypeTable<'_>, from: Option<Worth<'a>>) -> Option<Worth<'a>>
+pub fn worth_received<'a>(table: &TypeTable<'_>, from: Option<Worth<'a>>) -> Option<Worth<'a>>
     ensures worth { option_map (worth_of (types_of table.now)) result ≡ option_map Typed (element_of (option_map (worth_of (types_of table.now)) from.entry)) }
     ensures small { IfSome result IsSmall }
 {
@@ -448,7 +448,7 @@ fn worth_received<'a>(table: &TypeTable<'_>, from: Option<Worth<'a>>) -> Option<
 }
 
 /// What a `make` of this type is worth, if the type is a channel's.
-fn worth_made<'a>(
+pub fn worth_made<'a>(
     table: &TypeTable<'a>,
     visible: &Visible<'a>,
     written: &'a TypeNode,

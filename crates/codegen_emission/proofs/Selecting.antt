@@ -2,20 +2,21 @@
 use Rattle.std.proofs.Common.{◌≡◌, ℕ, ◌+◌, Bool, true, false, cond, ◌||◌, List, [], ◌∷◌, ◌++◌, length, Option, Some, None, refl, sym, ap, ◌∙◌, subst, append_assoc, length-append}
 use Rattle.std.specs.Prelude.{slice_set}
 use Rattle.std.specs.Result.{result_ok}
-use Rattle.std.specs.Prelude.{option_and_then}
+use Rattle.std.specs.Prelude.{option_and_then, option_map}
 use Rattle.std.proofs.Math.Seq.{take-length}
 use Rattle.std.proofs.lemmas.List.{append-nil, length-set, set_at}
-use Rattle.syntax.specs.Tree.{Expression, Integer, Named, Parenthesized, Selection, Composite, Unary, Binary, Comm, CommSend, CommReceive, CommDefine, CommAssign, Clauses, NoClause, Clause, Select, Statements}
+use Rattle.syntax.specs.Tree.{Binary, Call, Capacity, Channel, Clause, Clauses, Comm, CommAssign, CommDefine, CommReceive, CommSend, Composite, Expression, Integer, Length, Make, MakeSized, Named, NamedType, NoClause, Parenthesized, ParenthesizedType, Receive, Select, Selection, Statements, TypeExpression, Unary}
 use Rattle.bytecode.specs.declared.instr.Instr.{Instr}
 use Rattle.bytecode.specs.declared.instr.Instr.TheVariants as instrs
 use Rattle.bytecode.specs.declared.table.Clause.TheVariants as clauses
 use Rattle.bytecode.specs.Code.{PrintTable, SelectTable}
 use Rattle.plan.specs.Plan.{Choose, reaches_end, starts, tables}
 use Rattle.type_table.specs.declared.table.TypeTable.{TypeTable}
-use Rattle.type_table.specs.Scopes.{Globals, Scope, Variable, Yield}
+use Rattle.type_table.specs.Scopes.{Globals, Scope, Variable, Yield, type_in}
 use Rattle.type_table.specs.Visible.{Keeps}
-use Rattle.typing_rules.specs.Worths.{binary_worth, named_worth, selected_worth, unary_worth, worth}
-use Rattle.typing_rules.specs.Expressions.{element_of}
+use Rattle.typing_rules.specs.Worths.{Typed, binary_worth, element_of, named_worth, selected_worth, unary_worth, worth}
+use Rattle.type_table.specs.Types.{ChannelType}
+use Rattle.typing_rules.specs.Calls.{made_of as made_type}
 use Rattle.meaning.specs.Values.{known}
 use Rattle.codegen_base.specs.declared.element.Element.{Element}
 use Rattle.codegen_base.specs.Elements.{shape_of}
@@ -46,6 +47,11 @@ module _ (globals : Globals) (s t : Scope) (e : s.variables ≡ t.variables) whe
   abbrev with_variables : List Variable → Scope
   with_variables vs = record { variables = vs; outer = s.outer; words = s.words }
 
+  same_type : (types : List (List ℕ)) (kind : TypeExpression) → type_in types s kind ≡ type_in types t kind
+  same_type types (NamedType name) = ap (λ vs. type_in types (with_variables vs) (NamedType name)) e
+  same_type types (ParenthesizedType inner) = same_type types inner
+  same_type types (Channel direction element) = ap (option_map (ChannelType direction)) (same_type types element)
+
   pub same_worth : (x : Expression) → worth globals s x ≡ worth globals t x
   same_worth (Integer value) = refl
   same_worth (Named name) = ap (λ vs. named_worth (with_variables vs) name) e
@@ -56,6 +62,12 @@ module _ (globals : Globals) (s t : Scope) (e : s.variables ≡ t.variables) whe
   same_worth (Binary operator l r) =
       ap (option_and_then (λ x. option_and_then (λ y. result_ok (binary_worth operator x y)) (worth globals s r))) (same_worth l)
       ∙ ap (λ o. option_and_then (λ x. option_and_then (λ y. result_ok (binary_worth operator x y)) o) (worth globals t l)) (same_worth r)
+  same_worth (Call function values trailing) = ap (λ vs. worth globals (with_variables vs) (Call function values trailing)) e
+  same_worth (Receive channel) = ap (λ w. option_map Typed (element_of w)) (same_worth channel)
+  same_worth (Make kind) = ap (λ o. option_map Typed (made_type o)) (same_type globals.types kind)
+  same_worth (MakeSized kind size) = ap (λ o. option_map Typed (made_type o)) (same_type globals.types kind)
+  same_worth (Length channel) = refl
+  same_worth (Capacity channel) = refl
 
 module _ (globals : Globals) (elements : List Element) (result : Yield) (l m : Layout) (e : l.scope.variables ≡ m.scope.variables) where
   same_carried : (channel : Expression) → carried globals elements l.scope channel ≡ carried globals elements m.scope channel

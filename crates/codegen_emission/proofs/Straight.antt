@@ -1,7 +1,7 @@
 -- Statements without statements in them.
 use Rattle.std.proofs.Common.{◌≡◌, ℕ, List, [], ◌++◌, length, Option, refl, sym, ap, ◌∙◌, subst}
 use Rattle.std.proofs.lemmas.List.{append-nil}
-use Rattle.syntax.specs.Tree.{Expression, Right, Returned, NoValue, ReturnedOperation, ReturnedValue, Simple}
+use Rattle.syntax.specs.Tree.{Expression, Returned, NoValue, ReturnedValue, Simple}
 use Rattle.bytecode.specs.Code.{SelectTable}
 use Rattle.bytecode.specs.declared.instr.Instr.TheVariants as instrs
 use Rattle.plan.specs.Plan.{Plan, Skip, Do, Stop}
@@ -14,7 +14,7 @@ use Rattle.codegen_base.specs.Layouts.{Layout, behind_simple, declaring_all, dec
 use Rattle.codegen_base.specs.Statements.{defines, pushes_arguments, simple_plan, simple_prints}
 use Rattle.codegen_base.specs.Generated.{made_go, made_of, made_simple, made_typed, made_untyped, result_type, return_plan, variables_plan}
 use Rattle.codegen_base.proofs.Before.{Before, Here, before_ends, pushes_before}
-use Rattle.codegen_base.proofs.Plain.{arguments_before, defines_before, one_before, simple_before, then_step, variables_before}
+use Rattle.codegen_base.proofs.Plain.{arguments_before, defines_before, simple_before, then_step, variables_before}
 use Rattle.codegen_header.specs.Layouts.{layout_of}
 use Rattle.codegen_header.specs.Simples.{Appends}
 use Rattle.codegen_emission.specs.declared.emitter.Emitter.{Emitter}
@@ -46,13 +46,13 @@ module _ (table : TypeTable) where
         (subst (λ n. Appends e0.code.items e1.code.items (simple_plan globals elements (layout_of table e0.layout) n simple)) eq code) prints selects layout kept
 
     -- variables of a type
-    pub emits_typed : (yields : Yield) (names : List (List ℕ)) (kind : ValueType) (right : Option Right) (e0 e1 : Emitter) (flow : Control) → flow ≡ through → Appends e0.code.items e1.code.items (variables_plan globals elements (layout_of table e0.layout) names kind right)
+    pub emits_typed : (yields : Yield) (names : List (List ℕ)) (kind : ValueType) (right : Option (List Expression)) (e0 e1 : Emitter) (flow : Control) → flow ≡ through → Appends e0.code.items e1.code.items (variables_plan globals elements (layout_of table e0.layout) names kind right)
         → e1.prints.items ≡ e0.prints.items → e1.selects.items ≡ e0.selects.items → layout_of table e1.layout ≡ declaring_each globals elements kind names (layout_of table e0.layout) → Keeps e0.layout.visible e1.layout.visible → Emits table e0 e1 flow (made_typed globals elements yields (site_of table e0) names kind right)
     emits_typed yields names kind right e0 e1 flow is code prints selects layout kept =
         emits_alone table e0 e1 flow (made_typed globals elements yields (site_of table e0) names kind right) is (variables_before globals elements (layout_of table e0.layout) names kind right) code (prints ∙ sym (append-nil e0.prints.items)) selects layout kept
 
     -- variables that take the types of what they are given
-    pub emits_untyped : (yields : Yield) (names : List (List ℕ)) (types : List ValueType) (right : Right) (e0 e1 : Emitter) (flow : Control) → flow ≡ through → Appends e0.code.items e1.code.items (defines globals elements (layout_of table e0.layout) names types right)
+    pub emits_untyped : (yields : Yield) (names : List (List ℕ)) (types : List ValueType) (right : List Expression) (e0 e1 : Emitter) (flow : Control) → flow ≡ through → Appends e0.code.items e1.code.items (defines globals elements (layout_of table e0.layout) names types right)
         → e1.prints.items ≡ e0.prints.items → e1.selects.items ≡ e0.selects.items → layout_of table e1.layout ≡ declaring_all globals elements names types (layout_of table e0.layout) → Keeps e0.layout.visible e1.layout.visible → Emits table e0 e1 flow (made_untyped globals elements yields (site_of table e0) names types right)
     emits_untyped yields names types right e0 e1 flow is code prints selects layout kept =
         emits_alone table e0 e1 flow (made_untyped globals elements yields (site_of table e0) names types right) is (defines_before globals elements (layout_of table e0.layout) names types right) code (prints ∙ sym (append-nil e0.prints.items)) selects layout kept
@@ -66,7 +66,6 @@ module _ (table : TypeTable) where
 
     return_before : (yields : Yield) (layout : Layout) (returned : Returned) → Before Stop (return_plan globals elements yields layout returned)
     return_before yields layout NoValue = Here Stop
-    return_before yields layout (ReturnedOperation operation) = one_before globals elements layout.scope operation Stop
     return_before yields layout (ReturnedValue value) = pushes_before globals elements layout.scope (result_type globals elements yields) value Stop
 
     pub emits_return : (result : Yield) (returned : Returned) (e0 e1 : Emitter) (flow : Control) → flow ≡ never → Appends e0.code.items e1.code.items (return_plan globals elements result (layout_of table e0.layout) returned) → Beside e0 e1

@@ -2,7 +2,7 @@
 
 ghost use Rattle.std.specs.Prelude.{IfOk, OnOk, map, option_map};
 ghost use Rattle.syntax.specs.Tree.{Go, Return, VarTyped, VarUntyped};
-ghost use Rattle.syntax.specs.View.{arguments_of, name_of, returned_of, right_of, statement_of, type_of};
+ghost use Rattle.syntax.specs.View.{arguments_of, expression_of, name_of, returned_of, right_of, statement_of, type_of};
 ghost use Rattle.type_table.specs.Scopes.{Yield};
 ghost use Rattle.codegen_base.specs.Generated.{made};
 ghost use Rattle.codegen_flow.specs.Controls.{control, through};
@@ -19,7 +19,7 @@ use codegen_header::returned::emit_return;
 use codegen_header::start::emit_go;
 use codegen_header::variables::{emit_typed, emit_untyped};
 use std::alloc::Global;
-use syntax::{ArgumentsNode, Name, ReturnNode, RightNode, StatementNode, TypeNode};
+use syntax::{ArgumentsNode, ExpressionNode, Name, ReturnNode, StatementNode, TypeNode};
 
 /// Variables of a type are declared.
 ///
@@ -29,7 +29,7 @@ fn declare_typed<'a>(
     emitter: &mut Emitter<'a>,
     names: &'a [Name],
     kind: &'a TypeNode,
-    right: &'a Option<RightNode>,
+    right: &'a Option<Vec<ExpressionNode>>,
 ) -> Result<(), Halt>
     ensures { (yields : Yield) → OnOk result (Emits (table_of context.now) emitter.old emitter.new through (of_program context.now made yields (site_of (table_of context.now) emitter.old) (VarTyped (map name_of names.now) (type_of kind.now) (option_map right_of right.now)))) }
 {
@@ -46,9 +46,9 @@ fn declare_untyped<'a>(
     context: &FunctionContext<'_, 'a>,
     emitter: &mut Emitter<'a>,
     names: &'a [Name],
-    right: &'a RightNode,
+    right: &'a [ExpressionNode],
 ) -> Result<(), Halt>
-    ensures { (yields : Yield) → OnOk result (Emits (table_of context.now) emitter.old emitter.new through (of_program context.now made yields (site_of (table_of context.now) emitter.old) (VarUntyped (map name_of names.now) (right_of right.now)))) }
+    ensures { (yields : Yield) → OnOk result (Emits (table_of context.now) emitter.old emitter.new through (of_program context.now made yields (site_of (table_of context.now) emitter.old) (VarUntyped (map name_of names.now) (map expression_of right.now)))) }
 {
     let layout = &mut emitter.layout;
     let code = &mut emitter.code;
@@ -126,7 +126,7 @@ pub fn emit_single<'a>(
         }
         StatementNode::Untyped(names, right) => {
             let names = names.as_slice();
-            declare_untyped(context, emitter, names, right)?;
+            declare_untyped(context, emitter, names, right.as_slice())?;
             Ok(Flow::through(context.program.alloc))
         }
         StatementNode::Go(name, arguments) => {

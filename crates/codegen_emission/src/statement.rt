@@ -368,12 +368,12 @@ fn emit_items<'t, 'm, 'a>(
 
 /// A loop over what is received from a channel.
 #[cycle(statement)]
-fn emit_range<'t, 'm, 'c, 'a>(
+fn emit_range<'t, 'm, 'a>(
     context: &'t FunctionContext<'t, 'a>,
     emitter: &'m mut Emitter<'a>,
     body: &'a [StatementNode],
     target: &'a RangeTarget,
-    channel: &'c ExpressionNode,
+    channel: &'a ExpressionNode,
 ) -> Result<Flow, Halt>
     ensures { IfOk result (λ flow. Emits (table_of context.now) emitter.old emitter.new (control flow) (of_function context.now made (site_of (table_of context.now) emitter.old) (For (Range (target_of target.now) (expression_of channel.now)) (body_of body.now)))) }
 {

@@ -4,16 +4,17 @@ use Rattle.syntax.specs.declared.node.UnaryOperator.{UnaryOperator}
 use Rattle.syntax.specs.declared.node.UnaryOperator.TheVariants as signs
 use Rattle.syntax.specs.declared.node.BinaryOperator.{BinaryOperator}
 use Rattle.syntax.specs.declared.node.BinaryOperator.TheVariants as symbols
-use Rattle.syntax.specs.Tree.{Expression, Integer, Named, Parenthesized, Selection, Composite, Unary, Binary, Expressions, NoMore, Behind}
+use Rattle.syntax.specs.Tree.{Expression, Integer, Named, Parenthesized, Selection, Composite, Unary, Binary, Call, Receive, Make, MakeSized, Length, Capacity, Expressions, NoMore, Behind}
 use Rattle.bytecode.specs.declared.instr.WordKind.{WordKind}
 use Rattle.bytecode.specs.declared.instr.Instr.TheVariants as instrs
-use Rattle.type_table.specs.Types.{ValueType}
+use Rattle.type_table.specs.Types.{ValueType, IntType}
 use Rattle.type_table.specs.Scopes.{Globals, Scope}
 use Rattle.typing_rules.specs.Worths.{Worth, Typed, Constant, Nil, worth}
+use Rattle.meaning.specs.Expressions.{number_of}
 use Rattle.codegen_base.specs.declared.element.Element.{Element}
 use Rattle.codegen_base.specs.Elements.{kinds_of}
 use Rattle.codegen_base.specs.Layouts.{type_of}
-use Rattle.codegen_base.specs.Pushes.{between, emits, emits_fields, literal_types, operates, pushes_zeros, settled, signed}
+use Rattle.codegen_base.specs.Pushes.{argument_types, between, emits, emits_all, literal_types, makes, operates, pushes_zeros, settled, signed}
 use Rattle.plan.specs.Plan.{Plan, Skip, Do, Seq, IfElse, reaches_end}
 
 abbrev Reaches : Plan → Type 0
@@ -89,16 +90,22 @@ module _ (globals : Globals) (elements : List Element) (scope : Scope) where
     leads (Selection whole field) rest is = leads whole _ is
     leads (Composite name NoMore trailing) rest is = leads_zeros (kinds_of globals.structs elements (type_of globals elements scope (Composite name NoMore trailing))) rest is
     leads (Composite name (Behind first others) trailing) rest is =
-        leads_fields (literal_types globals elements scope (type_of globals elements scope (Composite name (Behind first others) trailing))) (Behind first others) rest is
+        leads_all (literal_types globals elements scope (type_of globals elements scope (Composite name (Behind first others) trailing))) (Behind first others) rest is
     leads (Unary operator operand) rest is = leads operand _ (leads_signed operator rest is)
     leads (Binary operator left right) rest is =
         leads_operates elements operator (type_of globals elements scope left) (type_of globals elements scope right) (emits globals elements scope left) (emits globals elements scope right) (leads left) (leads right)
         (worth globals scope left) (worth globals scope right) rest is
+    leads (Call name values trailing) rest is = leads_all (argument_types globals elements scope (number_of globals name)) values _ is
+    leads (Receive channel) rest is = leads channel _ is
+    leads (Make kind) rest is = is
+    leads (MakeSized kind size) rest is = leads_settled elements (worth globals scope size) IntType (emits globals elements scope size (makes globals elements scope kind rest)) (makes globals elements scope kind rest) (leads size _ is) is
+    leads (Length channel) rest is = leads channel _ is
+    leads (Capacity channel) rest is = leads channel _ is
 
-    pub leads_fields : (types : List ValueType) (values : Expressions) → Leads (emits_fields globals elements scope types values)
-    leads_fields types NoMore rest is = is
-    leads_fields [] (Behind first others) rest is = is
-    leads_fields (kind ∷ types) (Behind first others) rest is =
-        let behind = emits_fields globals elements scope types others rest in
-        let goes = leads_fields types others rest is in
+    pub leads_all : (types : List ValueType) (values : Expressions) → Leads (emits_all globals elements scope types values)
+    leads_all types NoMore rest is = is
+    leads_all [] (Behind first others) rest is = is
+    leads_all (kind ∷ types) (Behind first others) rest is =
+        let behind = emits_all globals elements scope types others rest in
+        let goes = leads_all types others rest is in
         leads_settled elements (worth globals scope first) kind (emits globals elements scope first behind) behind (leads first behind goes) goes

@@ -2,6 +2,8 @@ pub mod Finding
 pub mod Premises
 pub mod Emitting
 pub mod Operating
+pub mod Requesting
+pub mod Pushed
 pub mod Leading
 pub mod Choosing
 pub mod Widths

@@ -23,9 +23,9 @@ use Rattle.typing_rules.specs.Expressions.{default_type}
 use Rattle.meaning.specs.Values.{Slot, known, field_slot, slot, slot_behind, whole as slot_of}
 use Rattle.codegen_base.specs.declared.element.Element.{Element}
 use Rattle.codegen_base.specs.Elements.{kinds_of}
-use Rattle.codegen_base.specs.Pushes.{between, compared, elements_shape, emits, emits_fields, kinds_in, literal_plan, literal_types, loads, named, operates, operator_of, pushes_zeros, settled, signed, words_of, zero_instr}
+use Rattle.codegen_base.specs.Pushes.{between, compared, elements_shape, emits, emits_all, kinds_in, literal_plan, literal_types, loads, named, operates, operator_of, pushes_zeros, settled, signed, words_of, zero_instr}
 use Rattle.plan.specs.Plan.{Plan, Do, flat}
-use Rattle.codegen_expression.specs.Emission.{Puts, Emits, signing, listed, settling, at_once, kind_in, comparing, operated, signed_with, picks, literal_part}
+use Rattle.codegen_expression.specs.Emission.{Puts, Emits, signing, listed, settling, at_once, kind_in, comparing, operated, signed_with, picks, literal_part, IsTyped}
 use Rattle.codegen_expression.proofs.Emitting.{puts_none, puts_do, puts_both}
 
 -- nothing is appended
@@ -61,9 +61,6 @@ puts_settled elements Nil kind old middle new part p is = puts_do old new _ (is 
 -- ---- operators between operands
 
 -- what is made of operands that aren't both constants has a type
-abbrev pub IsTyped : Worth → Type 0
-IsTyped made = (kind : ValueType) × (made ≡ Typed kind)
-
 abbrev AreNotConstants : Worth → Worth → Type 0
 AreNotConstants (Constant a) (Constant b) = ⊥
 AreNotConstants a b = Unit {0}
@@ -262,7 +259,7 @@ emits_unary globals elements scope operator operand Nil made i0 i1 i2 w ok p e =
 pub emits_composite : (globals : Globals) (elements : List Element) (scope : Scope) (name : List ℕ) (values : Expressions) (trailing : Bool) (number : ℕ) (old new : List Instr) → worth globals scope (Composite name values trailing) ≡ Some (Typed (StructType number))
     → Puts old new (literal_part globals elements scope number values) → Puts old new (emits globals elements scope (Composite name values trailing))
 emits_composite globals elements scope name values trailing number old new w p =
-    subst (λ x. Puts old new (λ rest. literal_plan values (pushes_zeros (kinds_of globals.structs elements (known (default_type x))) rest) (emits_fields globals elements scope (literal_types globals elements scope (known (default_type x))) values rest))) (sym w) p
+    subst (λ x. Puts old new (λ rest. literal_plan values (pushes_zeros (kinds_of globals.structs elements (known (default_type x))) rest) (emits_all globals elements scope (literal_types globals elements scope (known (default_type x))) values rest))) (sym w) p
 
 -- one without values is zeros
 pub literal_none : {A : Type 0} (view : A → Expression) (values : List A) (globals : Globals) (elements : List Element) (scope : Scope) (number : ℕ) (old new : List Instr) → length values < 1
@@ -271,7 +268,7 @@ literal_none view [] globals elements scope number old new none is = puts_zeros 
 literal_none view (v ∷ vs) globals elements scope number old new none is = absurd (omega (arith, none))
 
 pub literal_some : {A : Type 0} (view : A → Expression) (values : List A) (globals : Globals) (elements : List Element) (scope : Scope) (number : ℕ) (old new : List Instr) → 1 ≤ length values
-    → Puts old new (emits_fields globals elements scope (kinds_in (fields_of globals.structs number)) (expressions (map view values))) → Puts old new (literal_part globals elements scope number (expressions (map view values)))
+    → Puts old new (emits_all globals elements scope (kinds_in (fields_of globals.structs number)) (expressions (map view values))) → Puts old new (literal_part globals elements scope number (expressions (map view values)))
 literal_some view [] globals elements scope number old new some p = absurd (omega (arith, some))
 literal_some view (v ∷ vs) globals elements scope number old new some p = p
 

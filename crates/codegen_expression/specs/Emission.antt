@@ -4,19 +4,19 @@ use Rattle.std.specs.Prelude.{◌≡◌, ◌+◌, ℕ, ℤ, true, false, List, [
 use Rattle.syntax.specs.declared.node.UnaryOperator.{UnaryOperator}
 use Rattle.syntax.specs.declared.node.UnaryOperator.TheVariants as signs
 use Rattle.syntax.specs.declared.node.BinaryOperator.{BinaryOperator}
-use Rattle.syntax.specs.Tree.{Expressions}
+use Rattle.syntax.specs.Tree.{Expressions, TypeExpression}
 use Rattle.word.specs.declared.apply.Op.TheVariants as ops
 use Rattle.bytecode.specs.declared.instr.Instr.{Instr}
 use Rattle.bytecode.specs.declared.instr.Instr.TheVariants as instrs
 use Rattle.type_table.specs.Types.{ValueType, StructType}
 use Rattle.type_table.specs.Containment.{fields_of}
-use Rattle.typing_rules.specs.Worths.{Worth, Typed, Constant, Nil}
+use Rattle.typing_rules.specs.Worths.{Worth, Typed, Constant, Nil, element_of}
 use Rattle.typing_rules.specs.Expressions.{default_type}
-use Rattle.type_table.specs.Scopes.{Globals, Scope, nothing_declared}
+use Rattle.type_table.specs.Scopes.{Globals, Scope, nothing_declared, type_in}
 use Rattle.meaning.specs.Values.{known, field_slot, whole}
 use Rattle.codegen_base.specs.declared.element.Element.{Element}
-use Rattle.codegen_base.specs.Elements.{kinds_of}
-use Rattle.codegen_base.specs.Pushes.{compared, elements_shape, emits_fields, kinds_in, literal_plan, operator_of, pushes_zeros, words_of}
+use Rattle.codegen_base.specs.Elements.{kinds_of, shape_of}
+use Rattle.codegen_base.specs.Pushes.{compared, elements_shape, emits_all, kinds_in, literal_plan, operator_of, pushes_zeros, words_of}
 use Rattle.plan.specs.Plan.{Plan, flat}
 
 -- what is behind the old instructions is a part of a plan: with the instructions of each plan behind them, they are those of
@@ -30,6 +30,10 @@ Emits (Some (Constant value)) old new part = new ≡ old
 Emits (Some Nil) old new part = new ≡ old
 Emits (Some (Typed kind)) old new part = Puts old new part
 Emits None old new part = Puts old new part
+
+-- a value of a type, and neither a constant nor nil
+abbrev pub IsTyped : Worth → Type 0
+IsTyped made = (kind : ValueType) × (made ≡ Typed kind)
 
 -- ---- the instructions of operands and operators
 
@@ -98,4 +102,14 @@ picks globals elements worth field = []
 -- the fields of a literal of the struct with this number
 abbrev pub literal_part : Globals → List Element → Scope → ℕ → Expressions → Plan → Plan
 literal_part globals elements scope number values rest =
-    literal_plan values (pushes_zeros (kinds_of globals.structs elements (StructType number)) rest) (emits_fields globals elements scope (kinds_in (fields_of globals.structs number)) values rest)
+    literal_plan values (pushes_zeros (kinds_of globals.structs elements (StructType number)) rest) (emits_all globals elements scope (kinds_in (fields_of globals.structs number)) values rest)
+
+-- ---- channels
+
+-- an item is received from a channel
+abbrev pub receiving : List Element → Worth → Instr
+receiving elements channel = instrs.Receive (shape_of elements (known (element_of (Some channel))))
+
+-- a channel of this type is made
+abbrev pub making : Globals → List Element → Scope → TypeExpression → Instr
+making globals elements scope kind = instrs.Make (elements_shape elements (known (type_in globals.types scope kind)))

@@ -1,16 +1,17 @@
 //! Expressions: the instructions that push their values ("Expressions" of the Go specification).
 
 ghost use Rattle.std.specs.Prelude.{◌≡◌, ◌+◌, ◌++◌, ◌∷◌, [], Bool, IfOk, Ok, OnOk, Some, false, length, map, slice_set, take};
-ghost use Rattle.syntax.specs.Tree.{Binary, Composite, Named, expressions};
+ghost use Rattle.syntax.specs.Tree.{Binary, Call, Composite, Named, expressions};
 ghost use Rattle.syntax.specs.View.{expression_of, name_of};
 ghost use Rattle.type_table.specs.Views.{field_in, kind_of};
 ghost use Rattle.type_table.specs.Visible.{types_of};
 ghost use Rattle.checker_base.specs.Views.{IsSmall, worth_of};
 ghost use Rattle.typing_rules.specs.Worths.{binary_worth, is_logical, selected_worth, unary_worth, worth};
-ghost use Rattle.codegen_base.specs.Pushes.{emits, emits_fields, kinds_in, operator_of};
+ghost use Rattle.codegen_base.specs.Pushes.{emits, emits_all, kinds_in, operator_of};
 ghost use Rattle.codegen_expression.specs.Emission.{Emits, Puts, comparing, literal_part, operated, or_false, picks, settling, signed_with, true_or};
 ghost use Rattle.codegen_expression.specs.Contexts.{elements_of, globals_of, scope_in, types_in};
 
+use crate::channel::{callee, parameters_at, put_make, put_measure, put_receive};
 use crate::context::Context;
 use crate::halt::Halt;
 use crate::operand::{
@@ -19,6 +20,7 @@ use crate::operand::{
 };
 use crate::operator::{compared, operator_of, sign_of};
 use bytecode::Instr;
+use checker_base::operand::worth_called;
 use checker_base::worth::{Worth, binary_worth, literal, named_worth, unary_worth};
 use syntax::{BinaryOperator, ExpressionNode, Name, UnaryOperator};
 use type_table::entry::FieldEntry;
@@ -95,10 +97,10 @@ fn compare(
 ///
 /// Errors: something is wrong with the expression; want of memory.
 #[cycle(emit)]
-pub fn emit<'t, 'v, 'e, 'm, 'k>(
+pub fn emit<'t, 'v, 'm, 'k>(
     context: &'t Context<'t, 'k>,
     visible: &'v Visible<'k>,
-    expression: &'e ExpressionNode,
+    expression: &'k ExpressionNode,
     code: &'m mut Vec<Instr>,
 ) -> Result<Worth<'k>, Halt>
     ensures worth { IfOk result (λ w. worth (globals_of context.now) (scope_in context.now visible.now) (expression_of expression.now) ≡ Some (worth_of (types_in context.now) w)) }
@@ -129,17 +131,44 @@ pub fn emit<'t, 'v, 'e, 'm, 'k>(
             BinaryOperator::LogicalOr => emit_or(context, visible, left, right, code),
             _ => emit_binary(context, visible, *operator, left, right, code),
         },
+        ExpressionNode::Call(name, values, _) => {
+            let values = values.as_slice();
+            emit_call(context, visible, name, values, code)
+        }
+        ExpressionNode::Receive(channel) => {
+            let channel = emit(context, visible, channel, code)?;
+            let item = put_receive(context, channel, code)?;
+            put(code, Instr::Discard(1))?;
+            Ok(item)
+        }
+        ExpressionNode::Make(kind) => {
+            put(code, Instr::Int(0))?;
+            put_make(context, visible, kind, code)
+        }
+        ExpressionNode::MakeSized(kind, size) => {
+            let size = emit(context, visible, size, code)?;
+            settle(context, size, ValueType::Int, code)?;
+            put_make(context, visible, kind, code)
+        }
+        ExpressionNode::Length(channel) => {
+            let channel = emit(context, visible, channel, code)?;
+            put_measure(channel, Instr::Len, code)
+        }
+        ExpressionNode::Capacity(channel) => {
+            let channel = emit(context, visible, channel, code)?;
+            put_measure(channel, Instr::Cap, code)
+        }
     }
 }
 
 /// Emits an operator between two operands, which is neither `&&` nor `||`.
 #[cycle(emit)]
-fn emit_binary<'t, 'v, 'e, 'f, 'm, 'k>(
+fn emit_binary<'t, 'v, 'm, 'k>(
     context: &'t Context<'t, 'k>,
     visible: &'v Visible<'k>,
     operator: BinaryOperator,
-    left: &'e ExpressionNode,
-    right: &'f ExpressionNode,
+    left: &'k ExpressionNode,
+    right: &'k ExpressionNode,
     code: &'m mut Vec<Instr>,
 ) -> Result<Worth<'k>, Halt>
     requires { is_logical operator ≡ false }
@@ -175,11 +204,11 @@ fn end_binary<'k>(
 
 /// Emits a composite literal of this name and these values ("Composite literals").
 #[cycle(emit)]
-fn emit_composite<'t, 'v, 'e, 'f, 'm, 'k>(
+fn emit_composite<'t, 'v, 'f, 'm, 'k>(
     context: &'t Context<'t, 'k>,
     visible: &'v Visible<'k>,
     name: &'f Name,
-    values: &'e [ExpressionNode],
+    values: &'k [ExpressionNode],
     code: &'m mut Vec<Instr>,
 ) -> Result<Worth<'k>, Halt>
     ensures worth { IfOk result (λ w. (trailing : Bool) → worth (globals_of context.now) (scope_in context.now visible.now) (Composite (name_of name.now) (expressions (map expression_of values.now)) trailing) ≡ Some (worth_of (types_in context.now) w)) }
@@ -195,11 +224,11 @@ fn emit_composite<'t, 'v, 'e, 'f, 'm, 'k>(
 
 /// Emits the fields of a literal of the struct with this number, or zeros where there are no values.
 #[cycle(emit)]
-fn emit_literal<'t, 'v, 'e, 'm, 'k>(
+fn emit_literal<'t, 'v, 'm, 'k>(
     context: &'t Context<'t, 'k>,
     visible: &'v Visible<'k>,
     number: usize,
-    values: &'e [ExpressionNode],
+    values: &'k [ExpressionNode],
     code: &'m mut Vec<Instr>,
 ) -> Result<(), Halt>
     ensures { OnOk result (Puts code.old.items code.new.items (literal_part (globals_of context.now) (elements_of context.now) (scope_in context.now visible.now) number (expressions (map expression_of values.now)))) }
@@ -216,16 +245,61 @@ fn emit_literal<'t, 'v, 'e, 'm, 'k>(
     }
 }
 
+/// Emits a call of the function of this name with these arguments, which gives a value ("Calls").
+#[cycle(emit)]
+fn emit_call<'t, 'v, 'f, 'm, 'k>(
+    context: &'t Context<'t, 'k>,
+    visible: &'v Visible<'k>,
+    name: &'f Name,
+    values: &'k [ExpressionNode],
+    code: &'m mut Vec<Instr>,
+) -> Result<Worth<'k>, Halt>
+    ensures worth { IfOk result (λ w. (trailing : Bool) → worth (globals_of context.now) (scope_in context.now visible.now) (Call (name_of name.now) (expressions (map expression_of values.now)) trailing) ≡ Some (worth_of (types_in context.now) w)) }
+    ensures small { IfOk result IsSmall }
+    ensures emitted { IfOk result (λ w. (trailing : Bool) → Emits (Some (worth_of (types_in context.now) w)) code.old.items code.new.items (emits (globals_of context.now) (elements_of context.now) (scope_in context.now visible.now) (Call (name_of name.now) (expressions (map expression_of values.now)) trailing))) }
+{
+    let Some(result) = worth_called(context.table, visible, name.bytes.as_slice()) else {
+        return Err(Halt::Flawed);
+    };
+    let function = callee(context.table, name)?;
+    let kinds = parameters_at(context.table, function)?;
+    emit_all(context, visible, kinds, values, code)?;
+    put(code, Instr::Call(number(function)?))?;
+    Ok(result)
+}
+
+/// Emits values as values of these types, in order.
+#[cycle(emit)]
+pub fn emit_all<'t, 'v, 'f, 'm, 'k>(
+    context: &'t Context<'t, 'k>,
+    visible: &'v Visible<'k>,
+    kinds: &'f [ValueType<'k>],
+    values: &'k [ExpressionNode],
+    code: &'m mut Vec<Instr>,
+) -> Result<(), Halt>
+    ensures { OnOk result (Puts code.old.items code.new.items (emits_all (globals_of context.now) (elements_of context.now) (scope_in context.now visible.now) (map (kind_of (types_in context.now)) kinds.now) (expressions (map expression_of values.now)))) }
+{
+    let Some((value, values)) = values.split_first() else {
+        return Ok(());
+    };
+    let Some((kind, kinds)) = kinds.split_first() else {
+        return Ok(());
+    };
+    let worth = emit(context, visible, value, code)?;
+    settle(context, worth, *kind, code)?;
+    emit_all(context, visible, kinds, values, code)
+}
+
 /// Emits the fields of a literal, in order.
 #[cycle(emit)]
-fn emit_fields<'t, 'v, 'e, 'f, 'm, 'k>(
+fn emit_fields<'t, 'v, 'f, 'm, 'k>(
     context: &'t Context<'t, 'k>,
     visible: &'v Visible<'k>,
     fields: &'f [FieldEntry<'k>],
-    values: &'e [ExpressionNode],
+    values: &'k [ExpressionNode],
     code: &'m mut Vec<Instr>,
 ) -> Result<(), Halt>
-    ensures { OnOk result (Puts code.old.items code.new.items (emits_fields (globals_of context.now) (elements_of context.now) (scope_in context.now visible.now) (kinds_in (map (field_in (types_in context.now)) fields.now)) (expressions (map expression_of values.now)))) }
+    ensures { OnOk result (Puts code.old.items code.new.items (emits_all (globals_of context.now) (elements_of context.now) (scope_in context.now visible.now) (kinds_in (map (field_in (types_in context.now)) fields.now)) (expressions (map expression_of values.now)))) }
 {
     let Some((value, values)) = values.split_first() else {
         return Ok(());
@@ -333,11 +407,11 @@ fn aim(code: &mut Vec<Instr>, at: usize, instr: Instr)
 
 /// Emits `&&`: the right operand is valued where the left one is true ("Logical operators").
 #[cycle(emit)]
-fn emit_and<'t, 'v, 'e, 'f, 'm, 'k>(
+fn emit_and<'t, 'v, 'm, 'k>(
     context: &'t Context<'t, 'k>,
     visible: &'v Visible<'k>,
-    left: &'e ExpressionNode,
-    right: &'f ExpressionNode,
+    left: &'k ExpressionNode,
+    right: &'k ExpressionNode,
     code: &'m mut Vec<Instr>,
 ) -> Result<Worth<'k>, Halt>
     ensures worth { IfOk result (λ w. worth (globals_of context.now) (scope_in context.now visible.now) (Binary BinaryOperator.LogicalAnd (expression_of left.now) (expression_of right.now)) ≡ Some (worth_of (types_in context.now) w)) }
@@ -372,11 +446,11 @@ fn end_and<'k>(
 
 /// Emits `||`: the right operand is valued where the left one is false.
 #[cycle(emit)]
-fn emit_or<'t, 'v, 'e, 'f, 'm, 'k>(
+fn emit_or<'t, 'v, 'm, 'k>(
     context: &'t Context<'t, 'k>,
     visible: &'v Visible<'k>,
-    left: &'e ExpressionNode,
-    right: &'f ExpressionNode,
+    left: &'k ExpressionNode,
+    right: &'k ExpressionNode,
     code: &'m mut Vec<Instr>,
 ) -> Result<Worth<'k>, Halt>
     ensures worth { IfOk result (λ w. worth (globals_of context.now) (scope_in context.now visible.now) (Binary BinaryOperator.LogicalOr (expression_of left.now) (expression_of right.now)) ≡ Some (worth_of (types_in context.now) w)) }

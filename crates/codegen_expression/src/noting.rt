@@ -1,20 +1,20 @@
 //! What the channels of a file carry: each type that is written in it, in order.
 
 ghost use Rattle.std.specs.Prelude.{◌≡◌, ◌+◌, ◌<◌, ◌≤◌, ◌^◌, [], IfOk, OnOk, length, map, option_map, sum_by};
-ghost use Rattle.syntax.specs.Measures.{if_any, type_size, operation_size, right_size, simple_size, for_head_size, returned_size, statement_size, statements_size, branch_size, otherwise_size, clauses_size, declared_size, function_size, top_size, if_head_size};
-ghost use Rattle.syntax.specs.Tree.{RightOperation};
-ghost use Rattle.syntax.specs.View.{type_of, operation_of, right_of, simple_of, if_head_of, for_head_of, returned_of, statement_of, body_of, branch_of, otherwise_of, clause_of, clauses, declared_of, top_of};
+ghost use Rattle.syntax.specs.Measures.{if_any, type_size, expression_size, expressions_size, part_size, simple_size, for_head_size, comm_size, returned_size, statement_size, statements_size, branch_size, otherwise_size, clauses_size, declared_size, function_size, top_size, if_head_size};
+ghost use Rattle.syntax.specs.Tree.{expressions};
+ghost use Rattle.syntax.specs.View.{type_of, expression_of, part_of, right_of, simple_of, comm_of, if_head_of, for_head_of, returned_of, statement_of, body_of, branch_of, otherwise_of, clause_of, clauses, declared_of, top_of};
 ghost use Rattle.type_table.specs.Views.{kind_of};
 ghost use Rattle.type_table.specs.Visible.{types_of};
 ghost use Rattle.typing_rules.specs.Statements.{head_simple};
-ghost use Rattle.codegen_base.specs.Program.{noting, noting_any, noting_right, noting_given, noting_simple, noting_first, noting_head, noting_returned, noting_statement, noting_statements, noting_branch, noting_otherwise, noting_clauses, noting_declared, noting_top, noting_tops};
+ghost use Rattle.codegen_base.specs.Program.{noting, noting_any, noting_comm, noting_expression, noting_expressions, noting_given, noting_parts, noting_simple, noting_first, noting_head, noting_returned, noting_statement, noting_statements, noting_branch, noting_otherwise, noting_clauses, noting_declared, noting_top, noting_tops, noting_value, noting_values};
 
 use crate::element_list::ElementList;
 use crate::shape::note_kind;
 use std::alloc::{AllocError, Global};
 use syntax::{
-    ClauseNode, DeclaredNode, ElseNode, ForHeader, IfHeader, IfNode, OperationNode, ReturnNode,
-    RightNode, SimpleNode, StatementNode, TopNode, TypeNode,
+    ClauseNode, CommNode, DeclaredNode, ElseNode, ExpressionNode, ForHeader, IfHeader, IfNode,
+    PartNode, ReturnNode, SimpleNode, StatementNode, TopNode, TypeNode,
 };
 use type_table::table::TypeTable;
 use type_table::value_type::global_type_in;
@@ -53,36 +53,107 @@ fn note_any(
     }
 }
 
-/// The same for an operation: a `make` names a type.
-fn note_operation(
-    table: &TypeTable<'_>,
-    elements: &mut ElementList,
-    operation: &OperationNode,
+/// The same for an expression: a `make` names a type.
+#[cycle(expression)]
+#[tactic(auto, using(crate::proofs::Counting::expression_length))]
+fn note_expression<'t, 'e, 's>(
+    table: &'t TypeTable<'_>,
+    elements: &'e mut ElementList,
+    expression: &'s ExpressionNode,
 ) -> Result<(), AllocError>
-    requires room { length elements.old + operation_size (operation_of operation.now) < 2 ^ 32 }
-    ensures noted { OnOk result (elements.new ≡ noting_right (types_of table.now) (RightOperation (operation_of operation.now)) elements.old) }
-    ensures count { OnOk result (length elements.new ≤ length elements.old + operation_size (operation_of operation.now)) }
+    requires room { length elements.old + expression_size (expression_of expression.now) < 2 ^ 32 }
+    ensures noted { OnOk result (elements.new ≡ noting_expression (types_of table.now) (expression_of expression.now) elements.old) }
+    ensures count { OnOk result (length elements.new ≤ length elements.old + expression_size (expression_of expression.now)) }
 {
-    match operation {
-        OperationNode::Make(kind, _) => note_type(table, elements, kind),
-        _ => Ok(()),
+    match expression {
+        ExpressionNode::Integer(_) | ExpressionNode::Named(_) => Ok(()),
+        ExpressionNode::Parenthesized(inner)
+        | ExpressionNode::Selection(inner, _)
+        | ExpressionNode::Unary(_, inner)
+        | ExpressionNode::Receive(inner)
+        | ExpressionNode::Length(inner)
+        | ExpressionNode::Capacity(inner) => note_expression(table, elements, inner),
+        ExpressionNode::Composite(_, values, _) | ExpressionNode::Call(_, values, _) => {
+            note_expressions(table, elements, values.as_slice())
+        }
+        ExpressionNode::Binary(_, left, right) => {
+            note_expression(table, elements, left)?;
+            note_expression(table, elements, right)
+        }
+        ExpressionNode::Make(kind) => note_type(table, elements, kind),
+        ExpressionNode::MakeSized(kind, size) => {
+            note_type(table, elements, kind)?;
+            note_expression(table, elements, size)
+        }
     }
 }
 
-/// The same for a right side.
-fn note_right(
+/// The same for the values of a literal, a call or a right side.
+#[cycle(expression)]
+#[tactic(auto, using(crate::proofs::Counting::expressions_length))]
+fn note_expressions<'t, 'e, 's>(
+    table: &'t TypeTable<'_>,
+    elements: &'e mut ElementList,
+    values: &'s [ExpressionNode],
+) -> Result<(), AllocError>
+    requires room { length elements.old + expressions_size (expressions (map expression_of values.now)) < 2 ^ 32 }
+    ensures noted { OnOk result (elements.new ≡ noting_expressions (types_of table.now) (expressions (map expression_of values.now)) elements.old) }
+    ensures count { OnOk result (length elements.new ≤ length elements.old + expressions_size (expressions (map expression_of values.now))) }
+{
+    let Some((value, values)) = values.split_first() else {
+        return Ok(());
+    };
+    note_expression(table, elements, value)?;
+    note_expressions(table, elements, values)
+}
+
+/// The same for values, which are counted one by one.
+#[tactic(auto, using(crate::proofs::Counting::all_sizes))]
+fn note_values(
     table: &TypeTable<'_>,
     elements: &mut ElementList,
-    right: &RightNode,
+    values: &[ExpressionNode],
 ) -> Result<(), AllocError>
-    requires room { length elements.old + right_size (right_of right.now) < 2 ^ 32 }
-    ensures noted { OnOk result (elements.new ≡ noting_right (types_of table.now) (right_of right.now) elements.old) }
-    ensures count { OnOk result (length elements.new ≤ length elements.old + right_size (right_of right.now)) }
+    requires room { length elements.old + sum_by expression_size (map expression_of values.now) < 2 ^ 32 }
+    ensures noted { OnOk result (elements.new ≡ noting_values (types_of table.now) (map expression_of values.now) elements.old) }
+    ensures count { OnOk result (length elements.new ≤ length elements.old + sum_by expression_size (map expression_of values.now)) }
 {
-    match right {
-        RightNode::Operation(operation) => note_operation(table, elements, operation),
-        RightNode::Values(_) => Ok(()),
+    note_expressions(table, elements, values)
+}
+
+/// The same for an expression that may be left out.
+fn note_optional(
+    table: &TypeTable<'_>,
+    elements: &mut ElementList,
+    value: &Option<ExpressionNode>,
+) -> Result<(), AllocError>
+    requires room { length elements.old + if_any expression_size (option_map expression_of value.now) < 2 ^ 32 }
+    ensures noted { OnOk result (elements.new ≡ noting_value (types_of table.now) (option_map expression_of value.now) elements.old) }
+    ensures count { OnOk result (length elements.new ≤ length elements.old + if_any expression_size (option_map expression_of value.now)) }
+{
+    match value {
+        Some(value) => note_expression(table, elements, value),
+        None => Ok(()),
     }
+}
+
+/// The same for what is printed.
+#[tactic(auto, using(crate::proofs::Counting::parts_length))]
+fn note_parts(
+    table: &TypeTable<'_>,
+    elements: &mut ElementList,
+    parts: &[PartNode],
+) -> Result<(), AllocError>
+    requires room { length elements.old + sum_by part_size (map part_of parts.now) < 2 ^ 32 }
+    ensures noted { OnOk result (elements.new ≡ noting_parts (types_of table.now) (map part_of parts.now) elements.old) }
+    ensures count { OnOk result (length elements.new ≤ length elements.old + sum_by part_size (map part_of parts.now)) }
+{
+    for part in parts {
+        if let PartNode::Value(value) = part {
+            note_expression(table, elements, value)?;
+        }
+    }
+    Ok(())
 }
 
 /// The same for a simple statement.
@@ -96,32 +167,42 @@ fn note_simple(
     ensures count { OnOk result (length elements.new ≤ length elements.old + simple_size (simple_of simple.now)) }
 {
     match simple {
-        SimpleNode::Assign(_, right) | SimpleNode::Define(_, right) => {
-            note_right(table, elements, right)
+        SimpleNode::Call(_, arguments) => {
+            note_values(table, elements, arguments.values.as_slice())
         }
-        _ => Ok(()),
+        SimpleNode::Close(value) | SimpleNode::Receive(value) => {
+            note_expression(table, elements, value)
+        }
+        SimpleNode::Print(_, parts, _) => note_parts(table, elements, parts.as_slice()),
+        SimpleNode::Send(channel, value) => {
+            note_expression(table, elements, channel)?;
+            note_expression(table, elements, value)
+        }
+        SimpleNode::Increment(_) | SimpleNode::Decrement(_) => Ok(()),
+        SimpleNode::Assign(_, right) | SimpleNode::Define(_, right) => {
+            note_values(table, elements, right.as_slice())
+        }
+        SimpleNode::Update(_, _, value) => note_expression(table, elements, value),
     }
 }
 
 /// The same for a right side that may be left out.
-#[tactic(auto, using(crate::proofs::Counting::given_length))]
 fn note_given(
     table: &TypeTable<'_>,
     elements: &mut ElementList,
-    right: &Option<RightNode>,
+    right: &Option<Vec<ExpressionNode>>,
 ) -> Result<(), AllocError>
-    requires room { length elements.old + if_any right_size (option_map right_of right.now) < 2 ^ 32 }
+    requires room { length elements.old + if_any (sum_by expression_size) (option_map right_of right.now) < 2 ^ 32 }
     ensures noted { OnOk result (elements.new ≡ noting_given (types_of table.now) (option_map right_of right.now) elements.old) }
-    ensures count { OnOk result (length elements.new ≤ length elements.old + if_any right_size (option_map right_of right.now)) }
+    ensures count { OnOk result (length elements.new ≤ length elements.old + if_any (sum_by expression_size) (option_map right_of right.now)) }
 {
     match right {
-        Some(right) => note_right(table, elements, right),
+        Some(right) => note_values(table, elements, right.as_slice()),
         None => Ok(()),
     }
 }
 
 /// The same for a simple statement that may be left out.
-#[tactic(auto, using(crate::proofs::Counting::first_length))]
 fn note_first(
     table: &TypeTable<'_>,
     elements: &mut ElementList,
@@ -138,7 +219,6 @@ fn note_first(
 }
 
 /// The same for what stands before the condition of an `if`.
-#[tactic(auto, using(crate::proofs::Counting::if_length))]
 fn note_header(
     table: &TypeTable<'_>,
     elements: &mut ElementList,
@@ -155,7 +235,6 @@ fn note_header(
 }
 
 /// The same for the head of a loop.
-#[tactic(auto, using(crate::proofs::Counting::head_length))]
 fn note_head(
     table: &TypeTable<'_>,
     elements: &mut ElementList,
@@ -166,11 +245,38 @@ fn note_head(
     ensures count { OnOk result (length elements.new ≤ length elements.old + for_head_size (for_head_of head.now)) }
 {
     match head {
-        ForHeader::Clauses(first, _, post) => {
+        ForHeader::Forever => Ok(()),
+        ForHeader::While(condition) => note_expression(table, elements, condition),
+        ForHeader::Clauses(first, condition, post) => {
             note_first(table, elements, first)?;
+            note_optional(table, elements, condition)?;
             note_first(table, elements, post)
         }
-        _ => Ok(()),
+        ForHeader::Range(_, channel) => note_expression(table, elements, channel),
+    }
+}
+
+/// The same for the send or receive of a clause; the default clause has none.
+fn note_comm(
+    table: &TypeTable<'_>,
+    elements: &mut ElementList,
+    comm: &Option<CommNode>,
+) -> Result<(), AllocError>
+    requires room { length elements.old + if_any comm_size (option_map comm_of comm.now) < 2 ^ 32 }
+    ensures noted { OnOk result (elements.new ≡ noting_comm (types_of table.now) (option_map comm_of comm.now) elements.old) }
+    ensures count { OnOk result (length elements.new ≤ length elements.old + if_any comm_size (option_map comm_of comm.now)) }
+{
+    match comm {
+        Some(CommNode::Send(channel, value)) => {
+            note_expression(table, elements, channel)?;
+            note_expression(table, elements, value)
+        }
+        Some(
+            CommNode::Receive(channel)
+            | CommNode::Define(_, _, channel)
+            | CommNode::Assign(_, _, channel),
+        ) => note_expression(table, elements, channel),
+        None => Ok(()),
     }
 }
 
@@ -185,8 +291,8 @@ fn note_returned(
     ensures count { OnOk result (length elements.new ≤ length elements.old + returned_size (returned_of returned.now)) }
 {
     match returned {
-        ReturnNode::Operation(operation) => note_operation(table, elements, operation),
-        ReturnNode::Nothing | ReturnNode::Value(_) => Ok(()),
+        ReturnNode::Nothing => Ok(()),
+        ReturnNode::Value(value) => note_expression(table, elements, value),
     }
 }
 
@@ -208,7 +314,7 @@ fn note_statement<'t, 'e, 's>(
             note_type(table, elements, kind)?;
             note_given(table, elements, right)
         }
-        StatementNode::Untyped(_, right) => note_right(table, elements, right),
+        StatementNode::Untyped(_, right) => note_values(table, elements, right.as_slice()),
         StatementNode::Block(body) => note_statements(table, elements, body.as_slice()),
         StatementNode::If(branch) => note_branch(table, elements, branch),
         StatementNode::For(head, body) => {
@@ -217,10 +323,10 @@ fn note_statement<'t, 'e, 's>(
         }
         StatementNode::Select(clauses) => note_clauses(table, elements, clauses.as_slice()),
         StatementNode::Return(returned) => note_returned(table, elements, returned),
-        StatementNode::Empty
-        | StatementNode::Go(..)
-        | StatementNode::Break
-        | StatementNode::Continue => Ok(()),
+        StatementNode::Go(_, arguments) => {
+            note_values(table, elements, arguments.values.as_slice())
+        }
+        StatementNode::Empty | StatementNode::Break | StatementNode::Continue => Ok(()),
     }
 }
 
@@ -255,6 +361,7 @@ fn note_branch<'t, 'e, 's>(
     ensures count { OnOk result (length elements.new ≤ length elements.old + branch_size (branch_of branch.now)) }
 {
     note_header(table, elements, &branch.header)?;
+    note_expression(table, elements, &branch.condition)?;
     note_statements(table, elements, branch.body.as_slice())?;
     note_otherwise(table, elements, &branch.otherwise)
 }
@@ -291,6 +398,7 @@ fn note_clauses<'t, 'e, 's>(
     ensures count { OnOk result (length elements.new ≤ length elements.old + clauses_size (clauses (map clause_of all.now))) }
 {
     for one in all {
+        note_comm(table, elements, &one.comm)?;
         note_statements(table, elements, one.body.as_slice())?;
     }
     Ok(())

@@ -1,7 +1,7 @@
 -- Variables of one type.
 use Rattle.std.proofs.Common.{◌≡◌, ℕ, List, [], ◌∷◌, ◌++◌, None, Some, map, refl, ap, ◌∙◌, subst}
 use Rattle.syntax.specs.declared.node.Name.{Name}
-use Rattle.syntax.specs.Tree.{Right}
+use Rattle.syntax.specs.Tree.{Expression}
 use Rattle.syntax.specs.View.{name_of}
 use Rattle.bytecode.specs.declared.instr.Instr.{Instr}
 use Rattle.type_table.specs.Types.{ValueType}
@@ -48,5 +48,5 @@ module _ (globals : Globals) (elements : List Element) where
     appends_zeros layout spots i0 i1 i2 at zeros stored =
         subst (λ s. Appends i0 i2 (zero_values globals elements 0 names kind (assigns s Skip))) (at ∙ ap (name_spots globals elements layout names) same) (ends_two i0 i1 i2 (zero_values globals elements 0 names kind) (assigns spots) zeros stored)
 
-    pub appends_valued : (layout : Layout) (right : Right) (i0 i1 : List Instr) → Appends i0 i1 (defines globals elements layout names kinds right) → Appends i0 i1 (variables_plan globals elements layout names kind (Some right))
+    pub appends_valued : (layout : Layout) (right : List Expression) (i0 i1 : List Instr) → Appends i0 i1 (defines globals elements layout names kinds right) → Appends i0 i1 (variables_plan globals elements layout names kind (Some right))
     appends_valued layout right i0 i1 p = subst (λ k. Appends i0 i1 (defines globals elements layout names k right)) same p

@@ -21,7 +21,7 @@ use type_table::value_type::{ValueType, element_in};
 pub fn carried<'a>(
     table: &TypeTable<'a>,
     visible: &Visible<'a>,
-    channel: &ExpressionNode,
+    channel: &'a ExpressionNode,
 ) -> Result<ValueType<'a>, Halt>
     ensures { IfOk result (λ kind. (elements : List Element) → carried (globals_in table.now) elements (scope_of table.now visible.now) (expression_of channel.now) ≡ kind_of (types_of table.now) kind) }
 {

@@ -67,7 +67,7 @@ fn drop_sent(wanted: bool, code: &mut Vec<Instr>) -> Result<(), Halt>
 fn emit_define<'a>(
     context: &Context<'_, 'a>,
     layout: &mut Layout<'a>,
-    channel: &ExpressionNode,
+    channel: &'a ExpressionNode,
     item: &'a Name,
     sent: &'a Option<Name>,
     code: &mut Vec<Instr>,
@@ -106,7 +106,7 @@ fn received_spots<'a>(
 fn emit_assign<'a>(
     context: &Context<'_, 'a>,
     layout: &Layout<'a>,
-    channel: &ExpressionNode,
+    channel: &'a ExpressionNode,
     item: &PlaceNode,
     sent: &Option<PlaceNode>,
     code: &mut Vec<Instr>,
@@ -123,7 +123,7 @@ fn emit_assign<'a>(
 fn emit_dropped<'a>(
     context: &Context<'_, 'a>,
     layout: &Layout<'a>,
-    channel: &ExpressionNode,
+    channel: &'a ExpressionNode,
     code: &mut Vec<Instr>,
 ) -> Result<(), Halt>
     ensures { (yields : Yield) → OnOk result (Appends code.old.items code.new.items (comm_plan (globals_of context.now) (elements_of context.now) yields (layout_in context.now layout.now) (CommReceive (expression_of channel.now)))) }

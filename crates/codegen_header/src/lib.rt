@@ -11,4 +11,4 @@ pub mod start;
 pub mod test;
 pub mod variables;
 
-pub use codegen_simple::{layout, print, simple, values};
+pub use codegen_simple::{layout, print, simple};

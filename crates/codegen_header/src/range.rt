@@ -25,11 +25,11 @@ use codegen_expression::context::Context;
 use codegen_expression::halt::Halt;
 use codegen_expression::operand::{number, put, words_of};
 use codegen_expression::shape::shape_of;
+use codegen_expression::value::push_own;
 use codegen_simple::define::name_spot;
 use codegen_simple::layout::{Layout, declare, declare_new};
 use codegen_simple::place::place_spot;
 use codegen_simple::spot::{Spot, drop_words, store};
-use codegen_simple::values::push_own;
 use syntax::{ExpressionNode, Name, PlaceNode, RangeTarget};
 use type_table::value_type::ValueType;
 
@@ -48,7 +48,7 @@ pub struct Ranged<'a> {
 pub fn emit_kept<'a>(
     context: &Context<'_, 'a>,
     layout: &Layout<'a>,
-    channel: &ExpressionNode,
+    channel: &'a ExpressionNode,
     code: &mut Vec<Instr>,
 ) -> Result<Ranged<'a>, Halt>
     ensures emitted { (yields : Yield) → OnOk result (Appends code.old.items code.new.items (keeps (globals_of context.now) (elements_of context.now) yields (layout_in context.now layout.now) (expression_of channel.now))) }

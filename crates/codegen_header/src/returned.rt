@@ -14,9 +14,8 @@ use bytecode::Instr;
 use codegen_expression::context::Context;
 use codegen_expression::halt::Halt;
 use codegen_expression::operand::put;
+use codegen_expression::value::push;
 use codegen_simple::layout::Layout;
-use codegen_simple::operation::push_one;
-use codegen_simple::values::push;
 use syntax::ReturnNode;
 use type_table::scope::Visible;
 use type_table::value_type::ValueType;
@@ -36,14 +35,13 @@ fn push_returned<'k>(
     context: &Context<'_, 'k>,
     visible: &Visible<'k>,
     kind: Option<ValueType<'k>>,
-    returned: &ReturnNode,
+    returned: &'k ReturnNode,
     code: &mut Vec<Instr>,
 ) -> Result<(), Halt>
     ensures { OnOk result (Puts code.old.items code.new.items (pushes_returned (globals_of context.now) (elements_of context.now) (yield_of (types_in context.now) kind.entry) (scope_in context.now visible.now) (returned_of returned.now))) }
 {
     match returned {
         ReturnNode::Nothing => Ok(()),
-        ReturnNode::Operation(operation) => push_one(context, visible, operation, code),
         ReturnNode::Value(value) => {
             let kind = result_type(kind);
             push(context, visible, kind, value, code)
@@ -58,7 +56,7 @@ pub fn emit_return<'k>(
     context: &Context<'_, 'k>,
     layout: &Layout<'k>,
     kind: Option<ValueType<'k>>,
-    returned: &ReturnNode,
+    returned: &'k ReturnNode,
     code: &mut Vec<Instr>,
 ) -> Result<(), Halt>
     ensures { OnOk result (Appends code.old.items code.new.items (return_plan (globals_of context.now) (elements_of context.now) (yield_of (types_in context.now) kind.entry) (layout_in context.now layout.now) (returned_of returned.now))) }

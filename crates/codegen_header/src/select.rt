@@ -10,19 +10,19 @@ ghost use Rattle.codegen_expression.specs.Contexts.{elements_of, globals_of};
 
 use crate::carried::carried;
 use bytecode::{Clause, Instr, SelectTable};
+use codegen_expression::channel::push_channel;
 use codegen_expression::context::Context;
 use codegen_expression::halt::Halt;
 use codegen_expression::shape::shape_of;
+use codegen_expression::value::{push, push_own};
 use codegen_simple::layout::Layout;
-use codegen_simple::operation::push_channel;
-use codegen_simple::values::{push, push_own};
 use syntax::{ClauseNode, CommNode};
 
 /// Pushes the channel of a clause, and what is sent on it.
 fn push_comm<'k>(
     context: &Context<'_, 'k>,
     layout: &Layout<'k>,
-    comm: &CommNode,
+    comm: &'k CommNode,
     code: &mut Vec<Instr>,
 ) -> Result<(), Halt>
     ensures { (yields : Yield) → OnOk result (Puts code.old.items code.new.items (pushes_comm (globals_of context.now) (elements_of context.now) yields (layout_in context.now layout.now) (comm_of comm.now))) }
@@ -46,7 +46,7 @@ fn push_comm<'k>(
 fn push_clause<'k>(
     context: &Context<'_, 'k>,
     layout: &Layout<'k>,
-    clause: &ClauseNode,
+    clause: &'k ClauseNode,
     code: &mut Vec<Instr>,
 ) -> Result<(), Halt>
     ensures { (yields : Yield) → OnOk result (Puts code.old.items code.new.items (pushes_clauses (globals_of context.now) (elements_of context.now) yields (layout_in context.now layout.now) (clauses (clause_of clause.now ∷ [])))) }
@@ -60,10 +60,10 @@ fn push_clause<'k>(
 /// Pushes the channels of all clauses, and what is sent on them, in order.
 ///
 /// Errors: something is wrong with a channel or a value; want of memory.
-pub fn push_clauses<'t, 'y, 'c, 'm, 'a>(
+pub fn push_clauses<'t, 'y, 'm, 'a>(
     context: &'t Context<'t, 'a>,
     layout: &'y Layout<'a>,
-    all: &'c [ClauseNode],
+    all: &'a [ClauseNode],
     code: &'m mut Vec<Instr>,
 ) -> Result<(), Halt>
     ensures { (yields : Yield) → OnOk result (Puts code.old.items code.new.items (pushes_clauses (globals_of context.now) (elements_of context.now) yields (layout_in context.now layout.now) (clauses (map clause_of all.now)))) }
@@ -79,7 +79,7 @@ pub fn push_clauses<'t, 'y, 'c, 'm, 'a>(
 fn table_clause<'k>(
     context: &Context<'_, 'k>,
     layout: &Layout<'k>,
-    comm: &CommNode,
+    comm: &'k CommNode,
     to: u32,
 ) -> Result<Clause, Halt>
     ensures { IfOk result (λ made. (yields : Yield) → made ≡ table_clause (globals_of context.now) (elements_of context.now) yields (layout_in context.now layout.now) (comm_of comm.now) to) }
@@ -100,10 +100,10 @@ fn table_clause<'k>(
 }
 
 /// The entries of clauses whose ways begin at these places.
-fn table_clauses<'t, 'y, 'c, 'p, 'a>(
+fn table_clauses<'t, 'y, 'p, 'a>(
     context: &'t Context<'t, 'a>,
     layout: &'y Layout<'a>,
-    all: &'c [ClauseNode],
+    all: &'a [ClauseNode],
     places: &'p [u32],
 ) -> Result<Vec<Clause>, Halt>
     ensures { IfOk result (λ made. (yields : Yield) → made.items ≡ table_clauses (globals_of context.now) (elements_of context.now) yields (layout_in context.now layout.now) (clauses (map clause_of all.now)) places.now) }
@@ -125,7 +125,7 @@ fn table_clauses<'t, 'y, 'c, 'p, 'a>(
 }
 
 /// Where the default of a select begins, if it has one.
-fn default_place<'c, 'p>(all: &'c [ClauseNode], places: &'p [u32]) -> Option<u32>
+fn default_place<'p>(all: &'p [ClauseNode], places: &'p [u32]) -> Option<u32>
     ensures { (globals : _) (elements : _) (yields : Yield) → result ≡ default_at (default_places globals elements yields (clauses (map clause_of all.now)) places.now) }
 {
     let Some((clause, all)) = all.split_first() else {
@@ -146,7 +146,7 @@ fn default_place<'c, 'p>(all: &'c [ClauseNode], places: &'p [u32]) -> Option<u32
 pub fn select_table<'a>(
     context: &Context<'_, 'a>,
     layout: &Layout<'a>,
-    all: &[ClauseNode],
+    all: &'a [ClauseNode],
     places: &[u32],
 ) -> Result<SelectTable, Halt>
     ensures { IfOk result (λ made. (yields : Yield) → made ≡ select_table (globals_of context.now) (elements_of context.now) yields (layout_in context.now layout.now) (clauses (map clause_of all.now)) places.now) }

@@ -3,17 +3,17 @@
 ghost use Rattle.std.specs.Prelude.{OnOk, map};
 ghost use Rattle.bytecode.specs.declared.instr.Instr.TheVariants as instrs;
 ghost use Rattle.syntax.specs.View.{expression_of, name_of};
-ghost use Rattle.meaning.specs.Destinations.{number_of};
+ghost use Rattle.meaning.specs.Expressions.{number_of};
 ghost use Rattle.codegen_base.specs.Statements.{pushes_arguments};
 ghost use Rattle.plan.specs.Plan.{Do, Skip};
 ghost use Rattle.codegen_simple.specs.Simples.{Appends};
 ghost use Rattle.codegen_expression.specs.Contexts.{elements_of, globals_of, scope_in};
 
 use bytecode::Instr;
+use codegen_expression::channel::push_arguments;
 use codegen_expression::context::Context;
 use codegen_expression::halt::Halt;
 use codegen_expression::operand::put;
-use codegen_simple::operation::push_arguments;
 use syntax::{ArgumentsNode, Name};
 use type_table::scope::Visible;
 
@@ -25,7 +25,7 @@ pub fn emit_go<'k>(
     context: &Context<'_, 'k>,
     visible: &Visible<'k>,
     name: &Name,
-    arguments: &ArgumentsNode,
+    arguments: &'k ArgumentsNode,
     code: &mut Vec<Instr>,
 ) -> Result<(), Halt>
     ensures { OnOk result (Appends code.old.items code.new.items (pushes_arguments (globals_of context.now) (elements_of context.now) (scope_in context.now visible.now) (number_of (globals_of context.now) (name_of name.now)) (map expression_of arguments.now.values.items) (Do (instrs.Go (number_of (globals_of context.now) (name_of name.now))) Skip))) }

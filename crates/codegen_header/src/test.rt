@@ -10,8 +10,8 @@ ghost use Rattle.codegen_expression.specs.Contexts.{elements_of, globals_of};
 use bytecode::Instr;
 use codegen_expression::context::Context;
 use codegen_expression::halt::Halt;
+use codegen_expression::value::push;
 use codegen_simple::layout::Layout;
-use codegen_simple::values::push;
 use syntax::ExpressionNode;
 use type_table::value_type::ValueType;
 
@@ -21,7 +21,7 @@ use type_table::value_type::ValueType;
 pub fn push_test<'k>(
     context: &Context<'_, 'k>,
     layout: &Layout<'k>,
-    condition: &ExpressionNode,
+    condition: &'k ExpressionNode,
     code: &mut Vec<Instr>,
 ) -> Result<(), Halt>
     ensures { OnOk result (Puts code.old.items code.new.items (tests (globals_of context.now) (elements_of context.now) (layout_in context.now layout.now) (expression_of condition.now))) }

@@ -1,7 +1,7 @@
 //! Declarations of variables ("Variable declarations" of the Go specification).
 
 ghost use Rattle.std.specs.Prelude.{◌≡◌, IfOk, None, OnOk, length, map, option_map};
-ghost use Rattle.syntax.specs.View.{name_of, right_of, type_of};
+ghost use Rattle.syntax.specs.View.{expression_of, name_of, right_of, type_of};
 ghost use Rattle.type_table.specs.Scopes.{type_in};
 ghost use Rattle.type_table.specs.Views.{kind_of};
 ghost use Rattle.type_table.specs.Visible.{Keeps};
@@ -20,11 +20,11 @@ use codegen_expression::halt::Halt;
 use codegen_expression::operand::push_zeros;
 use codegen_simple::assignment::assign;
 use codegen_simple::define::define_names;
-use codegen_simple::given::right_kinds;
 use codegen_simple::layout::Layout;
+use codegen_simple::right::right_kinds;
 use codegen_simple::simple::define_as;
 use std::alloc::{AllocError, Global};
-use syntax::{Name, RightNode, TypeNode};
+use syntax::{ExpressionNode, Name, TypeNode};
 use type_table::value_type::{ValueType, type_in};
 
 /// A type, once for each name.
@@ -84,7 +84,7 @@ fn emit_known<'a>(
     layout: &mut Layout<'a>,
     names: &'a [Name],
     kind: ValueType<'a>,
-    right: &'a Option<RightNode>,
+    right: &'a Option<Vec<ExpressionNode>>,
     code: &mut Vec<Instr>,
 ) -> Result<(), Halt>
     ensures emitted { OnOk result (Appends code.old.items code.new.items (variables_plan (globals_of context.now) (elements_of context.now) (layout_in context.now layout.old) (map name_of names.now) (kind_of (types_in context.now) kind.entry) (option_map right_of right.now))) }
@@ -94,7 +94,7 @@ fn emit_known<'a>(
     let same = same_types(context.alloc, names, kind)?;
     let kinds = same.as_slice();
     match right {
-        Some(right) => define_as(context, layout, names, kinds, right, code),
+        Some(right) => define_as(context, layout, names, kinds, right.as_slice(), code),
         None => zero_as(context, layout, names, kind, kinds, code),
     }
 }
@@ -107,7 +107,7 @@ pub fn emit_typed<'a>(
     layout: &mut Layout<'a>,
     names: &'a [Name],
     kind: &'a TypeNode,
-    right: &'a Option<RightNode>,
+    right: &'a Option<Vec<ExpressionNode>>,
     code: &mut Vec<Instr>,
 ) -> Result<(), Halt>
     ensures emitted { OnOk result (Appends code.old.items code.new.items (variables_plan (globals_of context.now) (elements_of context.now) (layout_in context.now layout.old) (map name_of names.now) (known (type_in (types_in context.now) (scope_in context.now layout.old.visible) (type_of kind.now))) (option_map right_of right.now))) }
@@ -127,11 +127,11 @@ pub fn emit_untyped<'a>(
     context: &Context<'_, 'a>,
     layout: &mut Layout<'a>,
     names: &'a [Name],
-    right: &'a RightNode,
+    right: &'a [ExpressionNode],
     code: &mut Vec<Instr>,
 ) -> Result<(), Halt>
-    ensures emitted { OnOk result (Appends code.old.items code.new.items (defines (globals_of context.now) (elements_of context.now) (layout_in context.now layout.old) (map name_of names.now) (right_types (globals_of context.now) (elements_of context.now) (scope_in context.now layout.old.visible) (length (map name_of names.now)) (right_of right.now)) (right_of right.now))) }
-    ensures after { OnOk result (layout_in context.now layout.new ≡ declaring_all (globals_of context.now) (elements_of context.now) (map name_of names.now) (right_types (globals_of context.now) (elements_of context.now) (scope_in context.now layout.old.visible) (length (map name_of names.now)) (right_of right.now)) (layout_in context.now layout.old)) }
+    ensures emitted { OnOk result (Appends code.old.items code.new.items (defines (globals_of context.now) (elements_of context.now) (layout_in context.now layout.old) (map name_of names.now) (right_types (globals_of context.now) (elements_of context.now) (scope_in context.now layout.old.visible) (length (map name_of names.now)) (map expression_of right.now)) (map expression_of right.now))) }
+    ensures after { OnOk result (layout_in context.now layout.new ≡ declaring_all (globals_of context.now) (elements_of context.now) (map name_of names.now) (right_types (globals_of context.now) (elements_of context.now) (scope_in context.now layout.old.visible) (length (map name_of names.now)) (map expression_of right.now)) (layout_in context.now layout.old)) }
     ensures kept { OnOk result (Keeps layout.old.visible layout.new.visible) }
 {
     let given = right_kinds(context, &layout.visible, names.len(), right)?;

@@ -1,6 +1,6 @@
 -- Parts that make whole plans.
 use Rattle.std.proofs.Common.{◌≡◌, ℕ, List, [], ◌∷◌, ◌++◌, length, subst}
-use Rattle.syntax.specs.Tree.{Place, Right}
+use Rattle.syntax.specs.Tree.{Expression, Place}
 use Rattle.bytecode.specs.declared.instr.Instr.{Instr}
 use Rattle.type_table.specs.Types.{ValueType}
 use Rattle.type_table.specs.Scopes.{Globals, Scope}
@@ -37,7 +37,7 @@ ends_update i0 i1 i2 i3 i4 i5 left right more i j p q is m last =
 
 -- ---- what a right side gives goes to places or names
 
-module _ (globals : Globals) (elements : List Element) (right : Right) (count : ℕ) (given taken : List ValueType) (spots : List Spot) (i0 i1 i2 : List Instr) where
+module _ (globals : Globals) (elements : List Element) (right : List Expression) (count : ℕ) (given taken : List ValueType) (spots : List Spot) (i0 i1 i2 : List Instr) where
   pub appends_set : (scope : Scope) (places : List Place) → count ≡ length places → given ≡ right_types globals elements scope count right → taken ≡ taken_types globals elements scope places given → spots ≡ place_spots globals elements scope places given
       → Puts i0 i1 (pushes_right globals elements scope count taken right) → Puts i1 i2 (assigns spots) → Appends i0 i2 (sets globals elements scope places (right_types globals elements scope (length places) right) right)
   appends_set scope places n g t s p q =
@@ -45,7 +45,7 @@ module _ (globals : Globals) (elements : List Element) (right : Right) (count : 
       let e : pushes_right globals elements scope count taken right (assigns spots Skip) ≡ pushes_right globals elements scope (length places) (taken_types globals elements scope places types) right (assigns (place_spots globals elements scope places types) Skip) = cc in
       subst (Appends i0 i2) e (ends_two i0 i1 i2 (pushes_right globals elements scope count taken right) (assigns spots) p q)
 
-pub appends_define : (globals : Globals) (elements : List Element) (layout : Layout) (names : List (List ℕ)) (kinds : List ValueType) (right : Right) (count : ℕ) (taken : List ValueType) (spots : List Spot) (i0 i1 i2 : List Instr) → count ≡ length names
+pub appends_define : (globals : Globals) (elements : List Element) (layout : Layout) (names : List (List ℕ)) (kinds : List ValueType) (right : List Expression) (count : ℕ) (taken : List ValueType) (spots : List Spot) (i0 i1 i2 : List Instr) → count ≡ length names
     → taken ≡ name_types globals elements layout names kinds → spots ≡ name_spots globals elements layout names kinds
     → Puts i0 i1 (pushes_right globals elements layout.scope count taken right) → Puts i1 i2 (assigns spots) → Appends i0 i2 (defines globals elements layout names kinds right)
 appends_define globals elements layout names kinds right count taken spots i0 i1 i2 n t s p q =

@@ -3,3 +3,6 @@ pub mod Naming
 pub mod Printing
 pub mod Updating
 pub mod Leaving
+pub mod Rights
+pub mod Placing
+pub mod Storing

@@ -1,3 +1,4 @@
 pub mod Layouts
 pub mod Simples
-pub use Rattle.codegen_operation.specs.Spots
+pub mod Spots
+pub mod Rights

@@ -10,13 +10,13 @@ ghost use Rattle.codegen_base.specs.Layouts.{declaring_all};
 ghost use Rattle.codegen_base.specs.Statements.{name_spot, name_spots, name_type, name_types, own_spot};
 ghost use Rattle.codegen_expression.specs.Contexts.{elements_of, globals_of, scope_in, types_in};
 ghost use Rattle.codegen_simple.specs.Layouts.{layout_in};
-ghost use Rattle.codegen_operation.specs.Spots.{spot_in};
+ghost use Rattle.codegen_simple.specs.Spots.{spot_in};
 
 use crate::layout::{Layout, declare_new, is_declarable};
+use crate::spot::Spot;
 use codegen_expression::context::Context;
 use codegen_expression::halt::Halt;
 use codegen_expression::operand::{number, words_of};
-use codegen_operation::spot::Spot;
 use syntax::Name;
 use type_table::scope::{Visible, own_variable};
 use type_table::table::TypeTable;

@@ -1,10 +1,12 @@
-//! The instructions of simple statements, and where variables lie.
+//! The instructions of simple statements and assignments, and where variables lie.
 #![tactic(auto)]
 
+pub mod assignment;
 pub mod define;
 pub mod layout;
+pub mod place;
 pub mod print;
+pub mod right;
 pub mod simple;
+pub mod spot;
 pub mod update;
-
-pub use codegen_operation::{assignment, given, operation, place, spot, values};

@@ -13,7 +13,7 @@ use checker_base::operand::worth;
 use checker_base::worth::Worth;
 use codegen_expression::context::Context;
 use codegen_expression::halt::Halt;
-use codegen_operation::values::push_own;
+use codegen_expression::value::push_own;
 use syntax::{PartNode, SimpleNode};
 use type_table::scope::Visible;
 use type_table::value_type::ValueType;
@@ -32,7 +32,7 @@ fn printed_as(worth: Worth<'_>) -> Part
 fn printed_part<'k>(
     context: &Context<'_, 'k>,
     visible: &Visible<'k>,
-    part: &PartNode,
+    part: &'k PartNode,
 ) -> Result<Part, Halt>
     ensures { IfOk result (λ made. (elements : List Element) → made ≡ printed_part (globals_of context.now) elements (scope_in context.now visible.now) (part_of part.now)) }
 {
@@ -49,10 +49,10 @@ fn printed_part<'k>(
 }
 
 /// How parts are printed, in order.
-fn printed_parts<'t, 'v, 'p, 'k>(
+fn printed_parts<'t, 'v, 'k>(
     context: &'t Context<'t, 'k>,
     visible: &'v Visible<'k>,
-    parts: &'p [PartNode],
+    parts: &'k [PartNode],
 ) -> Result<Vec<Part>, Halt>
     ensures { IfOk result (λ made. (elements : List Element) → made.items ≡ map (printed_part (globals_of context.now) elements (scope_in context.now visible.now)) (map part_of parts.now)) }
 {
@@ -71,7 +71,7 @@ fn printed_parts<'t, 'v, 'p, 'k>(
 pub fn put_prints<'k>(
     context: &Context<'_, 'k>,
     visible: &Visible<'k>,
-    simple: &SimpleNode,
+    simple: &'k SimpleNode,
     prints: &mut Vec<PrintTable>,
 ) -> Result<(), Halt>
     ensures { (elements : List Element) → OnOk result (prints.new.items ≡ prints.old.items ++ simple_prints (globals_of context.now) elements (scope_in context.now visible.now) (simple_of simple.now)) }
@@ -90,7 +90,7 @@ pub fn put_prints<'k>(
 fn push_part<'k>(
     context: &Context<'_, 'k>,
     visible: &Visible<'k>,
-    part: &PartNode,
+    part: &'k PartNode,
     code: &mut Vec<Instr>,
 ) -> Result<(), Halt>
     ensures { OnOk result (Puts code.old.items code.new.items (pushes_parts (globals_of context.now) (elements_of context.now) (scope_in context.now visible.now) (part_of part.now ∷ []))) }
@@ -108,10 +108,10 @@ fn push_part<'k>(
 ///
 /// Errors: something is wrong with a value; want of memory.
 #[tactic(auto, using(crate::proofs::Printing::puts_part))]
-pub fn push_parts<'t, 'v, 'p, 'm, 'k>(
+pub fn push_parts<'t, 'v, 'm, 'k>(
     context: &'t Context<'t, 'k>,
     visible: &'v Visible<'k>,
-    parts: &'p [PartNode],
+    parts: &'k [PartNode],
     code: &'m mut Vec<Instr>,
 ) -> Result<(), Halt>
     ensures { OnOk result (Puts code.old.items code.new.items (pushes_parts (globals_of context.now) (elements_of context.now) (scope_in context.now visible.now) (map part_of parts.now))) }

@@ -2,12 +2,12 @@
 
 ghost use Rattle.std.specs.Prelude.{◌≡◌, ◌+◌, ℕ, OnOk, length, map};
 ghost use Rattle.bytecode.specs.declared.instr.Instr.TheVariants as instrs;
-ghost use Rattle.syntax.specs.View.{expression_of, name_of, part_of, place_of, right_of, simple_of};
+ghost use Rattle.syntax.specs.View.{expression_of, name_of, part_of, place_of, simple_of};
 ghost use Rattle.type_table.specs.Scopes.{Scope};
 ghost use Rattle.type_table.specs.Views.{kind_of};
 ghost use Rattle.type_table.specs.Visible.{Keeps};
-ghost use Rattle.meaning.specs.Destinations.{number_of};
-ghost use Rattle.typing_rules.specs.Operations.{result_of};
+ghost use Rattle.meaning.specs.Expressions.{number_of};
+ghost use Rattle.typing_rules.specs.Calls.{result_of};
 ghost use Rattle.codegen_base.specs.Elements.{shape_of};
 ghost use Rattle.codegen_base.specs.Layouts.{behind_simple, carried, declaring_all};
 ghost use Rattle.codegen_base.specs.Pushes.{drops, pushes, pushes_own};
@@ -18,23 +18,24 @@ ghost use Rattle.codegen_expression.specs.Contexts.{elements_of, globals_of, sco
 ghost use Rattle.codegen_simple.specs.Layouts.{layout_in};
 ghost use Rattle.codegen_simple.specs.Simples.{Appends};
 
+use crate::assignment::assign;
 use crate::define::{define_names, name_types};
 use crate::layout::Layout;
+use crate::place::{place_spots, taken_types};
 use crate::print::push_parts;
+use crate::right::{push_right, right_kinds};
+use crate::spot::drop_words;
 use crate::update::{step, update};
 use bytecode::Instr;
+use checker_base::callee::result_of;
+use codegen_expression::channel::{push_arguments, push_channel, push_received};
 use codegen_expression::context::Context;
 use codegen_expression::halt::Halt;
 use codegen_expression::operand::{put, words_of};
 use codegen_expression::shape::shape_of;
-use codegen_operation::assignment::assign;
-use codegen_operation::given::{result_of, right_kinds};
-use codegen_operation::operation::{push_arguments, push_channel, push_received, push_right};
-use codegen_operation::place::{place_spots, taken_types};
-use codegen_operation::spot::drop_words;
-use codegen_operation::values::{push, push_own};
+use codegen_expression::value::{push, push_own};
 use syntax::{
-    ArgumentsNode, BinaryOperator, ExpressionNode, Name, PartNode, PlaceNode, RightNode, SimpleNode,
+    ArgumentsNode, BinaryOperator, ExpressionNode, Name, PartNode, PlaceNode, SimpleNode,
 };
 use type_table::scope::Visible;
 use type_table::value_type::ValueType;
@@ -54,7 +55,7 @@ fn call<'k>(
     context: &Context<'_, 'k>,
     visible: &Visible<'k>,
     name: &Name,
-    arguments: &ArgumentsNode,
+    arguments: &'k ArgumentsNode,
     code: &mut Vec<Instr>,
 ) -> Result<(), Halt>
     ensures { OnOk result (Appends code.old.items code.new.items (pushes_arguments (globals_of context.now) (elements_of context.now) (scope_in context.now visible.now) (number_of (globals_of context.now) (name_of name.now)) (map expression_of arguments.now.values.items) (Do (instrs.Call (number_of (globals_of context.now) (name_of name.now))) (drops (result_words (globals_of context.now) (elements_of context.now) (scope_in context.now visible.now) (result_of (globals_of context.now) (number_of (globals_of context.now) (name_of name.now)))) Skip)))) }
@@ -68,7 +69,7 @@ fn call<'k>(
 fn close<'k>(
     context: &Context<'_, 'k>,
     visible: &Visible<'k>,
-    channel: &ExpressionNode,
+    channel: &'k ExpressionNode,
     code: &mut Vec<Instr>,
 ) -> Result<(), Halt>
     ensures { OnOk result (Appends code.old.items code.new.items (pushes_own (globals_of context.now) (elements_of context.now) (scope_in context.now visible.now) (expression_of channel.now) (Do instrs.Close Skip))) }
@@ -82,7 +83,7 @@ fn print<'k>(
     context: &Context<'_, 'k>,
     visible: &Visible<'k>,
     number: u32,
-    parts: &[PartNode],
+    parts: &'k [PartNode],
     code: &mut Vec<Instr>,
 ) -> Result<(), Halt>
     ensures { OnOk result (Appends code.old.items code.new.items (pushes_parts (globals_of context.now) (elements_of context.now) (scope_in context.now visible.now) (map part_of parts.now) (Do (instrs.Print number) Skip))) }
@@ -95,7 +96,7 @@ fn print<'k>(
 fn receive<'k>(
     context: &Context<'_, 'k>,
     visible: &Visible<'k>,
-    channel: &ExpressionNode,
+    channel: &'k ExpressionNode,
     code: &mut Vec<Instr>,
 ) -> Result<(), Halt>
     ensures { OnOk result (Appends code.old.items code.new.items (pushes_received (globals_of context.now) (elements_of context.now) (scope_in context.now visible.now) (expression_of channel.now) (Do (instrs.Discard (width (globals_of context.now) (elements_of context.now) (scope_in context.now visible.now) (carried (globals_of context.now) (elements_of context.now) (scope_in context.now visible.now) (expression_of channel.now)) + 1)) Skip))) }
@@ -111,8 +112,8 @@ fn receive<'k>(
 fn send<'k>(
     context: &Context<'_, 'k>,
     visible: &Visible<'k>,
-    channel: &ExpressionNode,
-    value: &ExpressionNode,
+    channel: &'k ExpressionNode,
+    value: &'k ExpressionNode,
     code: &mut Vec<Instr>,
 ) -> Result<(), Halt>
     ensures { OnOk result (Appends code.old.items code.new.items (pushes_own (globals_of context.now) (elements_of context.now) (scope_in context.now visible.now) (expression_of channel.now) (pushes (globals_of context.now) (elements_of context.now) (scope_in context.now visible.now) (carried (globals_of context.now) (elements_of context.now) (scope_in context.now visible.now) (expression_of channel.now)) (expression_of value.now) (Do (instrs.Send (shape_of (elements_of context.now) (carried (globals_of context.now) (elements_of context.now) (scope_in context.now visible.now) (expression_of channel.now)))) Skip)))) }
@@ -127,10 +128,10 @@ fn set<'a>(
     context: &Context<'_, 'a>,
     visible: &Visible<'a>,
     places: &[PlaceNode],
-    right: &'a RightNode,
+    right: &'a [ExpressionNode],
     code: &mut Vec<Instr>,
 ) -> Result<(), Halt>
-    ensures { OnOk result (Appends code.old.items code.new.items (sets (globals_of context.now) (elements_of context.now) (scope_in context.now visible.now) (map place_of places.now) (right_types (globals_of context.now) (elements_of context.now) (scope_in context.now visible.now) (length (map place_of places.now)) (right_of right.now)) (right_of right.now))) }
+    ensures { OnOk result (Appends code.old.items code.new.items (sets (globals_of context.now) (elements_of context.now) (scope_in context.now visible.now) (map place_of places.now) (right_types (globals_of context.now) (elements_of context.now) (scope_in context.now visible.now) (length (map place_of places.now)) (map expression_of right.now)) (map expression_of right.now))) }
 {
     let count = places.len();
     let given = right_kinds(context, visible, count, right)?;
@@ -150,10 +151,10 @@ pub fn define_as<'a>(
     layout: &mut Layout<'a>,
     names: &'a [Name],
     kinds: &[ValueType<'a>],
-    right: &'a RightNode,
+    right: &'a [ExpressionNode],
     code: &mut Vec<Instr>,
 ) -> Result<(), Halt>
-    ensures emitted { OnOk result (Appends code.old.items code.new.items (defines (globals_of context.now) (elements_of context.now) (layout_in context.now layout.old) (map name_of names.now) (map (kind_of (types_in context.now)) kinds.now) (right_of right.now))) }
+    ensures emitted { OnOk result (Appends code.old.items code.new.items (defines (globals_of context.now) (elements_of context.now) (layout_in context.now layout.old) (map name_of names.now) (map (kind_of (types_in context.now)) kinds.now) (map expression_of right.now))) }
     ensures after { OnOk result (layout_in context.now layout.new ≡ declaring_all (globals_of context.now) (elements_of context.now) (map name_of names.now) (map (kind_of (types_in context.now)) kinds.now) (layout_in context.now layout.old)) }
     ensures kept { OnOk result (Keeps layout.old.visible layout.new.visible) }
 {
@@ -171,11 +172,11 @@ fn define<'a>(
     context: &Context<'_, 'a>,
     layout: &mut Layout<'a>,
     names: &'a [Name],
-    right: &'a RightNode,
+    right: &'a [ExpressionNode],
     code: &mut Vec<Instr>,
 ) -> Result<(), Halt>
-    ensures emitted { OnOk result (Appends code.old.items code.new.items (defines (globals_of context.now) (elements_of context.now) (layout_in context.now layout.old) (map name_of names.now) (right_types (globals_of context.now) (elements_of context.now) (scope_in context.now layout.old.visible) (length (map name_of names.now)) (right_of right.now)) (right_of right.now))) }
-    ensures after { OnOk result (layout_in context.now layout.new ≡ declaring_all (globals_of context.now) (elements_of context.now) (map name_of names.now) (right_types (globals_of context.now) (elements_of context.now) (scope_in context.now layout.old.visible) (length (map name_of names.now)) (right_of right.now)) (layout_in context.now layout.old)) }
+    ensures emitted { OnOk result (Appends code.old.items code.new.items (defines (globals_of context.now) (elements_of context.now) (layout_in context.now layout.old) (map name_of names.now) (right_types (globals_of context.now) (elements_of context.now) (scope_in context.now layout.old.visible) (length (map name_of names.now)) (map expression_of right.now)) (map expression_of right.now))) }
+    ensures after { OnOk result (layout_in context.now layout.new ≡ declaring_all (globals_of context.now) (elements_of context.now) (map name_of names.now) (right_types (globals_of context.now) (elements_of context.now) (scope_in context.now layout.old.visible) (length (map name_of names.now)) (map expression_of right.now)) (layout_in context.now layout.old)) }
     ensures kept { OnOk result (Keeps layout.old.visible layout.new.visible) }
 {
     let given = right_kinds(context, &layout.visible, names.len(), right)?;
@@ -200,7 +201,7 @@ fn emit_assignment<'a>(
         }
         SimpleNode::Assign(places, right) => {
             let places = places.as_slice();
-            set(context, visible, places, right, code)
+            set(context, visible, places, right.as_slice(), code)
         }
         SimpleNode::Update(place, operator, value) => {
             update(context, visible, place, *operator, value, code)
@@ -250,7 +251,7 @@ pub fn emit_simple<'a>(
     match simple {
         SimpleNode::Define(names, right) => {
             let names = names.as_slice();
-            define(context, layout, names, right, code)
+            define(context, layout, names, right.as_slice(), code)
         }
         _ => emit_plain(context, layout, number, simple, code),
     }

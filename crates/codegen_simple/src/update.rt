@@ -11,16 +11,16 @@ ghost use Rattle.codegen_base.specs.Statements.{loads_spot, steps, updates};
 ghost use Rattle.codegen_expression.specs.Emission.{Puts};
 ghost use Rattle.codegen_expression.specs.Contexts.{elements_of, globals_of, scope_in};
 ghost use Rattle.codegen_simple.specs.Simples.{Appends};
-ghost use Rattle.codegen_operation.specs.Spots.{spot_in};
+ghost use Rattle.codegen_simple.specs.Spots.{spot_in};
 
+use crate::place::{selected, spot_of};
+use crate::spot::{Spot, store};
 use bytecode::Instr;
 use codegen_expression::context::Context;
 use codegen_expression::halt::Halt;
 use codegen_expression::operand::put;
 use codegen_expression::operator::operator_of;
-use codegen_operation::place::{selected, spot_of};
-use codegen_operation::spot::{Spot, store};
-use codegen_operation::values::push;
+use codegen_expression::value::push;
 use syntax::{BinaryOperator, ExpressionNode, PlaceNode};
 use type_table::scope::Visible;
 use type_table::value_type::ValueType;
@@ -74,7 +74,7 @@ pub fn update<'k>(
     visible: &Visible<'k>,
     place: &PlaceNode,
     operator: BinaryOperator,
-    value: &ExpressionNode,
+    value: &'k ExpressionNode,
     code: &mut Vec<Instr>,
 ) -> Result<(), Halt>
     ensures { OnOk result (Appends code.old.items code.new.items (updates (globals_of context.now) (elements_of context.now) (scope_in context.now visible.now) (place_of place.now) operator (worth (globals_of context.now) (scope_in context.now visible.now) (expression_of value.now)) (type_of (globals_of context.now) (elements_of context.now) (scope_in context.now visible.now) (expression_of value.now)) (emits (globals_of context.now) (elements_of context.now) (scope_in context.now visible.now) (expression_of value.now)))) }

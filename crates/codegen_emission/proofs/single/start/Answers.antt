@@ -2,7 +2,7 @@ use Rattle.std.proofs.Common.{map, refl}
 use Rattle.std.proofs.lemmas.Result.{on_ok_weaker}
 use Rattle.syntax.specs.View.{expression_of, name_of}
 use Rattle.type_table.specs.Visible.{globals_in}
-use Rattle.meaning.specs.Destinations.{number_of}
+use Rattle.meaning.specs.Expressions.{number_of}
 use Rattle.codegen_emission.specs.declared.emitter.Emitter.{Emitter}
 use Rattle.codegen_flow.specs.Controls.{through}
 use Rattle.codegen_emission.proofs.Straight.{emits_go}

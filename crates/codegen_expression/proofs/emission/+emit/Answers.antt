@@ -1,20 +1,22 @@
-use Rattle.std.proofs.Common.{rules, arith, ◌≡◌, ◌∙◌, IfOk, OnOk, Result, Ok, Err, Some, option_and_then, ap, sym, length, map, slice_set}
+use Rattle.std.proofs.Common.{rules, arith, ◌≡◌, ◌∙◌, IfOk, OnOk, Result, Ok, Err, Some, option_and_then, ap, sym, length, map, slice_set, [], ◌∷◌, ◌++◌}
 use Rattle.std.proofs.lemmas.Result.{IfOk-weaker, on_ok_weaker}
 use Rattle.bytecode.specs.declared.instr.Instr.TheVariants as instrs
 use Rattle.syntax.specs.declared.node.BinaryOperator.TheVariants as symbols
 use Rattle.syntax.specs.Measures.{expression_size, expressions_size}
-use Rattle.syntax.specs.Tree.{Unary, expressions}
-use Rattle.syntax.specs.View.{expression_of, name_of}
+use Rattle.syntax.specs.Tree.{Unary, Receive, Make, MakeSized, Length, Capacity, expressions}
+use Rattle.syntax.specs.View.{expression_of, name_of, type_of}
 use Rattle.type_table.specs.Views.{field_in, kind_of}
 use Rattle.type_table.specs.Visible.{globals_in, scope_of, types_of}
+use Rattle.typing_rules.specs.Calls.{callee, result_type}
 use Rattle.checker_base.specs.Views.{worth_of}
 use Rattle.typing_rules.specs.Worths.{selected_worth}
-use Rattle.codegen_base.specs.Pushes.{emits, emits_fields, kinds_in, settled}
+use Rattle.codegen_base.specs.Pushes.{emits, emits_all, kinds_in, settled}
 use Rattle.codegen_expression.specs.Emission.{operated, or_false}
 use Rattle.codegen_expression.proofs.Emitting.{puts_both}
 use Rattle.codegen_expression.proofs.Operating.{emits_binary, emits_selection, emits_unary, puts_settled, literal_none, literal_some, worth_before, worth_between}
 use Rattle.codegen_expression.proofs.Choosing.{emits_and, emits_or}
-use Rattle.syntax.proofs.Nodes.{named_is, parenthesized_is, selection_is, unary_is, binary_is, composite_is}
+use Rattle.codegen_expression.proofs.Requesting.{emits_call, emits_make, emits_make_sized, emits_measure, emits_receive}
+use Rattle.syntax.proofs.Nodes.{named_is, parenthesized_is, selection_is, unary_is, binary_is, composite_is, call_is, receive_is, make_is, make_sized_is, length_is, capacity_is}
 use Rattle.codegen_expression.proofs.emission.+emit.Goals as goal
 
 pub emit_binary-returns-clause-worth : goal.emit_binary-returns-clause-worth
@@ -210,7 +212,81 @@ emit_fields-returns t c =
     let a = worth_of types c.in_ok-worth.worth in
     let kind = kind_of types c.in-Some-split_first.field.now.kind in
     let value = emits globals elements scope (expression_of c.in-Some.value.now) in
-    let others = emits_fields globals elements scope (kinds_in (map (field_in types) c.in-Some-split_first.fields.now)) (expressions (map expression_of c.in-Some.values.now)) in
+    let others = emits_all globals elements scope (kinds_in (map (field_in types) c.in-Some-split_first.fields.now)) (expressions (map expression_of c.in-Some.values.now)) in
     let first = puts_settled elements a kind c.args.code.now.items c.emit.new.code.items c.settle.new.code.items value c.in_ok-worth.ensures.emitted c.in_ok-settle.ensures in
     rw (c.in-Some.ensures.cases.0, c.in-Some-split_first.ensures.cases.0, c.in_ok-worth.ensures.worth)
     (on_ok_weaker c.emit_fields.result (puts_both c.args.code.now.items c.settle.new.code.items c.emit_fields.new.code.items (λ rest. settled elements (Some a) kind (value rest) rest) others first) c.emit_fields.ensures)
+
+-- ---- calls and operations on channels
+
+both_made : {T E : Type 0} (result : Result T E) {P Q : T → Type 0} {R : Type 0} → ((x : T) → R → P x → Q x) → OnOk result R → IfOk result P → IfOk result Q
+both_made (Ok x) f r p = f x r p
+both_made (Err e) f r p = tt
+
+three_made : {T E : Type 0} (result : Result T E) {P Q : T → Type 0} {R S : Type 0} → ((x : T) → P x → R → S → Q x) → IfOk result P → OnOk result R → OnOk result S → IfOk result Q
+three_made (Ok x) f p r s = f x p r s
+three_made (Err e) f p r s = tt
+
+pub emit-returns-in-Call-clause-worth : goal.emit-returns-in-Call-clause-worth
+emit-returns-in-Call-clause-worth t c =
+    rw (call_is _ _ _ _ c.in-Call.is) (IfOk-weaker c.emit_call.result _ _ (λ w every. every c.in-Call.field-2) c.emit_call.ensures.worth)
+
+pub emit-returns-in-Call-clause-emitted : goal.emit-returns-in-Call-clause-emitted
+emit-returns-in-Call-clause-emitted t c =
+    rw (call_is _ _ _ _ c.in-Call.is) (IfOk-weaker c.emit_call.result _ _ (λ w every. rw c.as_slice-values-in-Call.ensures.value at (every c.in-Call.field-2)) c.emit_call.ensures.emitted)
+
+pub emit-returns-in_ok-put-in-Receive-clause-emitted : goal.emit-returns-in_ok-put-in-Receive-clause-emitted
+emit-returns-in_ok-put-in-Receive-clause-emitted t c =
+    let types = types_of c.args.context.now.table.now in
+    let channel = expression_of c.deref-in-Receive.result.now in
+    let is : expression_of c.args.expression.now ≡ Receive channel = receive_is _ _ c.in-Receive.is ∙ ap (λ n. Receive (expression_of n)) (sym c.deref-in-Receive.ensures) in
+    rw is (emits_receive (globals_in c.args.context.now.table.now) c.args.context.now.elements.now (scope_of c.args.context.now.table.now c.args.visible.now) channel (worth_of types c.in_ok-channel-in-Receive.channel) (worth_of types c.in_ok-item-in-Receive.item)
+    c.args.code.now.items c.emit-in-Receive.new.code.items c.put_receive.new.code.items c.put.new.code.items c.in_ok-channel-in-Receive.ensures.worth c.in_ok-item-in-Receive.ensures.item c.in_ok-channel-in-Receive.ensures.emitted
+    c.in_ok-item-in-Receive.ensures.received c.in_ok-put-in-Receive.ensures)
+
+pub emit-returns-in_ok-put-in-Make-clause-emitted : goal.emit-returns-in_ok-put-in-Make-clause-emitted
+emit-returns-in_ok-put-in-Make-clause-emitted t c =
+    let types = types_of c.args.context.now.table.now in
+    let kind = type_of c.deref-in-Make.result.now in
+    let is : expression_of c.args.expression.now ≡ Make kind = make_is _ _ c.in-Make.is ∙ ap (λ n. Make (type_of n)) (sym c.deref-in-Make.ensures) in
+    rw is (both_made c.put_make.result (λ w put made. emits_make (globals_in c.args.context.now.table.now) c.args.context.now.elements.now (scope_of c.args.context.now.table.now c.args.visible.now) kind (worth_of types w)
+    c.args.code.now.items c.put-in-Make.new.code.items c.put_make.new.code.items made c.in_ok-put-in-Make.ensures put) c.put_make.ensures.put c.put_make.ensures.made)
+
+pub emit-returns-in_ok-settle-in-MakeSized-clause-emitted : goal.emit-returns-in_ok-settle-in-MakeSized-clause-emitted
+emit-returns-in_ok-settle-in-MakeSized-clause-emitted t c =
+    let types = types_of c.args.context.now.table.now in
+    let kind = type_of c.deref-in-MakeSized-2.result.now in
+    let size = expression_of c.deref-in-MakeSized.result.now in
+    let is : expression_of c.args.expression.now ≡ MakeSized kind size = make_sized_is _ _ _ c.in-MakeSized.is ∙ ap (λ n. MakeSized (type_of n) (expression_of c.in-MakeSized.size.value)) (sym c.deref-in-MakeSized-2.ensures) ∙ ap (λ n. MakeSized kind (expression_of n)) (sym c.deref-in-MakeSized.ensures) in
+    rw is (both_made c.put_make-in-MakeSized.result (λ w put made. emits_make_sized (globals_in c.args.context.now.table.now) c.args.context.now.elements.now (scope_of c.args.context.now.table.now c.args.visible.now) kind size
+    (worth_of types c.in_ok-size-in-MakeSized.size) (worth_of types w) c.args.code.now.items c.emit-in-MakeSized.new.code.items c.settle.new.code.items c.put_make-in-MakeSized.new.code.items
+    made c.in_ok-size-in-MakeSized.ensures.worth c.in_ok-size-in-MakeSized.ensures.emitted c.in_ok-settle-in-MakeSized.ensures put) c.put_make-in-MakeSized.ensures.put c.put_make-in-MakeSized.ensures.made)
+
+pub emit-returns-in_ok-channel-in-Length-clause-emitted : goal.emit-returns-in_ok-channel-in-Length-clause-emitted
+emit-returns-in_ok-channel-in-Length-clause-emitted t c =
+    let types = types_of c.args.context.now.table.now in
+    let channel = expression_of c.deref-in-Length.result.now in
+    let is : expression_of c.args.expression.now ≡ Length channel = length_is _ _ c.in-Length.is ∙ ap (λ n. Length (expression_of n)) (sym c.deref-in-Length.ensures) in
+    rw is (three_made c.put_measure.result (λ w int typed put. emits_measure (globals_in c.args.context.now.table.now) c.args.context.now.elements.now (scope_of c.args.context.now.table.now c.args.visible.now) channel
+    (worth_of types c.in_ok-channel-in-Length.channel) (worth_of types w) instrs.Len c.args.code.now.items c.emit-in-Length.new.code.items c.put_measure.new.code.items (int types) (typed types) c.in_ok-channel-in-Length.ensures.emitted put)
+    c.put_measure.ensures.made c.put_measure.ensures.typed c.put_measure.ensures.put)
+
+pub emit-returns-in_ok-channel-in-Capacity-clause-emitted : goal.emit-returns-in_ok-channel-in-Capacity-clause-emitted
+emit-returns-in_ok-channel-in-Capacity-clause-emitted t c =
+    let types = types_of c.args.context.now.table.now in
+    let channel = expression_of c.deref-in-Capacity.result.now in
+    let is : expression_of c.args.expression.now ≡ Capacity channel = capacity_is _ _ c.in-Capacity.is ∙ ap (λ n. Capacity (expression_of n)) (sym c.deref-in-Capacity.ensures) in
+    rw is (three_made c.put_measure-in-Capacity.result (λ w int typed put. emits_measure (globals_in c.args.context.now.table.now) c.args.context.now.elements.now (scope_of c.args.context.now.table.now c.args.visible.now) channel
+    (worth_of types c.in_ok-channel-in-Capacity.channel) (worth_of types w) instrs.Cap c.args.code.now.items c.emit-in-Capacity.new.code.items c.put_measure-in-Capacity.new.code.items (int types) (typed types) c.in_ok-channel-in-Capacity.ensures.emitted put)
+    c.put_measure-in-Capacity.ensures.made c.put_measure-in-Capacity.ensures.typed c.put_measure-in-Capacity.ensures.put)
+
+pub emit_call-returns-clause-emitted : goal.emit_call-returns-clause-emitted
+emit_call-returns-clause-emitted t c trailing =
+    let types = types_of c.args.context.now.table.now in
+    let globals = globals_in c.args.context.now.table.now in
+    let scope = scope_of c.args.context.now.table.now c.args.visible.now in
+    let name = name_of c.args.name.now in
+    let behind = c.emit_all.new.code.items in
+    emits_call globals c.args.context.now.elements.now scope name (expressions (map expression_of c.args.values.now)) trailing (result_type globals (callee globals scope c.as_slice.result.now)) (worth_of types c.in-Some.result) c.in_ok-function.function
+    (map (kind_of types) c.in_ok-kinds.kinds.now) c.args.code.now.items behind c.put.new.code.items (sym c.in-Some.ensures.worth) c.in_ok-function.ensures c.in_ok-kinds.ensures c.in_ok-emit_all.ensures
+    (c.in_ok-put.ensures ∙ ap (λ n. behind ++ instrs.Call n ∷ []) c.in_ok-number.ensures)

@@ -25,3 +25,9 @@ decreases-emit_fields l = 4 * expressions_size (expressions (map expression_of l
 
 abbrev pub decreases-emit_literal : goal.decreases-emit_literal
 decreases-emit_literal l = 4 * expressions_size (expressions (map expression_of l.values.now)) + 2
+
+abbrev pub decreases-emit_call : goal.decreases-emit_call
+decreases-emit_call l = 4 * expressions_size (expressions (map expression_of l.values.now)) + 3
+
+abbrev pub decreases-emit_all : goal.decreases-emit_all
+decreases-emit_all l = 4 * expressions_size (expressions (map expression_of l.values.now)) + 1

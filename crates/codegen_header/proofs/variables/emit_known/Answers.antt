@@ -1,6 +1,6 @@
 use Rattle.std.proofs.Common.{rules, ◌≡◌, ◌∙◌, ap, map}
 use Rattle.std.proofs.lemmas.Result.{on_ok_weaker}
-use Rattle.syntax.specs.View.{name_of, right_of}
+use Rattle.syntax.specs.View.{expression_of, name_of}
 use Rattle.type_table.specs.Views.{kind_of}
 use Rattle.type_table.specs.Visible.{globals_in, types_of}
 use Rattle.codegen_base.specs.Generated.{same_types}
@@ -19,7 +19,7 @@ returns-in-Some-clause-emitted c =
     let kinds = map (kind_of types) in
     let same : kinds c.as_slice-kinds.result.now ≡ same_types (globals_in c.args.context.now.table.now) c.args.context.now.elements.now (map name_of c.args.names.now) (kind_of types c.args.kind) =
     ap kinds c.as_slice-kinds.ensures.value ∙ ap kinds c.in_ok-same.ensures ∙ same_kinds (globals_in c.args.context.now.table.now) c.args.context.now.elements.now types c.args.kind c.args.names.now in
-    on_ok_weaker c.define_as.result (λ put. let h = appends_valued (globals_in c.args.context.now.table.now) c.args.context.now.elements.now (map name_of c.args.names.now) (kind_of types c.args.kind) (kinds c.as_slice-kinds.result.now) same (layout_of c.args.context.now.table.now c.args.layout.now) (right_of c.in-Some.right)
+    on_ok_weaker c.define_as.result (λ put. let h = appends_valued (globals_in c.args.context.now.table.now) c.args.context.now.elements.now (map name_of c.args.names.now) (kind_of types c.args.kind) (kinds c.as_slice-kinds.result.now) same (layout_of c.args.context.now.table.now c.args.layout.now) (map expression_of c.as_slice.result.now)
     c.args.code.now.items c.define_as.new.code.items put in
     search (rules, h)) c.define_as.ensures.emitted
 

@@ -3,8 +3,8 @@ use Rattle.std.proofs.lemmas.Result.{on_ok_weaker}
 use Rattle.bytecode.specs.declared.instr.Instr.TheVariants as instrs
 use Rattle.syntax.specs.View.{expression_of, name_of}
 use Rattle.type_table.specs.Visible.{globals_in, scope_of}
-use Rattle.meaning.specs.Destinations.{number_of}
-use Rattle.typing_rules.specs.Operations.{result_of}
+use Rattle.meaning.specs.Expressions.{number_of}
+use Rattle.typing_rules.specs.Calls.{result_of}
 use Rattle.codegen_base.specs.Pushes.{drops}
 use Rattle.codegen_base.specs.Statements.{pushes_arguments, result_words}
 use Rattle.plan.specs.Plan.{Do, Skip}

@@ -1,7 +1,7 @@
 use Rattle.std.proofs.Common.{◌≡◌, ◌∙◌, ap, sym, length, map, subst}
 use Rattle.std.proofs.lemmas.Result.{on_ok_weaker}
 use Rattle.std.proofs.lemmas.List.{length-map}
-use Rattle.syntax.specs.View.{name_of, right_of}
+use Rattle.syntax.specs.View.{expression_of, name_of}
 use Rattle.type_table.specs.Views.{kind_of}
 use Rattle.type_table.specs.Visible.{globals_in, types_of}
 use Rattle.codegen_base.specs.Layouts.{declaring_all}
@@ -17,7 +17,7 @@ returns-clause-emitted c =
     let layout = layout_of c.args.context.now.table.now c.args.layout.now in
     let kinds = map (kind_of (types_of c.args.context.now.table.now)) in
     let names = map name_of c.args.names.now in
-    let right = right_of c.args.right.now in
+    let right = map expression_of c.args.right.now in
     let count : length c.args.names.now ≡ length names = sym (length-map c.args.names.now name_of) in
     let given = ap kinds c.as_slice-kinds.ensures.value ∙ c.in_ok-given.ensures elements ∙ ap (λ n. right_types globals elements layout.scope n right) count in
     on_ok_weaker c.define_as.result (λ put. subst (λ l. Appends c.args.code.now.items c.define_as.new.code.items (defines globals elements layout names l right)) given put) c.define_as.ensures.emitted
@@ -29,7 +29,7 @@ returns-clause-after c =
     let layout = layout_of c.args.context.now.table.now c.args.layout.now in
     let kinds = map (kind_of (types_of c.args.context.now.table.now)) in
     let names = map name_of c.args.names.now in
-    let right = right_of c.args.right.now in
+    let right = map expression_of c.args.right.now in
     let count : length c.args.names.now ≡ length names = sym (length-map c.args.names.now name_of) in
     let given = ap kinds c.as_slice-kinds.ensures.value ∙ c.in_ok-given.ensures elements ∙ ap (λ n. right_types globals elements layout.scope n right) count in
     on_ok_weaker c.define_as.result (λ after. after ∙ ap (λ l. declaring_all globals elements names l layout) given) c.define_as.ensures.after

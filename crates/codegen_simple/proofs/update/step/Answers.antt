@@ -1,7 +1,7 @@
 use Rattle.std.proofs.lemmas.Result.{on_ok_weaker}
 use Rattle.syntax.specs.View.{place_of}
 use Rattle.type_table.specs.Visible.{globals_in, scope_of, selected_of, types_of}
-use Rattle.codegen_operation.specs.Spots.{spot_in}
+use Rattle.codegen_simple.specs.Spots.{spot_in}
 use Rattle.codegen_simple.proofs.Updating.{appends_step}
 use Rattle.codegen_simple.proofs.update.step.Goals as goal
 

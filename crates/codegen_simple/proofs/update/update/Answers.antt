@@ -4,7 +4,7 @@ use Rattle.syntax.specs.View.{expression_of, place_of}
 use Rattle.type_table.specs.Views.{kind_of}
 use Rattle.type_table.specs.Visible.{globals_in, scope_of, selected_of, types_of}
 use Rattle.typing_rules.specs.Worths.{is_logical}
-use Rattle.codegen_operation.specs.Spots.{spot_in}
+use Rattle.codegen_simple.specs.Spots.{spot_in}
 use Rattle.codegen_simple.proofs.Updating.{appends_update}
 use Rattle.codegen_simple.proofs.update.update.Goals as goal
 
