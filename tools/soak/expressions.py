@@ -1,6 +1,6 @@
 """Random expressions that keep the typing rules: each is a text, and how strongly it binds, 6 where it needs no parentheses."""
 from values import LEAST, MOST, of_constants
-from writer import BOOL, INT, Writer, assignable, is_channel
+from writer import BOOL, INT, Writer, assignable, is_channel, spelt
 
 SIGNS = [["*", "/", "%", "<<", ">>", "&", "&^"], ["+", "-", "|", "^"], ["==", "!=", "<", "<=", ">", ">="], ["&&"], ["||"]]
 LEVEL = {sign: 5 - at for at, signs in enumerate(SIGNS) for sign in signs}
@@ -12,8 +12,10 @@ MOST_CONSTANT = 1 << 100
 class Expressions(Writer):
     def __init__(self, seed):
         super().__init__(seed)
-        # how likely an operand is that may panic
-        self.risk = 0
+        # how likely an operand is that may panic, and one that makes a request or a call
+        self.risk, self.inner = 0, 0
+        # of int and bool the function that gives a channel with one such item
+        self.givers = {}
 
     def within(self, made, least):
         text, level = made
@@ -24,7 +26,7 @@ class Expressions(Writer):
         return f"{self.within(left, level)} {sign} {self.within(right, level + 1)}", level
 
     def unary(self, sign, operand):
-        text = f"({operand[0]})" if operand[1] < 6 or operand[0][0] in "+-&" else operand[0]
+        text = f"({operand[0]})" if operand[1] < 6 or operand[0][0] in "+-&" and sign != "<-" else operand[0]
         return sign + text, 6
 
     # ---- constants, with their values
@@ -63,11 +65,15 @@ class Expressions(Writer):
 
     def number(self, depth=2):
         """An int: a constant that is one, or what has a variable in it, and so is no constant."""
+        if made := self.asked(INT, depth):
+            return made
         if not self.paths(lambda it: it == INT) or self.chance(0.15):
             return self.fitting()[0]
         return self.no_constant(depth)
 
     def no_constant(self, depth):
+        if made := self.asked(INT, depth):
+            return made
         path = self.path(lambda it: it == INT)[0]
         if depth <= 0 or self.chance(0.35):
             return self.selected() or (path, 6)
@@ -112,6 +118,8 @@ class Expressions(Writer):
     # ---- bools
 
     def truth(self, depth=2):
+        if made := self.asked(BOOL, depth):
+            return made
         how = self.upto(9)
         if depth == 0 or how < 2:
             path = self.path(lambda it: it == BOOL)
@@ -138,6 +146,47 @@ class Expressions(Writer):
         self.random.shuffle(sides)
         return self.binary(self.pick(["==", "!="]), *sides)
 
+    # ---- requests and calls within expressions
+
+    def asked(self, kind, depth):
+        """A value of exactly this type by a request or a call that neither waits nor panics; None where there is none."""
+        if depth < 0 or not self.chance(self.inner):
+            return None
+        return self.pick([self.by_call, self.by_call, self.by_receive, self.by_length, self.by_make])(kind, depth - 1)
+
+    def by_call(self, kind, depth):
+        found = self.calls(lambda it: it == kind)
+        return (self.called(found, depth)[0], 6) if found else None
+
+    def by_receive(self, kind, depth):
+        """From a channel that a function gives, with one item in it."""
+        if kind not in self.givers or not self.is_visible(self.givers[kind]):
+            return None
+        channel = f"{self.givers[kind]}({self.given(kind, depth)})"
+        return self.unary("<-", (channel, 6)) if self.chance(0.8) else self.unary("<-", (f"({channel})", 6))
+
+    def by_length(self, kind, _depth):
+        found = self.path(is_channel)
+        if kind != INT or not found:
+            return None
+        return f"{self.pick(['len', 'cap'])}({found[0]})", 6
+
+    def by_make(self, kind, depth):
+        size = f", {self.size_of(depth)}" if self.chance(0.6) else ""
+        if kind == INT:
+            return f"{self.pick(['len', 'cap'])}(make(chan {self.pick([INT, BOOL])}{size}))", 6
+        if kind == BOOL:
+            return self.binary(self.pick(["==", "!="]), (f"make(chan int{size})", 6), ("nil", 6))
+        if is_channel(kind) and kind[0] == "" and self.can_spell(kind):
+            return f"make({spelt(kind)}{size})", 6
+        return None
+
+    def size_of(self, depth):
+        """A capacity: small, and not below 0."""
+        if depth < 0 or self.chance(0.5):
+            return str(self.upto(5))
+        return self.binary("&", (f"({self.number(depth)[0]})", 6), ("7", 6))[0]
+
     # ---- values of any type
 
     def literal(self, struct, depth):
@@ -151,12 +200,16 @@ class Expressions(Writer):
         if kind in (INT, BOOL):
             return (self.number if kind == INT else self.truth)(max(depth, 0))[0]
         if is_channel(kind):
+            if made := self.asked(kind, depth):
+                return made[0]
             found = self.paths(lambda it: assignable(it, kind))
             return self.pick(found)[0] if found and self.chance(0.95) else "nil"
         return self.structured(kind, depth)
 
     def structured(self, kind, depth):
         found = self.paths(lambda it: it == kind)
+        if made := self.asked(kind, depth):
+            return made[0]
         if self.header or not self.is_visible(kind) or found and self.chance(0.5):
             return self.pick(found)[0] if found else None
         return self.literal(kind, depth)

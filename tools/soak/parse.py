@@ -226,22 +226,19 @@ class Parser:
         return Select(clauses)
 
     def communication(self):
-        if self.kind() == "<-":
-            return Clause(self.receive(), None, None, None)
         left = self.row(self.expression)
         if self.taken("<-"):
             return Clause(Send(left[0], self.expression()), None, None, None)
         if self.taken(":="):
-            return Clause(self.receive(), [it.name for it in left], None, None)
-        self.take("=")
-        return Clause(self.receive(), None, [path(it) for it in left], None)
+            return Clause(self.expression(), [it.name for it in left], None, None)
+        if self.taken("="):
+            return Clause(self.expression(), None, [path(it) for it in left], None)
+        return Clause(left[0], None, None, None)
 
     # ---- simple statements
 
     def simple(self):
         """A simple statement, or an expression where one stands in a header; a range where one follows."""
-        if self.kind() == "<-":
-            return self.receive()
         if self.kind() == "name" and self.tokens[self.at].text in ("close", "print", "println"):
             return self.built_in()
         left = self.row(self.expression)
@@ -278,15 +275,7 @@ class Parser:
         return self.expression()
 
     def right(self):
-        """An operation, or a list of expressions."""
-        if self.kind() == "<-":
-            return self.receive()
-        values = self.row(self.expression)
-        return values[0] if isinstance(values[0], (Call, Make, Measure)) else values
-
-    def receive(self):
-        self.take("<-")
-        return Receive(self.primary())
+        return self.row(self.expression)
 
     # ---- expressions
 
@@ -302,6 +291,8 @@ class Parser:
     def unary(self):
         if self.kind() in ("+", "-", "!", "^"):
             return unary(self.take(self.kind()), self.unary())
+        if self.taken("<-"):
+            return Receive(self.unary())
         return self.primary()
 
     def primary(self):
@@ -325,7 +316,6 @@ class Parser:
         return Name(name)
 
     def called(self, name):
-        """What is no expression: it stands as a whole right side or statement, or after `go`."""
         self.take("(")
         if name == "make":
             kind = self.type()

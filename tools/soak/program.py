@@ -11,8 +11,11 @@ class Program(Hazards):
         self.size = size
         self.risk = self.pick([0, 0, 0, 0.02])
         self.mischief = self.pick([0, 0, 0, 0, 0.03])
+        self.inner = self.pick([0, 0.02, 0.1, 0.25])
         for _ in range(self.upto(3)):
             self.some_struct()
+        for kind in [INT, BOOL] * bool(self.inner):
+            self.giver(kind)
         for _ in range(self.upto(2 + size // 10)):
             self.helper()
         if self.chance(0.3):
@@ -33,6 +36,16 @@ class Program(Hazards):
                 fields.append((self.fresh("f") if self.chance(0.8) else self.fresh("T"), kind))
                 room -= self.width(kind)
         self.struct(name, fields)
+
+    def giver(self, kind):
+        """A function that gives a channel with one item, for receives within expressions."""
+        with self.function("give", [("item", kind)], ("", kind)) as name:
+            self.line(f"made := make(chan {kind}, 1)")
+            self.line("made <- item")
+            if self.chance(0.3):
+                self.line("close(made)")
+            self.line("return made")
+        self.givers[kind] = name
 
     def body(self, count):
         for _ in range(count):
@@ -100,6 +113,10 @@ class Program(Hazards):
             if self.chance(0.3) and self.cost < 60:
                 self.line(f"{made} = {name}(level-{self.pick([2, 3])}, {self.given(kind)})")
                 self.cost *= 3
+            elif self.inner and self.cost < 60 and result == INT and self.chance(0.5):
+                calls = [f"{name}(level-{self.upto(3, 1)}, {self.given(kind)})" for _ in range(2)]
+                self.line(f"{made} = {calls[0]} {self.pick(['+', '-', '*'])} {calls[1]}")
+                self.cost *= 4
             self.line(f"return {self.given(result)}")
             self.cost *= 6
 

@@ -150,10 +150,10 @@ class Statements(Expressions):
                 if it.is_called and self.is_visible(name) and fits(it.result) and it.cost * self.times < room
                 and all(self.can_give(kind) for kind in it.parameters)]
 
-    def called(self, found):
+    def called(self, found, depth=2):
         name, function = self.pick(found)
         self.cost += function.cost * self.times
-        return f"{name}({', '.join(self.given(kind) for kind in function.parameters)})", function.result
+        return f"{name}({', '.join(self.given(kind, depth) for kind in function.parameters)})", function.result
 
     def call(self):
         found = self.calls(lambda it: True)
@@ -323,6 +323,10 @@ class Statements(Expressions):
             is_closed = self.chance(0.5)
             if is_closed:
                 self.line(f"close({name})")
+            while self.inner and kind in (INT, BOOL) and count > 1 and self.chance(0.5):
+                self.line(self.pick([f"println(<-{name}, len({name}), <-{name})", f"println(<-{name} == <-{name})",
+                                     f"if <-{name} != <-{name} {{ println(cap({name})) }}"]))
+                count -= 2
             while count and self.chance(0.4) or is_closed and self.chance(0.2):
                 self.received(name, kind)
                 count = max(0, count - 1)

@@ -2,7 +2,7 @@
 from dataclasses import dataclass
 
 from tree import (Assign, Block, Break, Call, Channel, Close, Continue, Define, Empty, Field, For, Go, If, Integer, Literal,
-                  Make, Name, Operate, Print, Range, Receive, Return, Select, Send, Text, Unary, Variables)
+                  Make, Measure, Name, Operate, Print, Range, Receive, Return, Select, Send, Text, Unary, Variables)
 from values import Panic, compared, of_ints, shown, with_field, wrapped
 
 TICK = "tick"
@@ -88,25 +88,38 @@ class Steps:
         return {name: self.zero(it) for name, it in self.program.structs[kind]}
 
     def value(self, it, scope):
-        """What an expression is worth; operands from left to right, so that the first panic counts."""
+        """What an expression is worth; operands from left to right, each request and call at its place."""
         if isinstance(it, Integer):
             return it.value
         if isinstance(it, Name):
             return WORDS[it.name] if it.name in WORDS else scope.read(it.name)
         if isinstance(it, Field):
-            return self.value(it.operand, scope)[it.name]
+            return (yield from self.value(it.operand, scope))[it.name]
         if isinstance(it, Unary):
-            return self.negated(it.sign, self.value(it.operand, scope))
+            return self.negated(it.sign, (yield from self.value(it.operand, scope)))
         if isinstance(it, Literal):
             names = [name for name, _ in self.program.structs[it.type]]
-            return dict(zip(names, self.values(it.values, scope))) if it.values else self.zero(it.type)
-        left = self.value(it.left, scope)
+            return dict(zip(names, (yield from self.values(it.values, scope)))) if it.values else self.zero(it.type)
+        if isinstance(it, Call):
+            return (yield (yield from self.call(it, scope)))
+        if isinstance(it, Receive):
+            return (yield from self.received(it, scope))[0]
+        if isinstance(it, Make):
+            size = (yield from self.value(it.size, scope)) if it.size else 0
+            return (yield Request("make", size=size, item=self.zero(it.type.element)))
+        if isinstance(it, Measure):
+            return (yield Request(it.what, (yield from self.value(it.channel, scope))))
+        left = yield from self.value(it.left, scope)
         if it.sign in ("&&", "||"):
-            return left if left == (it.sign == "||") else self.value(it.right, scope)
-        right = self.value(it.right, scope)
+            return left if left == (it.sign == "||") else (yield from self.value(it.right, scope))
+        right = yield from self.value(it.right, scope)
         if it.sign in ("==", "!=", "<", "<=", ">", ">="):
             return compared(it.sign, left, right)
         return of_ints(it.sign, left, right)
+
+    def received(self, it, scope):
+        """The item that a receive gives, and whether it was sent."""
+        return (yield Request("receive", (yield from self.value(it.channel, scope))))
 
     def negated(self, sign, operand):
         if sign == "!":
@@ -114,26 +127,19 @@ class Steps:
         return wrapped({"+": operand, "-": -operand, "^": ~operand}[sign])
 
     def values(self, expressions, scope):
-        return [self.value(it, scope) for it in expressions]
+        made = []
+        for it in expressions:
+            made.append((yield from self.value(it, scope)))
+        return made
 
-    # ---- right sides
-
-    def right(self, it, count, scope):
+    def right(self, right, count, scope):
         """The values of a right side, as many as there are names or lvalues."""
-        if isinstance(it, list):
-            return self.values(it, scope)
-        if isinstance(it, Call):
-            return [(yield self.call(it, scope))]
-        if isinstance(it, Receive):
-            told = yield Request("receive", self.value(it.channel, scope))
-            return list(told)[:count]
-        if isinstance(it, Make):
-            size = self.value(it.size, scope) if it.size else 0
-            return [(yield Request("make", size=size, item=self.zero(it.type.element)))]
-        return [(yield Request(it.what, self.value(it.channel, scope)))]
+        if count == 2 and len(right) == 1:
+            return list((yield from self.received(right[0], scope)))
+        return (yield from self.values(right, scope))
 
     def call(self, it, scope):
-        return Called(it.name, self.values(it.arguments, scope))
+        return Called(it.name, (yield from self.values(it.arguments, scope)))
 
     # ---- functions and blocks
 
@@ -162,21 +168,23 @@ class Steps:
         yield
 
     def print(self, it, scope):
-        parts = [part.content if isinstance(part, Text) else shown(self.value(part, scope)) for part in it.parts]
+        parts = []
+        for part in it.parts:
+            parts.append(part.content if isinstance(part, Text) else shown((yield from self.value(part, scope))))
         yield Request("print", text=b" ".join(parts) + b"\n" if it.is_line else b"".join(parts))
 
     def close(self, it, scope):
-        yield Request("close", self.value(it.channel, scope))
+        yield Request("close", (yield from self.value(it.channel, scope)))
 
     def receive_alone(self, it, scope):
-        yield Request("receive", self.value(it.channel, scope))
+        yield from self.received(it, scope)
 
     def call_alone(self, it, scope):
-        yield self.call(it, scope)
+        yield (yield from self.call(it, scope))
 
     def send(self, it, scope):
-        channel = self.value(it.channel, scope)
-        yield Request("send", channel, self.value(it.value, scope))
+        channel = yield from self.value(it.channel, scope)
+        yield Request("send", channel, (yield from self.value(it.value, scope)))
 
     def define(self, it, scope):
         values = yield from self.right(it.right, len(it.names), scope)
@@ -203,12 +211,12 @@ class Steps:
         old = scope.read(it.place[0])
         for name in it.place[1:]:
             old = old[name]
-        value = of_ints(it.sign, old, self.value(it.value, scope))
+        value = of_ints(it.sign, old, (yield from self.value(it.value, scope)))
         yield TICK
         scope.write(it.place, value)
 
     def go(self, it, scope):
-        yield Request("go", function=it.call.name, arguments=self.values(it.call.arguments, scope))
+        yield Request("go", function=it.call.name, arguments=(yield from self.values(it.call.arguments, scope)))
 
     def give_back(self, it, scope):
         if it.right is None:
@@ -226,7 +234,7 @@ class Steps:
         scope = Scope(scope)
         if it.before:
             yield from self.ways[type(it.before)](it.before, scope)
-        if self.value(it.condition, scope):
+        if (yield from self.value(it.condition, scope)):
             return (yield from self.block(it.then, scope))
         if it.otherwise:
             return (yield from self.ways[type(it.otherwise)](it.otherwise, scope))
@@ -235,7 +243,7 @@ class Steps:
         scope = Scope(scope)
         if it.before:
             yield from self.ways[type(it.before)](it.before, scope)
-        while it.condition is None or self.value(it.condition, scope):
+        while it.condition is None or (yield from self.value(it.condition, scope)):
             left = yield from self.block(it.body, scope)
             if isinstance(left, Returned):
                 return left
@@ -246,7 +254,7 @@ class Steps:
             yield TICK
 
     def range(self, it, scope):
-        channel = self.value(it.channel, scope)
+        channel = yield from self.value(it.channel, scope)
         scope = Scope(scope)
         while True:
             item, is_there = yield Request("receive", channel)
@@ -270,10 +278,10 @@ class Steps:
         for clause in it.clauses:
             asked = clause.communication
             if isinstance(asked, Send):
-                channel = self.value(asked.channel, scope)
-                cases.append(Request("send", channel, self.value(asked.value, scope)))
+                channel = yield from self.value(asked.channel, scope)
+                cases.append(Request("send", channel, (yield from self.value(asked.value, scope))))
             elif asked:
-                cases.append(Request("receive", self.value(asked.channel, scope)))
+                cases.append(Request("receive", (yield from self.value(asked.channel, scope))))
         clauses = [clause for clause in it.clauses if clause.communication]
         defaults = [clause for clause in it.clauses if not clause.communication]
         number, told = yield Request("select", cases=cases, has_default=bool(defaults))

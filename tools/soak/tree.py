@@ -51,7 +51,7 @@ class Text:
     content: bytes
 
 
-# ---- right sides that are no expression
+# ---- expressions that make a request, or a call
 
 @dataclass
 class Call:
@@ -77,7 +77,7 @@ class Measure:
     channel: object
 
 
-# ---- statements; a place is the list of its names, a right side a list of expressions or one of the four above
+# ---- statements; a place is the list of its names, a right side a list of expressions
 
 @dataclass
 class Empty:

@@ -1,0 +1,9 @@
+package main
+
+func main() {
+	c := make(chan int, 4)
+	c <- 20
+	c <- 1
+	c <- 7
+	println(<-c-<-c, <-c)
+}
