@@ -26,3 +26,4 @@ pub mod Storing
 pub mod Tables
 pub mod Before
 pub mod Plain
+pub mod Noting

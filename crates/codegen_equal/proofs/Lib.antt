@@ -1,5 +1,4 @@
 pub mod Standing
-pub mod Making
 pub mod Given
 pub mod Behind
 pub mod After

@@ -22,7 +22,7 @@ use Rattle.codegen_base.proofs.Typing.{Free, broken}
 use Rattle.codegen_fine.proofs.Operands.{Grounds}
 use Rattle.codegen_fine.proofs.Operations.{Functions}
 use Rattle.codegen_fine.proofs.Makes.{written_noted}
-use Rattle.codegen_fine.proofs.Noting.{declared_grow, any_grows, statements_grow, tops_grow}
+use Rattle.codegen_base.proofs.Noting.{declared_grow, any_grows, statements_grow, tops_grow}
 use Rattle.codegen_fine.proofs.Wholes.{ParametersFine}
 use Rattle.codegen_fine.proofs.Programs.{AllFine, AllHold, file_functions}
 

@@ -8,7 +8,6 @@ pub mod Requests
 pub mod Places
 pub mod Updates
 pub mod Conditions
-pub mod Noting
 pub mod Wide
 pub mod Keeping
 pub mod Operations

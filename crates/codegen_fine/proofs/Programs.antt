@@ -19,7 +19,7 @@ use Rattle.plan.proofs.Tables.{all_made, tables_size}
 use Rattle.codegen_fine.proofs.Operands.{Grounds}
 use Rattle.codegen_fine.proofs.Operations.{Functions}
 use Rattle.codegen_fine.proofs.Simples.{Prints}
-use Rattle.codegen_fine.proofs.Noting.{tops_grow}
+use Rattle.codegen_base.proofs.Noting.{tops_grow}
 use Rattle.codegen_fine.proofs.Bodies.{prints_front, prints_back}
 use Rattle.codegen_fine.proofs.Wholes.{IsFine, typed_function}
 

@@ -33,7 +33,7 @@ use Rattle.codegen_fine.proofs.Emitted.{all_kinds, AllNoted}
 use Rattle.codegen_fine.proofs.Operations.{Functions}
 use Rattle.codegen_fine.proofs.Layouts.{longer_no}
 use Rattle.codegen_fine.proofs.Growing.{longer_statements, longer_unless}
-use Rattle.codegen_fine.proofs.Noting.{any_grows, statements_grow, tops_grow}
+use Rattle.codegen_base.proofs.Noting.{any_grows, statements_grow, tops_grow}
 use Rattle.codegen_fine.proofs.Wholes.{ParametersFine}
 use Rattle.codegen_fine.proofs.Heads.{groups_fine, result_fine, file_holds}
 use Rattle.codegen_fine.proofs.Programs.{AllHold}

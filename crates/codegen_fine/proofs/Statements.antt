@@ -34,7 +34,7 @@ use Rattle.codegen_fine.proofs.Makes.{written, written_noted, right_noted}
 use Rattle.codegen_fine.proofs.Variables.{typed_typed, typed_untyped}
 use Rattle.codegen_fine.proofs.Simples.{typed_simple}
 use Rattle.codegen_fine.proofs.Growing.{longer_post, longer, longer_statements, longer_otherwise, longer_ways, longer_default, longer_as, longer_kept}
-use Rattle.codegen_fine.proofs.Noting.{given_grows, first_grows, statements_grow, otherwise_grows, clauses_grow}
+use Rattle.codegen_base.proofs.Noting.{given_grows, first_grows, statements_grow, otherwise_grows, clauses_grow}
 use Rattle.codegen_fine.proofs.Bodies.{prints_front, prints_back, IsMade, IsMadeAlike, Fits, fits_first, fits_rest, fits_as, made_followed, made_ended, runs_if, runs_else, runs_loop, typed_any, typed_post}
 use Rattle.codegen_fine.proofs.Sees.{Sees}
 use Rattle.codegen_fine.proofs.Comms.{comm_fine, comm_made}

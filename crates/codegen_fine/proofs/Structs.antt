@@ -28,7 +28,7 @@ use Rattle.codegen_base.proofs.Tables.{fields_known}
 use Rattle.codegen_base.proofs.Typing.{Free}
 use Rattle.codegen_fine.proofs.Operands.{Grounds}
 use Rattle.codegen_fine.proofs.Layouts.{there_append}
-use Rattle.codegen_fine.proofs.Noting.{tops_grow}
+use Rattle.codegen_base.proofs.Noting.{tops_grow}
 use Rattle.codegen_fine.proofs.Wholes.{ParametersFine}
 use Rattle.codegen_fine.proofs.Heads.{groups_fine}
 use Rattle.codegen_fine.proofs.Wide.{wide_all, none_endless}

@@ -40,3 +40,4 @@ pub mod Selects
 pub mod Statements
 pub mod Step
 pub mod Matching
+pub mod Making
