@@ -2,8 +2,7 @@ package main
 
 func main() {
 	for i := 0; i <= 20; i++ {
-		number := fib(i)
-		println(i, number)
+		println(i, fib(i))
 	}
 }
 
@@ -11,7 +10,5 @@ func fib(n int) int {
 	if n < 2 {
 		return n
 	}
-	before := fib(n - 1)
-	twoBefore := fib(n - 2)
-	return before + twoBefore
+	return fib(n-1) + fib(n-2)
 }

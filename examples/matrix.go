@@ -43,19 +43,17 @@ func product(left, right matrix, tasks chan<- task) matrix {
 	tasks <- task{left.first, right, first}
 	tasks <- task{left.second, right, second}
 	tasks <- task{left.third, right, third}
-	var made matrix
-	made.first = <-first
-	made.second = <-second
-	made.third = <-third
-	return made
+	return matrix{<-first, <-second, <-third}
 }
 
 func multiply(tasks <-chan task) {
 	for it := range tasks {
-		x := dot(it.left, row{it.right.first.x, it.right.second.x, it.right.third.x})
-		y := dot(it.left, row{it.right.first.y, it.right.second.y, it.right.third.y})
-		z := dot(it.left, row{it.right.first.z, it.right.second.z, it.right.third.z})
-		it.answer <- row{x, y, z}
+		a, b, c := it.right.first, it.right.second, it.right.third
+		it.answer <- row{
+			dot(it.left, row{a.x, b.x, c.x}),
+			dot(it.left, row{a.y, b.y, c.y}),
+			dot(it.left, row{a.z, b.z, c.z}),
+		}
 	}
 }
 

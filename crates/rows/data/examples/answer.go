@@ -5,11 +5,9 @@ func main() {
 	answer := make(chan int)
 	go add(question, answer, 2)
 	question <- 40
-	x := <-answer
-	println("the answer is", x)
+	println("the answer is", <-answer)
 }
 
 func add(question, answer chan int, more int) {
-	x := <-question
-	answer <- x + more
+	answer <- <-question + more
 }

@@ -60,8 +60,7 @@ func ask(account chan<- order, amount int) balance {
 // Moves an amount from one account to another ten times, as long as the first one has it.
 func clerk(from, to chan<- order, amount int, done chan<- bool) {
 	for i := 0; i < 10; i++ {
-		taken := ask(from, -amount)
-		if taken.done {
+		if ask(from, -amount).done {
 			ask(to, amount)
 		}
 	}

@@ -21,9 +21,8 @@ func main() {
 	go dine(5, seat{most, left, meals})
 	eaten, sum := 0, 0
 	for eaten < 15 {
-		number := <-meals
+		sum += <-meals
 		eaten++
-		sum += number
 	}
 	println(eaten, "meals")
 	println("the numbers of those who ate make", sum)

@@ -9,12 +9,9 @@ func main() {
 	go generate(numbers)
 	go double(numbers, doubled)
 	go shift(doubled, shifted, 100)
-	x := <-shifted
-	println(x)
-	y := <-shifted
-	println(y)
-	z := <-shifted
-	println(z)
+	println(<-shifted)
+	println(<-shifted)
+	println(<-shifted)
 }
 
 func generate(out chan int) {
@@ -24,19 +21,13 @@ func generate(out chan int) {
 }
 
 func double(in, out chan int) {
-	a := <-in
-	out <- a + a
-	b := <-in
-	out <- b + b
-	c := <-in
-	out <- c + c
+	for {
+		out <- 2 * <-in
+	}
 }
 
 func shift(in, out chan int, by int) {
-	a := <-in
-	out <- a + by
-	b := <-in
-	out <- b + by
-	c := <-in
-	out <- c + by
+	for {
+		out <- <-in + by
+	}
 }

@@ -17,8 +17,7 @@ func main() {
 	go submit(jobs, awaited)
 	number := 1
 	for answer := range awaited {
-		steps := <-answer
-		println("from", number, "to 1 in", steps, "steps")
+		println("from", number, "to 1 in", <-answer, "steps")
 		number++
 	}
 }
@@ -35,8 +34,7 @@ func submit(jobs chan<- job, awaited chan<- chan int) {
 
 func work(jobs <-chan job) {
 	for it := range jobs {
-		steps := collatz(it.number)
-		it.answer <- steps
+		it.answer <- collatz(it.number)
 	}
 }
 

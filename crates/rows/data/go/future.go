@@ -4,9 +4,7 @@ package main
 func main() {
 	left := start(20)
 	right := start(21)
-	a := <-left
-	b := <-right
-	println("the sum of both is", a+b)
+	println("the sum of both is", <-left+<-right)
 }
 
 func start(number int) <-chan int {
@@ -16,15 +14,12 @@ func start(number int) <-chan int {
 }
 
 func compute(number int, result chan<- int) {
-	value := fibonacci(number)
-	result <- value
+	result <- fibonacci(number)
 }
 
 func fibonacci(number int) int {
 	if number < 2 {
 		return number
 	}
-	one := fibonacci(number - 1)
-	two := fibonacci(number - 2)
-	return one + two
+	return fibonacci(number-1) + fibonacci(number-2)
 }

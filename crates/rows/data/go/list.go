@@ -16,8 +16,7 @@ func main() {
 		println(here.value)
 		it = here.next
 	}
-	total := sum(list)
-	println("sum", total)
+	println("sum", sum(list))
 }
 
 // Returns a new list: value, then those of list.
@@ -39,6 +38,5 @@ func sum(list chan node) int {
 		return 0
 	}
 	here := load(list)
-	rest := sum(here.next)
-	return here.value + rest
+	return here.value + sum(here.next)
 }

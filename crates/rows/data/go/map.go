@@ -46,8 +46,7 @@ func keep(table <-chan request) {
 	entries := make(chan entry, 1000)
 	for it := range table {
 		answer := found{}
-		count := len(entries)
-		for i := 0; i < count; i++ {
+		for i := len(entries); i > 0; i-- {
 			old := <-entries
 			if old.key == it.entry.key {
 				answer = found{old.value, true}

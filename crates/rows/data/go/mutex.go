@@ -11,8 +11,7 @@ func main() {
 	for i := 0; i < 4; i++ {
 		<-done
 	}
-	total := <-counter
-	println("counted to", total)
+	println("counted to", <-counter)
 }
 
 func count(counter chan int, done chan<- bool) {

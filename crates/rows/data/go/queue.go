@@ -6,22 +6,15 @@ func main() {
 	for i := 1; i <= 10; i++ {
 		circle <- i
 	}
-	for {
-		left := len(circle)
-		if left == 1 {
-			break
-		}
+	for len(circle) > 1 {
 		pass(circle)
 		pass(circle)
-		out := <-circle
-		println(out, "leaves")
+		println(<-circle, "leaves")
 	}
-	last := <-circle
-	println(last, "stays")
+	println(<-circle, "stays")
 }
 
 // Moves the front of the queue to its back.
 func pass(circle chan int) {
-	front := <-circle
-	circle <- front
+	circle <- <-circle
 }

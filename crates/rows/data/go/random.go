@@ -5,8 +5,7 @@ func main() {
 	numbers := make(chan int)
 	go random(7, numbers)
 	for i := 0; i < 5; i++ {
-		number := <-numbers
-		println(number%6 + 1)
+		println(<-numbers%6 + 1)
 	}
 }
 

@@ -16,8 +16,7 @@ func main() {
 	for i := 0; i < 5; i++ {
 		<-done
 	}
-	seen := <-gauges
-	println("never more than two inside:", seen.most <= 2)
+	println("never more than two inside:", (<-gauges).most <= 2)
 }
 
 func visit(slots chan bool, gauges chan gauge, done chan<- bool) {

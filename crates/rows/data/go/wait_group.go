@@ -11,8 +11,7 @@ func main() {
 	for i := 0; i < workers; i++ {
 		<-done
 	}
-	ready := len(results)
-	println(ready, "results are ready")
+	println(len(results), "results are ready")
 }
 
 func work(number int, results chan<- int, done chan<- bool) {
