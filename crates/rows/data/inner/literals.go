@@ -5,7 +5,7 @@ func main() {
 	c <- 20
 	c <- 1
 	c <- 7
-	println(T{<-c, f(<-c)}.b, T{f(1), <-c} == T{2, 7})
+	println(T{<-c, f(<-c)}.b, T{f(1), <-c}.b)
 }
 
 type T struct {

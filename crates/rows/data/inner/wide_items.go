@@ -5,7 +5,7 @@ func main() {
 	c <- w(3)
 	println((<-c).i + w(4).h.b)
 	c <- w(5)
-	println(<-c == w(5), w(1) == w(2))
+	println((<-c).p == w(5).p, w(1).h.a == w(2).h.a)
 }
 
 type H struct {
