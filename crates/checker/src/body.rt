@@ -54,8 +54,8 @@ fn is_ended(result_type: Option<ValueType<'_>>, body: &[StatementNode]) -> bool
     }
 }
 
-/// Checks the statements of a body, in which the parameters are visible, whose nodes have numbers from `first` on, and answers
-/// the number behind the function.
+/// Checks the statements of a body, in which the parameters are visible, whose nodes have numbers from `first` on, and returns
+/// the number after the function.
 fn body_in<'a>(
     alloc: Global,
     table: &TypeTable<'a>,
@@ -79,7 +79,7 @@ fn body_in<'a>(
     Ok(end + 2)
 }
 
-/// Checks the body of a function, whose nodes have numbers from `first` on, and answers the number behind it.
+/// Checks the body of a function, whose nodes have numbers from `first` on, and returns the number after it.
 fn body<'a>(
     alloc: Global,
     table: &TypeTable<'a>,
@@ -109,7 +109,7 @@ fn body<'a>(
     )
 }
 
-/// Checks the body of a function, if this is one, whose nodes have numbers from `first` on, and answers the number behind the
+/// Checks the body of a function, if this is one, whose nodes have numbers from `first` on, and returns the number after the
 /// declaration.
 fn top_body<'a>(
     alloc: Global,

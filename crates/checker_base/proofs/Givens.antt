@@ -1,4 +1,4 @@
--- What values give, one behind the other.
+-- What values give, one after the other.
 use Rattle.std.proofs.Common.{◌≡◌, ℕ, ◌+◌, ◌++◌, ◌∷◌, [], refl, subst, map, List, Some, append_assoc}
 use Rattle.std.proofs.lemmas.List.{map-append}
 use Rattle.syntax.specs.Tree.{Expression}

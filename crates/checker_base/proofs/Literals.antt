@@ -1,4 +1,4 @@
--- Values of literals and calls, one behind the other, and the types that are wanted.
+-- Values of literals and calls, one after the other, and the types that are wanted.
 use Rattle.std.proofs.Common.{◌≡◌, ◌==◌, true, false, ℕ, suc, ◌+◌, ◌⊎◌, inl, inr, zero, Bool, List, [], ◌∷◌, map, drop, slice_get, option_map, Option, Some, None, Result, Ok, Err, length, sum_by, refl, arith}
 use Rattle.std.specs.Option.{IfSome}
 use Rattle.std.specs.Result.{IfOk, IfErr}

@@ -58,7 +58,7 @@ kind_at [] number = None
 kind_at (kind ∷ rest) zero = kind
 kind_at (kind ∷ rest) (suc number) = kind_at rest number
 
--- what is wrong with a call of these values, with or without a comma behind the last one
+-- what is wrong with a call of these values, with or without a comma after the last one
 abbrev pub CallWith : Globals → Scope → ℕ → List ℕ → List Expression → Flaw → Type 0
 CallWith globals scope first function values flaw = CallHas globals scope first function (record { values = values; trailing = false }) flaw
 

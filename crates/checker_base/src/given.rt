@@ -34,7 +34,7 @@ pub enum Source<'a> {
     Receive(&'a ExpressionNode),
 }
 
-/// What a right side gives, value by value, and the number behind its nodes.
+/// What a right side gives, value by value, and the number after its nodes.
 #[derive(Drop)]
 pub struct Given<'a> {
     pub values: Vec<Operand<'a>>,
@@ -59,7 +59,7 @@ pub fn fits<'a>(
     }
 }
 
-/// Checks that a value goes to a place that takes its type, and answers that.
+/// Checks that a value goes to a place that takes its type, and returns that.
 pub fn fits_any<'a>(operand: Operand<'a>) -> Result<ValueType<'a>, Flaw>
     ensures kind { IfOk result (λ kind. (types : List (List ℕ)) → default_type (Some (worth_of types operand.entry.worth)) ≡ Some (kind_of types kind)) }
     ensures none { IfOk result (λ _. (types : List (List ℕ)) → (k : Option OneType) → (flaw : OneFlaw) → ¬ (GoesHas true (given_of types operand.entry) k flaw)) }
@@ -92,7 +92,7 @@ fn operands<'a>(
     Ok(Given { values: all, end })
 }
 
-/// Checks a receive, whose nodes have numbers from `first` on, and answers the item.
+/// Checks a receive, whose nodes have numbers from `first` on, and returns the item.
 fn item<'a>(
     alloc: Global,
     table: &TypeTable<'a>,
@@ -115,7 +115,7 @@ fn item<'a>(
     })
 }
 
-/// Checks the values of a right side, whose nodes have numbers from `first` on, and answers them.
+/// Checks the values of a right side, whose nodes have numbers from `first` on, and returns them.
 fn values_of<'a>(
     alloc: Global,
     table: &TypeTable<'a>,
@@ -155,7 +155,7 @@ fn is_one_receive(source: Source<'_>) -> bool
     }
 }
 
-/// Checks what gives so many places values, whose nodes have numbers from `first` on, and answers what it gives them: a
+/// Checks what gives so many places values, whose nodes have numbers from `first` on, and returns what it gives them: a
 /// receive gives two of them the item and whether it was sent.
 pub fn given_by<'a>(
     alloc: Global,

@@ -6,12 +6,13 @@ ghost use Rattle.syntax.specs.Measures.{expression_size, expressions_size, type_
 ghost use Rattle.syntax.specs.Tree.{Composite, Call, Receive, Length, MakeSized, expressions};
 ghost use Rattle.syntax.specs.View.{name_of, type_of, expression_of};
 ghost use Rattle.type_table.specs.Containment.{fields_of};
+ghost use Rattle.type_table.specs.Types.{StructType};
 ghost use Rattle.type_table.specs.Scopes.{type_in};
 ghost use Rattle.type_table.specs.Views.{field_in};
 ghost use Rattle.type_table.specs.Visible.{types_of, globals_in, scope_of};
 ghost use Rattle.typing_rules.specs.declared.flaw.Flaw.{Flaw as OneFlaw};
 ghost use Rattle.typing_rules.specs.Calls.{IsFunction, callee, result_type, made_of};
-ghost use Rattle.typing_rules.specs.Worths.{Typed, worth as spec_worth, element_of, selected_worth, unary_worth, binary_worth};
+ghost use Rattle.typing_rules.specs.Worths.{Typed, Constant, worth as spec_worth, literal, literal_struct, element_of, selected_worth, unary_worth, binary_worth};
 ghost use Rattle.typing_rules.specs.Expressions.{ExpressionHas, ExpressionsHave, PassedHave, ValuesFail};
 ghost use Rattle.typing_rules.specs.Operations.{MeasuredHas};
 ghost use Rattle.checker_base.specs.Views.{worth_of, IsSmall, kinds_in, CallWith, Tells};
@@ -47,7 +48,7 @@ pub struct Operand<'a> {
 /// Values that are checked.
 #[derive(Clone, Copy)]
 struct Filling {
-    /// The number behind their nodes.
+    /// The number after their nodes.
     end: NodeId,
     /// What is wrong with the first one that is not of the type that is wanted.
     misfit: Option<Flaw>,
@@ -100,9 +101,8 @@ pub fn checked<'a>(
         ExpressionNode::Parenthesized(inner) => {
             let inner = checked(table, visible, first, inner)?;
             Ok(Operand {
-                first: inner.first,
                 node: inner.node + 1,
-                worth: inner.worth,
+                ..inner
             })
         }
         ExpressionNode::Selection(whole, field) => {
@@ -170,8 +170,8 @@ fn composite<'a>(
     Ok(Operand { first, node, worth })
 }
 
-/// Checks that values, which have nodes from `first` on, agree in number and type with those that are wanted, and answers
-/// the number behind them.
+/// Checks that values, which have nodes from `first` on, agree in number and type with those that are wanted, and returns
+/// the number after them.
 ///
 /// Errors: the first flaw of a value, else a wrong number, else the first value that is not of the type that is wanted.
 #[cycle(checked)]
@@ -371,6 +371,32 @@ fn make_sized<'a>(
     made(kind, first, size.node + 1)
 }
 
+/// What an integer is worth, if it is not too large.
+fn worth_literal<'a>(value: Option<u128>) -> Option<Worth<'a>>
+    ensures worth { (types : List (List ℕ)) → option_map (worth_of types) result ≡ option_map Constant (literal value) }
+    ensures small { IfSome result IsSmall }
+{
+    match literal(value) {
+        Some(value) => Some(Worth::Constant(value)),
+        None => None,
+    }
+}
+
+/// What a composite literal of this name is worth, if the name is a struct type's.
+fn worth_composite<'a>(
+    table: &TypeTable<'a>,
+    visible: &Visible<'a>,
+    name: &[u8],
+) -> Option<Worth<'a>>
+    ensures worth { option_map (worth_of (types_of table.now)) result ≡ option_map (λ n. Typed (StructType n)) (literal_struct (globals_in table.now) (scope_of table.now visible.now) name.now) }
+    ensures small { IfSome result IsSmall }
+{
+    match literal_struct(table, visible, name) {
+        Some(number) => Some(Worth::Typed(ValueType::Struct(number))),
+        None => None,
+    }
+}
+
 /// What a field of an operand is worth, if the operand is worth something.
 fn worth_selected<'a>(
     table: &TypeTable<'a>,
@@ -474,20 +500,14 @@ pub fn worth<'a>(
     ensures small { IfSome result IsSmall }
 {
     match expression {
-        ExpressionNode::Integer(value) => match literal(*value) {
-            Some(value) => Some(Worth::Constant(value)),
-            None => None,
-        },
+        ExpressionNode::Integer(value) => worth_literal(*value),
         ExpressionNode::Named(name) => named_worth(table, visible, name.bytes.as_slice()),
         ExpressionNode::Parenthesized(inner) => worth(table, visible, inner),
         ExpressionNode::Selection(whole, field) => {
             worth_selected(table, worth(table, visible, whole), field.bytes.as_slice())
         }
         ExpressionNode::Composite(name, _, _) => {
-            match literal_struct(table, visible, name.bytes.as_slice()) {
-                Some(number) => Some(Worth::Typed(ValueType::Struct(number))),
-                None => None,
-            }
+            worth_composite(table, visible, name.bytes.as_slice())
         }
         ExpressionNode::Unary(operator, operand) => {
             worth_before(*operator, worth(table, visible, operand))

@@ -44,7 +44,7 @@ fn path<'a>(
     }
 }
 
-/// Checks a place, which is the node `first`, and answers its type; `_` has none.
+/// Checks a place, which is the node `first`, and returns its type; `_` has none.
 #[tactic(auto, using(crate::proofs::Paths::path_types))]
 pub fn place<'a>(
     table: &TypeTable<'a>,
@@ -76,7 +76,7 @@ pub fn place<'a>(
     }
 }
 
-/// Checks a place that is read too, which is the node `first`, and answers its type.
+/// Checks a place that is read too, which is the node `first`, and returns its type.
 #[tactic(auto, using(crate::proofs::Paths::path_types))]
 pub fn read_place<'a>(
     table: &TypeTable<'a>,
@@ -122,7 +122,7 @@ pub fn references<'a>(alloc: Global, places: Targets<'a>) -> Result<Vec<&'a Plac
     Ok(all)
 }
 
-/// Checks places, the first of which is the node `first`, and answers the number behind them.
+/// Checks places, the first of which is the node `first`, and returns the number after them.
 pub fn places<'a>(
     table: &TypeTable<'a>,
     visible: &Visible<'a>,

@@ -48,7 +48,7 @@ pub fn value(table: &TypeTable<'_>, operand: Operand<'_>, kind: ValueType<'_>) -
     }
 }
 
-/// Checks a value that goes to a variable without a type, and answers the type that the variable takes.
+/// Checks a value that goes to a variable without a type, and returns the type that the variable takes.
 pub fn default_type<'a>(operand: Operand<'a>) -> Result<ValueType<'a>, Flaw>
     ensures kind { IfOk result (λ kind. (types : List (List ℕ)) → default_type (Some (worth_of types operand.entry.worth)) ≡ Some (kind_of types kind)) }
     ensures none { IfOk result (λ _. (types : List (List ℕ)) → (w : Option OneWorth) → w ≡ Some (worth_of types operand.entry.worth) → (nodes : Nodes) → nodes.first ≡ operand.entry.first → nodes.end ≡ operand.entry.node + 1 → (flaw : OneFlaw) → ¬ (DefaultHas w nodes flaw)) }
@@ -79,7 +79,7 @@ pub fn is_condition(operand: Operand<'_>) -> Result<(), Flaw>
     }
 }
 
-/// Checks that the operand of an operation on channels is a channel, and answers its direction and the type of its elements.
+/// Checks that the operand of an operation on channels is a channel, and returns its direction and the type of its elements.
 pub fn channel<'a>(
     table: &TypeTable<'a>,
     operand: Operand<'a>,

@@ -1,4 +1,4 @@
--- What is wrong with the heads of functions behind their names.
+-- What is wrong with the heads of functions after their names.
 use Rattle.std.specs.Prelude.{ℕ, ◌+◌, ◌⊎◌, List, [], ◌∷◌}
 use Rattle.syntax.specs.Tree.{Top, StructTop, FunctionTop}
 use Rattle.syntax.specs.Measures.{top_size}

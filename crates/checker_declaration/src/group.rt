@@ -23,7 +23,7 @@ use type_table::value_type::{ValueType, global_type_in};
 use typing_rules::flaw::Flaw;
 use typing_rules::role::Role;
 
-/// The rule that a name breaks behind others of the same struct or function ("Declarations and scope" of the Go
+/// The rule that a name breaks after others of the same struct or function ("Declarations and scope" of the Go
 /// specification).
 fn broken_by(role: Role, before: &NameList<'_>, name: &[u8]) -> Option<Rule>
     ensures { result ≡ broken_by role before.now name.now }
@@ -48,7 +48,7 @@ fn broken_by(role: Role, before: &NameList<'_>, name: &[u8]) -> Option<Rule>
     }
 }
 
-/// Checks names that are declared together, behind others of the same struct or function. Their declaration has this node.
+/// Checks names that are declared together, after others of the same struct or function. Their declaration has this node.
 fn names<'a>(
     role: Role,
     before: &mut NameList<'a>,
@@ -83,7 +83,7 @@ fn declare<'a>(
     Ok(())
 }
 
-/// Checks names and their type, whose nodes have numbers from `first` on, and answers the number behind them.
+/// Checks names and their type, whose nodes have numbers from `first` on, and returns the number after them.
 fn group<'a>(
     role: Role,
     types: &NameList<'_>,
@@ -110,7 +110,7 @@ fn group<'a>(
     }
 }
 
-/// Checks fields or parameters behind others, whose nodes have numbers from `first` on, and answers the number behind them.
+/// Checks fields or parameters after others, whose nodes have numbers from `first` on, and returns the number after them.
 /// The entries get them.
 fn groups<'a>(
     role: Role,
@@ -133,7 +133,7 @@ fn groups<'a>(
     crate::group::groups(role, types, before, entries, middle, rest)
 }
 
-/// What a struct or a function declares: its fields or parameters, and the number behind their nodes.
+/// What a struct or a function declares: its fields or parameters, and the number after their nodes.
 #[derive(Drop)]
 pub(crate) struct Listed<'a> {
     pub entries: Vec<FieldEntry<'a>>,

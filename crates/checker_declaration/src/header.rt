@@ -56,7 +56,7 @@ fn optional_size(written: &Option<TypeNode>) -> NodeId
     }
 }
 
-/// What stands behind a function's name: its parameters, the type of its result if it has one, and the first node of its
+/// What stands after a function's name: its parameters, the type of its result if it has one, and the first node of its
 /// body.
 #[derive(Drop)]
 pub struct Head<'a> {
@@ -65,7 +65,7 @@ pub struct Head<'a> {
     pub end: NodeId,
 }
 
-/// Checks what stands behind a function's name, whose nodes have numbers from `first` on.
+/// Checks what stands after a function's name, whose nodes have numbers from `first` on.
 pub fn function_head<'a>(
     alloc: Global,
     types: &NameList<'_>,
@@ -100,7 +100,7 @@ fn kinds<'a>(alloc: Global, parameters: &[FieldEntry<'a>]) -> Result<Vec<ValueTy
     Ok(all)
 }
 
-/// Checks what stands behind a function's name, and answers the function.
+/// Checks what stands after a function's name, and returns the function.
 fn entry<'a>(
     alloc: Global,
     types: &NameList<'_>,
@@ -145,7 +145,7 @@ fn header<'a>(
     entry(alloc, types, first, function)
 }
 
-/// Checks the head of a function, if this is one, whose nodes have numbers from `first` on, and answers the number behind the
+/// Checks the head of a function, if this is one, whose nodes have numbers from `first` on, and returns the number after the
 /// declaration. The entries get it.
 fn top_header<'a>(
     alloc: Global,

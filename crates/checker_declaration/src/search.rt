@@ -33,7 +33,7 @@ pub(crate) struct Search {
     open: Vec<usize>,
     /// Those whose fields are being looked at, each of which lies in the one before.
     frames: Vec<Frame>,
-    /// The struct types, each behind those that lie in it, unless it lies in itself.
+    /// The struct types, each after those that lie in it, unless it lies in itself.
     pub order: Vec<usize>,
     /// The first that lies within itself.
     pub held: Option<usize>,

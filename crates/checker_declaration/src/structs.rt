@@ -72,7 +72,7 @@ fn struct_entry<'a>(
     fields(alloc, types, first, node, one)
 }
 
-/// Checks a struct type, if this is one, whose nodes have numbers from `first` on, and answers the number behind the
+/// Checks a struct type, if this is one, whose nodes have numbers from `first` on, and returns the number after the
 /// declaration. The structs get it.
 fn top_struct<'a>(
     alloc: Global,

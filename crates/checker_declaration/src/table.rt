@@ -80,7 +80,7 @@ fn sized_types<'a>(
     }
 }
 
-/// Checks the declarations of a file, without the bodies of functions, and answers what is declared.
+/// Checks the declarations of a file, without the bodies of functions, and returns what is declared.
 ///
 /// Errors: the first flaw: those of struct types, in order, and then those of functions, in order; `Memory`.
 pub fn table_of<'a>(alloc: Global, tops: &'a [TopNode]) -> Result<TypeTable<'a>, Refusal>

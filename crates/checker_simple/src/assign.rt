@@ -19,7 +19,7 @@ use type_table::scope::Visible;
 use type_table::table::TypeTable;
 use typing_rules::flaw::Flaw;
 
-/// Checks what places are given by a statement whose own node is the one behind that.
+/// Checks what places are given by a statement whose own node is the one after that.
 fn assign_given<'a>(
     table: &TypeTable<'a>,
     visible: &Visible<'a>,
@@ -33,7 +33,7 @@ fn assign_given<'a>(
     places_take(table, visible, all, given.values.as_slice())
 }
 
-/// Checks an assignment, whose nodes have numbers from `first` on, and answers the number behind them.
+/// Checks an assignment, whose nodes have numbers from `first` on, and returns the number after them.
 pub(crate) fn assign<'a>(
     alloc: Global,
     table: &TypeTable<'a>,

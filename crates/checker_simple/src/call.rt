@@ -14,7 +14,7 @@ use syntax::{ArgumentsNode, Name, NodeId};
 use type_table::scope::Visible;
 use type_table::table::TypeTable;
 
-/// Checks a call whose result nobody takes, with nodes from `first` on, and answers the number behind them.
+/// Checks a call whose result nobody takes, with nodes from `first` on, and returns the number after them.
 pub fn call_alone(
     table: &TypeTable<'_>,
     visible: &Visible<'_>,

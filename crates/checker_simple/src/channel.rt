@@ -16,7 +16,7 @@ use syntax::{ExpressionNode, NodeId};
 use type_table::scope::Visible;
 use type_table::table::TypeTable;
 
-/// Checks a `close`, whose nodes have numbers from `first` on, and answers the number behind them.
+/// Checks a `close`, whose nodes have numbers from `first` on, and returns the number after them.
 pub(crate) fn close(
     table: &TypeTable<'_>,
     visible: &Visible<'_>,
@@ -33,7 +33,7 @@ pub(crate) fn close(
     Ok(operand.node + 2)
 }
 
-/// Checks a send, whose nodes have numbers from `first` on, and answers the number behind them.
+/// Checks a send, whose nodes have numbers from `first` on, and returns the number after them.
 pub(crate) fn send<'a>(
     table: &TypeTable<'a>,
     visible: &Visible<'a>,
@@ -54,7 +54,7 @@ pub(crate) fn send<'a>(
     Ok(item.node + 2)
 }
 
-/// Checks a receive that stands alone, whose nodes have numbers from `first` on, and answers the number behind them.
+/// Checks a receive that stands alone, whose nodes have numbers from `first` on, and returns the number after them.
 pub(crate) fn receive_alone(
     table: &TypeTable<'_>,
     visible: &Visible<'_>,

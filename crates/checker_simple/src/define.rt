@@ -19,7 +19,7 @@ use syntax::{Name, NodeId};
 use type_table::scope::Visible;
 use type_table::table::TypeTable;
 
-/// Checks the names of a `:=` and what they are given, where its own node is the one behind that, and declares those that
+/// Checks the names of a `:=` and what they are given, where its own node is the one after that, and declares those that
 /// are new.
 fn define_given<'a>(
     table: &TypeTable<'a>,
@@ -37,7 +37,7 @@ fn define_given<'a>(
     take_names(table, visible, names, given.values.as_slice())
 }
 
-/// Checks a `:=`, whose nodes have numbers from `first` on, and answers the number behind them. What it declares is then
+/// Checks a `:=`, whose nodes have numbers from `first` on, and returns the number after them. What it declares is then
 /// visible.
 pub(crate) fn define<'a>(
     alloc: Global,

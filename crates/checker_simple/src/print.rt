@@ -14,7 +14,7 @@ use type_table::scope::Visible;
 use type_table::table::TypeTable;
 use typing_rules::flaw::Flaw;
 
-/// Checks an argument of a print, whose nodes have numbers from `first` on, and answers the number behind them.
+/// Checks an argument of a print, whose nodes have numbers from `first` on, and returns the number after them.
 fn part(
     table: &TypeTable<'_>,
     visible: &Visible<'_>,
@@ -36,7 +36,7 @@ fn part(
     }
 }
 
-/// Checks the arguments of a print, whose nodes have numbers from `first` on, and answers the number behind them.
+/// Checks the arguments of a print, whose nodes have numbers from `first` on, and returns the number after them.
 pub fn parts<'a>(
     table: &TypeTable<'a>,
     visible: &Visible<'a>,

@@ -23,7 +23,7 @@ use syntax::{CommNode, NodeId, SimpleNode};
 use type_table::scope::Visible;
 use type_table::table::TypeTable;
 
-/// Checks a simple statement, whose nodes have numbers from `first` on, and answers the number behind them. What it
+/// Checks a simple statement, whose nodes have numbers from `first` on, and returns the number after them. What it
 /// declares is then visible.
 pub fn simple<'a>(
     alloc: Global,
@@ -42,25 +42,13 @@ pub fn simple<'a>(
     match simple {
         SimpleNode::Define(names, right) => {
             let names = Names::All(names.as_slice());
-            define(
-                alloc,
-                table,
-                visible,
-                first,
-                names,
-                Source::Right(right.as_slice()),
-            )
+            let right = Source::Right(right.as_slice());
+            define(alloc, table, visible, first, names, right)
         }
         SimpleNode::Assign(places, right) => {
             let places = Targets::All(places.as_slice());
-            assign(
-                alloc,
-                table,
-                visible,
-                first,
-                places,
-                Source::Right(right.as_slice()),
-            )
+            let right = Source::Right(right.as_slice());
+            assign(alloc, table, visible, first, places, right)
         }
         SimpleNode::Call(function, arguments) => {
             call_alone(table, visible, first, function, arguments)
@@ -81,7 +69,7 @@ pub fn simple<'a>(
     }
 }
 
-/// Checks what a clause of a `select` waits for, whose nodes have numbers from `first` on, and answers the number behind
+/// Checks what a clause of a `select` waits for, whose nodes have numbers from `first` on, and returns the number after
 /// them. What it declares is then visible.
 pub fn comm<'a>(
     alloc: Global,
@@ -102,25 +90,13 @@ pub fn comm<'a>(
         CommNode::Receive(channel) => receive_alone(table, visible, first, channel),
         CommNode::Define(item, ok, channel) => {
             let names = Names::OneOrTwo(item, ok);
-            define(
-                alloc,
-                table,
-                visible,
-                first,
-                names,
-                Source::Receive(channel),
-            )
+            let received = Source::Receive(channel);
+            define(alloc, table, visible, first, names, received)
         }
         CommNode::Assign(item, ok, channel) => {
             let places = Targets::OneOrTwo(item, ok);
-            assign(
-                alloc,
-                table,
-                visible,
-                first,
-                places,
-                Source::Receive(channel),
-            )
+            let received = Source::Receive(channel);
+            assign(alloc, table, visible, first, places, received)
         }
     }
 }

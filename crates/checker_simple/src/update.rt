@@ -26,7 +26,7 @@ use type_table::table::TypeTable;
 use type_table::value_type::ValueType;
 use typing_rules::flaw::Flaw;
 
-/// Checks `++` or `--`, whose nodes have numbers from `first` on, and answers the number behind them.
+/// Checks `++` or `--`, whose nodes have numbers from `first` on, and returns the number after them.
 pub(crate) fn step(
     table: &TypeTable<'_>,
     visible: &Visible<'_>,
@@ -72,7 +72,7 @@ fn updates<'a>(
     }
 }
 
-/// Checks an assignment with an operator, whose nodes have numbers from `first` on, and answers the number behind them.
+/// Checks an assignment with an operator, whose nodes have numbers from `first` on, and returns the number after them.
 pub(crate) fn update(
     table: &TypeTable<'_>,
     visible: &Visible<'_>,

@@ -42,7 +42,7 @@ fn all_fit<'a>(
     all_fit(table, kind, rest)
 }
 
-/// Checks what so many variables of a type are given by a statement whose own node is the one behind that.
+/// Checks what so many variables of a type are given by a statement whose own node is the one after that.
 fn typed_given<'a>(
     table: &TypeTable<'a>,
     kind: ValueType<'a>,
@@ -56,8 +56,8 @@ fn typed_given<'a>(
     all_fit(table, kind, given.values.as_slice())
 }
 
-/// Checks what so many variables of a type are given, if that is anything, with nodes from `first` on, and answers the
-/// number behind them.
+/// Checks what so many variables of a type are given, if that is anything, with nodes from `first` on, and returns the
+/// number after them.
 fn typed_right<'a>(
     alloc: Global,
     table: &TypeTable<'a>,
@@ -122,7 +122,7 @@ fn declare_all<'a>(
     declare_all(table, visible, kind, rest)
 }
 
-/// Checks the names of a `var` without a type and what they are given, where its own node is the one behind that, and
+/// Checks the names of a `var` without a type and what they are given, where its own node is the one after that, and
 /// declares them.
 fn declare_given<'a>(
     table: &TypeTable<'a>,
@@ -140,7 +140,7 @@ fn declare_given<'a>(
     take_names(table, visible, names, given.values.as_slice())
 }
 
-/// Checks a `var` with a type, whose nodes have numbers from `first` on, and answers the number behind them. Its variables
+/// Checks a `var` with a type, whose nodes have numbers from `first` on, and returns the number after them. Its variables
 /// are then visible.
 pub fn typed_variables<'a>(
     alloc: Global,
@@ -169,7 +169,7 @@ pub fn typed_variables<'a>(
     Ok(node + 1)
 }
 
-/// Checks a `var` without a type, whose nodes have numbers from `first` on, and answers the number behind them. Its
+/// Checks a `var` without a type, whose nodes have numbers from `first` on, and returns the number after them. Its
 /// variables are then visible.
 pub fn untyped_variables<'a>(
     alloc: Global,

@@ -44,7 +44,7 @@ pub(crate) fn broken_at(whole: &StatementNode, first: NodeId, rule: Rule) -> Fla
     Flaw::Broken(rule, first + (statement_size(whole) - 1))
 }
 
-/// Checks a condition, whose nodes have numbers from `first` on, and answers the number behind them.
+/// Checks a condition, whose nodes have numbers from `first` on, and returns the number after them.
 fn test<'a>(
     table: &TypeTable<'a>,
     visible: &Visible<'a>,
@@ -61,7 +61,7 @@ fn test<'a>(
     Ok(operand.node + 1)
 }
 
-/// Checks the simple statement of a header, if it has one, and answers the number behind its nodes. What it declares is
+/// Checks the simple statement of a header, if it has one, and returns the number after its nodes. What it declares is
 /// then visible.
 fn optional_simple<'a>(
     alloc: Global,
@@ -83,7 +83,7 @@ fn optional_simple<'a>(
     }
 }
 
-/// Checks the condition of a `for`, if it has one, and answers the number behind its nodes.
+/// Checks the condition of a `for`, if it has one, and returns the number after its nodes.
 fn optional_test<'a>(
     table: &TypeTable<'a>,
     visible: &Visible<'a>,
@@ -101,7 +101,7 @@ fn optional_test<'a>(
     }
 }
 
-/// Checks the statement of a `for` that is done behind each turn, if it has one, and answers the number behind its nodes.
+/// Checks the statement of a `for` that is done after each turn, if it has one, and returns the number after its nodes.
 /// Nothing that it declares is visible anywhere else.
 fn post_statement<'a>(
     alloc: Global,
@@ -147,7 +147,7 @@ fn if_header<'a>(
     }
 }
 
-/// Checks what stands before the block of an `if`, whose nodes have numbers from `first` on, and answers the number behind
+/// Checks what stands before the block of an `if`, whose nodes have numbers from `first` on, and returns the number after
 /// them. What it declares is then visible.
 pub(crate) fn guard<'a>(
     alloc: Global,
@@ -168,7 +168,7 @@ pub(crate) fn guard<'a>(
     Ok(test(table, visible, middle, condition)?)
 }
 
-/// Checks what a range assigns its items to, whose nodes have numbers from `first` on, and answers the number behind them.
+/// Checks what a range assigns its items to, whose nodes have numbers from `first` on, and returns the number after them.
 fn range_target<'a>(
     table: &TypeTable<'a>,
     visible: &Visible<'a>,
@@ -291,7 +291,7 @@ fn taken<'a>(
 }
 
 /// Checks what stands between `for` and the block of a range, whose nodes have numbers from `first` on, as those of the
-/// whole `for` do, and answers the number behind them. What it declares is then visible.
+/// whole `for` do, and returns the number after them. What it declares is then visible.
 fn range<'a>(
     table: &TypeTable<'a>,
     visible: &mut Visible<'a>,
@@ -316,7 +316,7 @@ fn range<'a>(
 }
 
 /// What stands between a `for` and its block, where it is no range: what is done first, the condition, and what is done
-/// behind each turn, each of which may be missing.
+/// after each turn, each of which may be missing.
 #[derive(Clone, Copy)]
 struct ClausesHeader<'a> {
     first: &'a Option<SimpleNode>,
@@ -325,7 +325,7 @@ struct ClausesHeader<'a> {
 }
 
 /// Checks the header of a `for` with a first statement, a condition and a post statement, each of which may be missing,
-/// whose nodes have numbers from `first` on, and answers the number behind them. What it declares is then visible.
+/// whose nodes have numbers from `first` on, and returns the number after them. What it declares is then visible.
 fn for_clauses<'a>(
     alloc: Global,
     table: &TypeTable<'a>,
@@ -346,7 +346,7 @@ fn for_clauses<'a>(
 }
 
 /// Checks what stands between a `for` and its block, whose nodes have numbers from `first` on, as those of the whole `for`
-/// do, and answers the number behind them. What it declares is then visible.
+/// do, and returns the number after them. What it declares is then visible.
 pub(crate) fn for_header<'a>(
     alloc: Global,
     table: &TypeTable<'a>,

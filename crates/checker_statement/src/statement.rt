@@ -44,7 +44,7 @@ pub struct Inside<'a> {
     pub continues: bool,
 }
 
-/// Checks a value that a `return` gives, and answers the number behind the `return` ("Return statements" of the Go
+/// Checks a value that a `return` gives, and returns the number after the `return` ("Return statements" of the Go
 /// specification).
 fn returns(
     table: &TypeTable<'_>,
@@ -65,7 +65,7 @@ fn returns(
     }
 }
 
-/// Checks a `return`, whose nodes have numbers from `first` on, and answers the number behind them.
+/// Checks a `return`, whose nodes have numbers from `first` on, and returns the number after them.
 fn return_statement<'a>(
     table: &TypeTable<'a>,
     result_type: Option<ValueType<'a>>,
@@ -90,7 +90,7 @@ fn return_statement<'a>(
     }
 }
 
-/// Checks a `break` or a `continue`, which is the node `first`, and answers the number behind it; `may` says whether it may
+/// Checks a `break` or a `continue`, which is the node `first`, and returns the number after it; `may` says whether it may
 /// stand there.
 fn jump(may: bool, first: NodeId) -> Result<NodeId, Refusal>
     requires small { first + 1 < 2 ^ 32 }
@@ -105,7 +105,7 @@ fn jump(may: bool, first: NodeId) -> Result<NodeId, Refusal>
     }
 }
 
-/// Checks what a clause of a `select` waits for, if it isn't the default, and answers the number behind its nodes. What it
+/// Checks what a clause of a `select` waits for, if it isn't the default, and returns the number after its nodes. What it
 /// declares is then visible.
 fn optional_comm<'a>(
     alloc: Global,
@@ -139,7 +139,7 @@ fn with_clause(defaults: usize, one: &ClauseNode) -> usize
     }
 }
 
-/// Checks a statement, whose nodes have numbers from `first` on, and answers the number behind them. What it declares is
+/// Checks a statement, whose nodes have numbers from `first` on, and returns the number after them. What it declares is
 /// then visible.
 #[cycle(statement)]
 fn statement<'a>(
@@ -189,7 +189,7 @@ fn statement<'a>(
     }
 }
 
-/// Checks statements, whose nodes have numbers from `first` on, and answers the number behind them. What they declare is
+/// Checks statements, whose nodes have numbers from `first` on, and returns the number after them. What they declare is
 /// then visible ("Blocks", "Declarations and scope" and "Statements" of the Go specification).
 ///
 /// Errors: the first flaw, in the order of the statements, the header of each before its blocks; `Memory` where a request
@@ -217,7 +217,7 @@ pub fn statements<'a>(
     Ok(end)
 }
 
-/// Checks the statements of a block, whose nodes have numbers from `first` on, and answers the number behind them. What
+/// Checks the statements of a block, whose nodes have numbers from `first` on, and returns the number after them. What
 /// they declare is visible no more.
 #[cycle(statement)]
 fn block<'a>(
@@ -243,7 +243,7 @@ fn block<'a>(
     Ok(end)
 }
 
-/// Checks an `if`, whose nodes have numbers from `first` on, and answers the number behind them ("If statements" of the Go
+/// Checks an `if`, whose nodes have numbers from `first` on, and returns the number after them ("If statements" of the Go
 /// specification).
 #[cycle(statement)]
 fn if_statement<'a>(
@@ -269,7 +269,7 @@ fn if_statement<'a>(
     Ok(node + 1)
 }
 
-/// Checks the parts of an `if`, whose nodes have numbers from `first` on, within the block that it is, and answers its own
+/// Checks the parts of an `if`, whose nodes have numbers from `first` on, within the block that it is, and returns its own
 /// node.
 #[cycle(statement)]
 fn if_parts<'a>(
@@ -299,7 +299,7 @@ fn if_parts<'a>(
     otherwise(alloc, table, inside, visible, behind + 1, &branch.otherwise)
 }
 
-/// Checks what stands behind the block of an `if`, and answers the number behind its nodes.
+/// Checks what stands after the block of an `if`, and returns the number after its nodes.
 #[cycle(statement)]
 fn otherwise<'a>(
     alloc: Global,
@@ -326,7 +326,7 @@ fn otherwise<'a>(
     }
 }
 
-/// Checks a `for`, whose nodes have numbers from `first` on, and answers the number behind them ("For statements" of the Go
+/// Checks a `for`, whose nodes have numbers from `first` on, and returns the number after them ("For statements" of the Go
 /// specification).
 #[cycle(statement)]
 fn for_statement<'a>(
@@ -361,7 +361,7 @@ fn for_statement<'a>(
     Ok(end + 2)
 }
 
-/// Checks a `select`, whose nodes have numbers from `first` on, and answers the number behind them ("Select statements" of
+/// Checks a `select`, whose nodes have numbers from `first` on, and returns the number after them ("Select statements" of
 /// the Go specification). A second default is told where it is met.
 #[cycle(statement)]
 fn select<'a>(
@@ -393,7 +393,7 @@ fn select<'a>(
     Ok(end + 1)
 }
 
-/// Checks a clause of a `select`, whose nodes have numbers from `first` on, and answers the number behind them.
+/// Checks a clause of a `select`, whose nodes have numbers from `first` on, and returns the number after them.
 #[cycle(statement)]
 fn clause<'a>(
     alloc: Global,
@@ -419,7 +419,7 @@ fn clause<'a>(
 }
 
 /// Checks the parts of a clause of a `select`, whose nodes have numbers from `first` on, within the block that it is, and
-/// answers the number behind them.
+/// returns the number after them.
 #[cycle(statement)]
 fn clause_parts<'a>(
     alloc: Global,

@@ -40,7 +40,7 @@ fn branch_breaks_out(branch: &IfNode) -> bool
     some_breaks_out(branch.body.as_slice()) || otherwise_breaks_out(&branch.otherwise)
 }
 
-/// The same of what stands behind the block of an `if`.
+/// The same of what stands after the block of an `if`.
 #[cycle(breaks_out)]
 fn otherwise_breaks_out(otherwise: &ElseNode) -> bool
     ensures { result ≡ otherwise_breaks_out (otherwise_of otherwise.now) }
@@ -103,7 +103,7 @@ fn branch_terminates(branch: &IfNode) -> bool
     last_terminates(branch.body.as_slice()) && otherwise_terminates(&branch.otherwise)
 }
 
-/// Whether what stands behind the block of an `if` is terminating.
+/// Whether what stands after the block of an `if` is terminating.
 #[cycle(terminates)]
 fn otherwise_terminates(otherwise: &ElseNode) -> bool
     ensures { result ≡ otherwise_terminates (otherwise_of otherwise.now) }

@@ -11,19 +11,19 @@ use syntax::{
 /// The number that no node has: a walk in search of it passes everything.
 const NOWHERE: NodeId = NodeId::MAX;
 
-/// The number behind the nodes of a statement. The one before it is the statement's own.
+/// The number after the nodes of a statement. The one before it is the statement's own.
 pub fn statement_end(alloc: Global, first: NodeId, statement: &StatementNode) -> NodeId {
     let mut walk = Walk::new(alloc, NOWHERE, first);
     walk.pass_statement(statement);
     walk.end
 }
 
-/// The number behind the nodes of a simple statement.
+/// The number after the nodes of a simple statement.
 pub fn simple_statement_end(first: NodeId, simple: &SimpleNode) -> NodeId {
     simple_end(first, simple)
 }
 
-/// The number behind the nodes of an `if`.
+/// The number after the nodes of an `if`.
 pub fn if_end(alloc: Global, first: NodeId, branch: &IfNode) -> NodeId {
     let mut walk = Walk::new(alloc, NOWHERE, first);
     walk.pass_if(branch);
@@ -39,7 +39,7 @@ pub fn then_first(first: NodeId, branch: &IfNode) -> NodeId {
     expression_end(condition, &branch.condition)
 }
 
-/// The first node of what stands behind the block of an `if`.
+/// The first node of what stands after the block of an `if`.
 pub fn else_first(alloc: Global, first: NodeId, branch: &IfNode) -> NodeId {
     let mut walk = Walk::new(alloc, NOWHERE, then_first(first, branch));
     walk.pass_block(branch.body.as_slice());
@@ -53,7 +53,7 @@ pub fn loop_first(alloc: Global, first: NodeId, header: &ForHeader) -> NodeId {
     walk.end
 }
 
-/// The first node of what a `for` does behind each turn; of a `for` that does nothing there, of its body.
+/// The first node of what a `for` does after each turn; of a `for` that does nothing there, of its body.
 pub fn post_first(alloc: Global, first: NodeId, header: &ForHeader) -> NodeId {
     let ForHeader::Clauses(start, condition, _) = header else {
         return loop_first(alloc, first, header);
@@ -73,7 +73,7 @@ pub fn clause_end(alloc: Global, first: NodeId, clause: &ClauseNode) -> NodeId {
 }
 
 /// The first node of the statements of a `select`'s clause of this number, counted from 1 without the default, or of the
-/// default's where the number is 0. Where there is none, the number behind all clauses.
+/// default's where the number is 0. Where there is none, the number after all clauses.
 pub fn clause_first(alloc: Global, first: NodeId, clauses: &[ClauseNode], number: usize) -> NodeId {
     let mut left = number;
     let mut start = first;
@@ -123,7 +123,7 @@ pub fn function_first(first: NodeId, function: &FunctionNode) -> NodeId {
     }
 }
 
-/// The number behind the nodes of a declaration.
+/// The number after the nodes of a declaration.
 pub fn top_end(alloc: Global, first: NodeId, top: &TopNode) -> NodeId {
     let mut walk = Walk::new(alloc, NOWHERE, first);
     walk.pass_top(top);

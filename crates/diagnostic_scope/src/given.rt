@@ -41,7 +41,7 @@ pub enum Role<'a> {
     /// It is the argument of this built-in function.
     Measured(&'static str),
     Ranged,
-    /// It stands behind this operator in an assignment.
+    /// It stands after this operator in an assignment.
     Operand(BinaryOperator),
 }
 
@@ -90,7 +90,7 @@ pub struct Parts<'a> {
     pub step: &'static str,
     /// Whether something is missing, since a request for memory was refused.
     pub is_cut: bool,
-    /// The number behind the nodes of what was taken.
+    /// The number after the nodes of what was taken.
     end: NodeId,
 }
 

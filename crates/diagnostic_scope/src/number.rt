@@ -4,12 +4,12 @@ use syntax::{
     CommNode, ExpressionNode, NodeId, PartNode, ReturnNode, SimpleNode, StatementNode, TypeNode,
 };
 
-/// The number behind a node.
+/// The number after a node.
 pub(crate) fn after(node: NodeId) -> NodeId {
     node.saturating_add(1)
 }
 
-/// The number behind the nodes of a type.
+/// The number after the nodes of a type.
 pub(crate) fn type_end(first: NodeId, written: &TypeNode) -> NodeId {
     match written {
         TypeNode::Named(_) => after(first),
@@ -19,7 +19,7 @@ pub(crate) fn type_end(first: NodeId, written: &TypeNode) -> NodeId {
     }
 }
 
-/// The number behind the nodes of an expression.
+/// The number after the nodes of an expression.
 #[cycle(expression_end)]
 pub(crate) fn expression_end(first: NodeId, expression: &ExpressionNode) -> NodeId {
     match expression {
@@ -43,7 +43,7 @@ pub(crate) fn expression_end(first: NodeId, expression: &ExpressionNode) -> Node
     }
 }
 
-/// The number behind the nodes of expressions.
+/// The number after the nodes of expressions.
 #[cycle(expression_end)]
 fn values_end(first: NodeId, values: &[ExpressionNode]) -> NodeId {
     let mut end = first;
@@ -53,7 +53,7 @@ fn values_end(first: NodeId, values: &[ExpressionNode]) -> NodeId {
     end
 }
 
-/// The number behind the nodes of an expression that may be left out.
+/// The number after the nodes of an expression that may be left out.
 pub(crate) fn optional_end(first: NodeId, expression: &Option<ExpressionNode>) -> NodeId {
     match expression {
         None => first,
@@ -61,7 +61,7 @@ pub(crate) fn optional_end(first: NodeId, expression: &Option<ExpressionNode>) -
     }
 }
 
-/// The number behind the node of an argument of a print.
+/// The number after the node of an argument of a print.
 fn part_end(first: NodeId, part: &PartNode) -> NodeId {
     match part {
         PartNode::Value(value) => expression_end(first, value),
@@ -69,7 +69,7 @@ fn part_end(first: NodeId, part: &PartNode) -> NodeId {
     }
 }
 
-/// The number behind the nodes of arguments of a print.
+/// The number after the nodes of arguments of a print.
 fn parts_end(first: NodeId, parts: &[PartNode]) -> NodeId {
     let mut end = first;
     for part in parts {
@@ -78,12 +78,12 @@ fn parts_end(first: NodeId, parts: &[PartNode]) -> NodeId {
     end
 }
 
-/// The number behind so many places, each of which is a node.
+/// The number after so many places, each of which is a node.
 fn places_end(first: NodeId, places: usize) -> NodeId {
     first.saturating_add(u32::try_from(places).unwrap_or(u32::MAX))
 }
 
-/// The number behind the nodes of a simple statement.
+/// The number after the nodes of a simple statement.
 pub(crate) fn simple_end(first: NodeId, simple: &SimpleNode) -> NodeId {
     let last = match simple {
         SimpleNode::Call(_, arguments) => values_end(first, arguments.values.as_slice()),
@@ -101,7 +101,7 @@ pub(crate) fn simple_end(first: NodeId, simple: &SimpleNode) -> NodeId {
     after(last)
 }
 
-/// The number behind the nodes of what a clause of a `select` waits for.
+/// The number after the nodes of what a clause of a `select` waits for.
 pub(crate) fn comm_end(first: NodeId, comm: &CommNode) -> NodeId {
     let last = match comm {
         CommNode::Send(channel, value) => expression_end(expression_end(first, channel), value),
@@ -115,7 +115,7 @@ pub(crate) fn comm_end(first: NodeId, comm: &CommNode) -> NodeId {
     after(last)
 }
 
-/// The number behind the nodes of a `var` with a type, but for its own.
+/// The number after the nodes of a `var` with a type, but for its own.
 fn typed_end(first: NodeId, written: &TypeNode, right: &Option<Vec<ExpressionNode>>) -> NodeId {
     let start = type_end(first, written);
     match right {
@@ -124,7 +124,7 @@ fn typed_end(first: NodeId, written: &TypeNode, right: &Option<Vec<ExpressionNod
     }
 }
 
-/// The number behind the nodes of what a `return` gives.
+/// The number after the nodes of what a `return` gives.
 fn returned_end(first: NodeId, returned: &ReturnNode) -> NodeId {
     match returned {
         ReturnNode::Nothing => first,
@@ -132,7 +132,7 @@ fn returned_end(first: NodeId, returned: &ReturnNode) -> NodeId {
     }
 }
 
-/// The number behind the nodes of a statement that holds no other.
+/// The number after the nodes of a statement that holds no other.
 pub(crate) fn leaf_end(first: NodeId, statement: &StatementNode) -> NodeId {
     match statement {
         StatementNode::Simple(simple) => simple_end(first, simple),

@@ -49,7 +49,7 @@ impl<'a> Scene<'a> {
         }
     }
 
-    /// Checks the statements behind the head of a function.
+    /// Checks the statements after the head of a function.
     fn pass_body(
         &mut self,
         alloc: Global,

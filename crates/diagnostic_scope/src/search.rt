@@ -17,7 +17,7 @@ pub struct Filled<'a> {
 #[derive(Drop)]
 struct Search<'a> {
     node: NodeId,
-    /// The number behind the nodes that were passed.
+    /// The number after the nodes that were passed.
     end: NodeId,
     /// The part whose own node it is, once that was passed.
     part: Option<&'a ExpressionNode>,

@@ -40,7 +40,7 @@ pub struct Found<'a> {
 #[derive(Drop)]
 pub struct Walk<'a> {
     node: NodeId,
-    /// The number behind the nodes that were passed.
+    /// The number after the nodes that were passed.
     pub end: NodeId,
     /// The units that hold the node, the innermost first, of those that were passed.
     pub found: Vec<Found<'a>>,
@@ -212,7 +212,7 @@ impl<'a> Walk<'a> {
     }
 }
 
-/// The number behind the nodes of fields or parameters.
+/// The number after the nodes of fields or parameters.
 pub fn declared_end(first: NodeId, declared: &[DeclaredNode]) -> NodeId {
     let mut end = first;
     for one in declared {

@@ -15,7 +15,7 @@ fn is_among(names: &[&Name], name: &[u8]) -> bool {
     false
 }
 
-/// The first of these names, other than `_`, that stands among those behind it.
+/// The first of these names, other than `_`, that stands among those after it.
 pub(crate) fn first_repeated<'a>(names: &[&'a Name]) -> Option<&'a Name> {
     let (&name, rest) = names.split_first()?;
     let bytes = name.bytes.as_slice();

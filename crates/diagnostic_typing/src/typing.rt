@@ -143,7 +143,7 @@ fn push_in_scene(
     }
 }
 
-/// Puts what is to be printed of a violation in a file whose declarations are right, in the innermost of these units, behind what
+/// Puts what is to be printed of a violation in a file whose declarations are right, in the innermost of these units, after what
 /// is there.
 fn push_in_functions(
     alloc: Global,

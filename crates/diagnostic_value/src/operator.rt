@@ -173,7 +173,7 @@ fn push_update(
     }
 }
 
-/// The operator of an assignment, and the value behind it.
+/// The operator of an assignment, and the value after it.
 fn update_in<'a>(at: &Setting<'_, 'a>) -> Option<(BinaryOperator, &'a ExpressionNode)> {
     let value = at.parts.values.first()?;
     match value.role {

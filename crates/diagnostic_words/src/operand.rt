@@ -65,7 +65,7 @@ fn is_untyped_bool(expression: &ExpressionNode) -> bool {
     }
 }
 
-/// Whether an expression is an integer as it is written, or one behind a minus.
+/// Whether an expression is an integer as it is written, or one after a minus.
 fn is_integer(expression: &ExpressionNode) -> bool {
     match expression {
         ExpressionNode::Integer(_) => true,
@@ -74,7 +74,7 @@ fn is_integer(expression: &ExpressionNode) -> bool {
     }
 }
 
-/// Puts what a value is behind its text: ` (variable of type int)`.
+/// Puts what a value is after its text: ` (variable of type int)`.
 fn push_typed(
     said: &mut Words,
     table: &TypeTable<'_>,
@@ -112,7 +112,7 @@ fn sort_text(expression: &ExpressionNode) -> &'static str {
     }
 }
 
-/// Puts what a constant is behind its text: its value, where the text is another.
+/// Puts what a constant is after its text: its value, where the text is another.
 fn push_constant(said: &mut Words, expression: &ExpressionNode, value: i128) {
     if is_integer(expression) {
         return said.text(" (untyped int constant)");

@@ -192,7 +192,7 @@ pub fn push_call(said: &mut Words, function: &Name, arguments: &[ExpressionNode]
     said.text(")");
 }
 
-/// Puts a `make` of this type after what is there, up to the text behind the type.
+/// Puts a `make` of this type after what is there, up to the text after the type.
 fn push_make(said: &mut Words, written: &TypeNode, behind: &str) {
     said.text("make(");
     push_written(said, written);

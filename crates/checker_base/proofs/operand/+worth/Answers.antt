@@ -1,5 +1,5 @@
 use Rattle.type_table.specs.Visible.{types_of}
-use Rattle.syntax.proofs.Nodes.{named_is, parenthesized_is, selection_is, unary_is, binary_is}
+use Rattle.syntax.proofs.Nodes.{integer_is, named_is, parenthesized_is, selection_is, unary_is, binary_is}
 use Rattle.checker_base.proofs.operand.+worth.Goals as goal
 
 pub returns-in-Named-clause-worth : goal.returns-in-Named-clause-worth
@@ -19,3 +19,6 @@ returns-in-Unary-clause-worth t c =
 pub returns-in-Binary-clause-worth : goal.returns-in-Binary-clause-worth
 returns-in-Binary-clause-worth t c =
     rw (binary_is _ _ _ _ c.in-Binary.is, ← c.deref-in-Binary.ensures, ← c.deref-in-Binary-2.ensures, ← c.worth-in-Binary.ensures.worth, ← c.worth-in-Binary-2.ensures.worth) c.worth_between.ensures.worth
+
+pub returns-in-Integer-clause-worth : goal.returns-in-Integer-clause-worth
+returns-in-Integer-clause-worth t c = rw (integer_is _ _ c.in-Integer.is) (c.worth_literal.ensures.worth (types_of c.args.table.now))
