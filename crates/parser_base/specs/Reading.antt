@@ -255,11 +255,11 @@ values deeper close most words =
 unfoldable pub composite : (ℕ → List Lexeme → Reading Expression) → ℕ → List ℕ → List Lexeme → Reading Expression
 composite deeper most name words = values deeper kinds.RightBrace most words >>= λ all. Ok (Composite name (expressions all.0.0) all.0.1, all.1)
 
--- the rest of a call, behind its first parenthesis
+-- the rest of a call, after its opening parenthesis
 unfoldable pub called : (ℕ → List Lexeme → Reading Expression) → ℕ → List ℕ → List Lexeme → Reading Expression
 called deeper most name words = values deeper kinds.RightParenthesis most words >>= λ all. Ok (Call name (expressions all.0.0) all.0.1, all.1)
 
--- an operand name, a call of a function of this name, or a composite literal of a type of this name
+-- an operand name, a call of the function `name`, or a composite literal of the type `name`
 unfoldable pub named : Bool → (ℕ → List Lexeme → Reading Expression) → ℕ → List ℕ → List Lexeme → Reading Expression
 named literals deeper most name (Mark kind ∷ rest) =
     if is_kind kind kinds.LeftParenthesis then called deeper most name rest
@@ -271,21 +271,21 @@ named literals deeper most name words = Ok (Named name, words)
 unfoldable pub argument : (ℕ → List Lexeme → Reading Expression) → List Lexeme → Reading Expression
 argument deeper words = expect kinds.LeftParenthesis words >>= to_parenthesis deeper
 
--- the rest of a `make` of this type: a comma and the size of the buffer, if there is one, and the closing parenthesis
+-- the rest of a `make` of the type `channel`: a comma and the size of the buffer, if there is one, and the closing parenthesis
 unfoldable pub sized : (ℕ → List Lexeme → Reading Expression) → TypeExpression → List Lexeme → Reading Expression
 sized deeper channel (Mark kind ∷ rest) =
     if is_kind kind kinds.Comma then as_one (MakeSized channel) (to_parenthesis deeper rest)
     else (expect kinds.RightParenthesis (Mark kind ∷ rest) >>= λ after. Ok (Make channel, after))
 sized deeper channel words = Err Syntax
 
--- what stands behind `make`
+-- a `make`, after its name
 unfoldable pub made : (ℕ → List Lexeme → Reading Expression) → (room : ℕ) → List Lexeme → Reading Expression
 made deeper room words = do
   inside ← expect kinds.LeftParenthesis words
   channel ← type_at room inside
   sized deeper channel.0 channel.1
 
--- a call of a built-in function that makes or measures a channel, behind its name
+-- a call of a built-in function that makes or measures a channel, after its name
 unfoldable pub builtin : (ℕ → List Lexeme → Reading Expression) → (room : ℕ) → List ℕ → List Lexeme → Reading Expression
 builtin deeper room name rest =
     if bytes_eq name (codes "make") then needing 1 room (made deeper room rest)
@@ -331,7 +331,8 @@ expression literals most (suc room) least words =
     operand literals (expression literals most room) room most words >>= λ first.
     operations (expression literals most room) (suc room) least (suc room) first.0 first.1
 
--- the same, from behind an operand on that was read before, and may itself be a level higher
+-- an expression that begins with the operand `left`, which was read before; if nothing goes on with `left` it is returned
+-- at any height
 unfoldable pub resumed : Bool → ℕ → ℕ → ℕ → Expression → List Lexeme → Reading Expression
 resumed literals most zero least left words = Err TooDeep
 resumed literals most (suc room) least left words = operations (expression literals most room) (suc room) least (suc room) left words

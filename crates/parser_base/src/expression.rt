@@ -185,7 +185,7 @@ fn composite_literal<'a>(
     })
 }
 
-/// A call of a function of this name, behind its first parenthesis.
+/// A call of the function `name`, after its opening parenthesis.
 #[cycle(expression)]
 #[tactic(auto, unfolding(crate::specs::Reading::called))]
 fn call<'a>(
@@ -209,7 +209,7 @@ fn call<'a>(
     })
 }
 
-/// An operand name, a call of a function of this name, or a composite literal of a type of this name.
+/// An operand name, a call of the function `name`, or a composite literal of the type `name`.
 #[cycle(expression)]
 #[tactic(auto, unfolding(crate::specs::Reading::named))]
 fn operand_name<'a>(
@@ -256,7 +256,7 @@ fn to_parenthesis(
     Ok(Measured { node, height, rest })
 }
 
-/// One argument in parentheses, without a comma behind it.
+/// One argument in parentheses, without a comma after it.
 #[cycle(expression)]
 #[tactic(auto, unfolding(crate::specs::Reading::argument))]
 pub fn argument(
@@ -298,7 +298,7 @@ fn parenthesized<'a>(
     })
 }
 
-/// A `make` with the size of the buffer, from behind the comma on.
+/// A `make` of the type `channel` with the size of its buffer, after the comma before the size.
 #[cycle(expression)]
 fn make_with_size<'a>(
     alloc: Global,
@@ -320,7 +320,7 @@ fn make_with_size<'a>(
     Ok(Measured { node, height, rest })
 }
 
-/// The rest of a `make` of this type: the size of the buffer, if there is one, and the closing parenthesis.
+/// The rest of a `make` of the type `channel`: the size of its buffer, if there is one, and the closing parenthesis.
 #[cycle(expression)]
 #[tactic(auto, unfolding(crate::specs::Reading::sized))]
 fn make_of<'a>(
@@ -347,7 +347,7 @@ fn make_of<'a>(
     Ok(Measured { node, height, rest })
 }
 
-/// What stands behind `make`.
+/// A `make`, after its name.
 #[cycle(expression)]
 #[tactic(auto, unfolding(crate::specs::Reading::made))]
 fn make_call(
@@ -365,7 +365,7 @@ fn make_call(
     make_of(alloc, literals, room, channel.node, channel.rest)
 }
 
-/// What stands behind `len`.
+/// A `len`, after its name.
 #[cycle(expression)]
 fn len_call(
     alloc: Global,
@@ -386,7 +386,7 @@ fn len_call(
     })
 }
 
-/// What stands behind `cap`.
+/// A `cap`, after its name.
 #[cycle(expression)]
 fn cap_call(
     alloc: Global,
@@ -407,7 +407,7 @@ fn cap_call(
     })
 }
 
-/// A call of a built-in function that makes or measures a channel, behind its name, which stands at `first`.
+/// A call of a built-in function that makes or measures a channel, after its name, which stands at `first`.
 #[cycle(expression)]
 #[tactic(auto, unfolding(crate::specs::Reading::builtin))]
 fn builtin_call<'a>(
@@ -437,7 +437,7 @@ fn builtin_call<'a>(
     Err(ParseFault::Syntax(first.place()))
 }
 
-/// The operand of a receive, whose arrow stands at `first`.
+/// A receive, after its arrow, which stands at `first`.
 #[cycle(expression)]
 #[tactic(auto, unfolding(crate::specs::Reading::expression))]
 fn receive<'a>(
@@ -602,8 +602,8 @@ fn selection<'a>(
     Ok(Measured { node, height, rest })
 }
 
-/// An expression of at most so many levels that begins with the operand `left`, which was read before. `left` may be a
-/// level higher where nothing goes on with it.
+/// An expression of at most `room` levels that begins with the operand `left`, which was read before. If nothing goes on
+/// with `left` it is returned as it is, at any height.
 #[cycle(expression)]
 #[tactic(auto, unfolding(crate::specs::Reading::resumed))]
 pub fn resumed_expression<'a>(

@@ -15,11 +15,11 @@ use Rattle.parser_simple.specs.declared.form.Form.{Form}
 use Rattle.parser_simple.specs.declared.form.Form.TheVariants as forms
 use Rattle.parser_simple.specs.Spelling.{name_words, IsName, place_words, IsPlace, IsUnary}
 use Rattle.parser_header.specs.Spelling.{IsAny, second_name_words, second_place_words, comm_words, IsComm, optional}
-use Rattle.parser_simple.specs.Reading.{begins_with, defines, form_of, place, received, sent}
+use Rattle.parser_simple.specs.Reading.{place_form, begins_with, defines, form_of, place, received, sent}
 use Rattle.parser_simple.proofs.BeginLaws.{primary_not_arrow}
 use Rattle.parser_header.specs.Reading.{second, received_behind, comm_defined, comm_assigned, comm_formed, comm}
 use Rattle.parser_simple.proofs.PlaceLaws.{place_again, place_sound}
-use Rattle.parser_simple.proofs.FormLaws.{fields_form, no_defines, no_form}
+use Rattle.parser_simple.proofs.FormLaws.{name_form, form_behind, no_place_form, fields_form, no_defines, no_form}
 use Rattle.parser_simple.proofs.RightLaws.{EndsAt, ends_at, begins_primary_again, received_again, received_sound}
 use Rattle.parser_simple.proofs.SimpleLaws.{sent_again, sent_sound}
 
@@ -43,7 +43,7 @@ colon_ends : (ws : List Lexeme) → EndsExpression true (Mark kinds.Colon ∷ ws
 unfolding step_at
 colon_ends ws = record { none = refl; shut = shut true kinds.Colon ws refl refl }
 
-comm_sent : (most room : ℕ) (ws : List Lexeme) → begins_with kinds.Arrow ws ≡ false → form_of true ws ≡ forms.Other → comm most room ws ≡ sent CommSend true most room ws
+comm_sent : (most room : ℕ) (ws : List Lexeme) → begins_with kinds.Arrow ws ≡ false → place_form ws ≡ forms.Other → comm most room ws ≡ sent CommSend true most room ws
 unfolding comm comm_formed
 comm_sent most room ws none form = rw (none, form) refl
 
@@ -51,7 +51,7 @@ sends_again : (most room : ℕ) (c v : Expression) (ws : List Lexeme) → IsComm
 unfolding form_of
 sends_again most room c v ws is =
     let behind' = Mark kinds.Arrow ∷ before v (Mark kinds.Colon ∷ ws) in
-    rw (comm_sent most room (before c behind') (primary_not_arrow (before c behind') (begins_primary_again true c behind' is.0)) (no_form c behind' refl)) (sent_again CommSend true most room c v (Mark kinds.Colon ∷ ws) is.0 is.1 (colon_ends ws))
+    rw (comm_sent most room (before c behind') (primary_not_arrow (before c behind') (begins_primary_again true c behind' is.0)) (no_place_form (before c behind') (no_form c behind' refl))) (sent_again CommSend true most room c v (Mark kinds.Colon ∷ ws) is.0 is.1 (colon_ends ws))
 
 -- what follows a receive in a clause
 colon_at : (ws : List Lexeme) → EndsAt true 6 (Mark kinds.Colon ∷ ws)
@@ -71,10 +71,10 @@ unfolding second begins_with expect
 second_place_again None ws is = refl
 second_place_again (Some p) ws is = rw (place_again p (Mark kinds.Assign ∷ ws) is refl) refl
 
-define_form : (most room : ℕ) (item : List ℕ) (ok : Option (List ℕ)) (ws : List Lexeme) → comm most room (name_words item (second_name_words ok (Mark kinds.Define ∷ ws))) ≡ comm_defined most room (name_words item (second_name_words ok (Mark kinds.Define ∷ ws)))
+define_form : (most room : ℕ) (item : List ℕ) (ok : Option (List ℕ)) (ws : List Lexeme) → IsName item → comm most room (name_words item (second_name_words ok (Mark kinds.Define ∷ ws))) ≡ comm_defined most room (name_words item (second_name_words ok (Mark kinds.Define ∷ ws)))
 unfolding comm comm_formed form_of defines begins_with
-define_form most room item None ws = refl
-define_form most room item (Some name) ws = refl
+define_form most room item None ws plain = rw (name_form item (Mark kinds.Define ∷ ws) plain) refl
+define_form most room item (Some name) ws plain = rw (name_form item (Mark kinds.Comma ∷ Name name ∷ Mark kinds.Define ∷ ws) plain) refl
 
 defines_again : (most room : ℕ) (item : List ℕ) (ok : Option (List ℕ)) (c : Expression) (ws : List Lexeme) → IsComm (CommDefine item ok c) → CommOutcome most room (comm_defined most room (comm_words (CommDefine item ok c) (Mark kinds.Colon ∷ ws))) (CommDefine item ok c) (Mark kinds.Colon ∷ ws)
 unfolding comm_defined expect
@@ -83,10 +83,10 @@ defines_again most room item ok c ws is =
     rw (plain_name_again item (second_name_words ok (Mark kinds.Define ∷ received)) is.0, second_name_again ok received is.1)
     (then_again _ (received_again true most room c (Mark kinds.Colon ∷ ws) is.2 (colon_at ws)) (λ high. high) (λ listing. omega arith) (λ low few. Found low few refl))
 
-assign_comm : (most room : ℕ) (item : Place) (ok : Option Place) (ws : List Lexeme) → comm most room (place_words item (second_place_words ok (Mark kinds.Assign ∷ ws))) ≡ comm_assigned most room (place_words item (second_place_words ok (Mark kinds.Assign ∷ ws)))
+assign_comm : (most room : ℕ) (item : Place) (ok : Option Place) (ws : List Lexeme) → IsPlace item → comm most room (place_words item (second_place_words ok (Mark kinds.Assign ∷ ws))) ≡ comm_assigned most room (place_words item (second_place_words ok (Mark kinds.Assign ∷ ws)))
 unfolding comm comm_formed form_of begins_with
-assign_comm most room item None ws = rw (fields_form item.fields (Mark kinds.Assign ∷ ws)) refl
-assign_comm most room item (Some p) ws = rw (fields_form item.fields (Mark kinds.Comma ∷ place_words p (Mark kinds.Assign ∷ ws)), no_defines item (p ∷ []) ws) refl
+assign_comm most room item None ws is = rw (form_behind item (Mark kinds.Assign ∷ ws) is) refl
+assign_comm most room item (Some p) ws is = rw (form_behind item (Mark kinds.Comma ∷ place_words p (Mark kinds.Assign ∷ ws)) is, no_defines item (p ∷ []) ws) refl
 
 second_no_field : (ok : Option Place) (ws : List Lexeme) → begins_with kinds.Period (second_place_words ok (Mark kinds.Assign ∷ ws)) ≡ false
 unfolding begins_with
@@ -103,8 +103,8 @@ assigns_again most room item ok c ws is =
 pub comm_again : (most room : ℕ) (c : Comm) (ws : List Lexeme) → IsComm c → CommOutcome most room (comm most room (comm_words c (Mark kinds.Colon ∷ ws))) c (Mark kinds.Colon ∷ ws)
 comm_again most room (CommSend c v) ws is = sends_again most room c v ws is
 comm_again most room (CommReceive c) ws is = receives_again most room c ws is
-comm_again most room (CommDefine item ok c) ws is = rw (define_form most room item ok (Mark kinds.Arrow ∷ before c (Mark kinds.Colon ∷ ws))) (defines_again most room item ok c ws is)
-comm_again most room (CommAssign item ok c) ws is = rw (assign_comm most room item ok (Mark kinds.Arrow ∷ before c (Mark kinds.Colon ∷ ws))) (assigns_again most room item ok c ws is)
+comm_again most room (CommDefine item ok c) ws is = rw (define_form most room item ok (Mark kinds.Arrow ∷ before c (Mark kinds.Colon ∷ ws)) is.0) (defines_again most room item ok c ws is)
+comm_again most room (CommAssign item ok c) ws is = rw (assign_comm most room item ok (Mark kinds.Arrow ∷ before c (Mark kinds.Colon ∷ ws)) is.0) (assigns_again most room item ok c ws is)
 
 abbrev pub CommSound : (most room : ℕ) → List Lexeme → Comm → List Lexeme → Type 0
 CommSound most room = Sound comm_words IsComm comm_below room comm_longest most
@@ -204,7 +204,7 @@ comm_receive_sound most room ws c rest e =
 pub comm_sound : (most room : ℕ) (ws : List Lexeme) (c : Comm) (rest : List Lexeme) → comm most room ws ≡ gave c rest → CommSound most room ws c rest
 unfolding comm
 comm_sound most room ws c rest e =
-    elim (either (begins_with kinds.Arrow ws) (as_one CommReceive (received true most room ws)) (comm_formed most room (form_of true ws) ws) (c, rest) e) [
+    elim (either (begins_with kinds.Arrow ws) (as_one CommReceive (received true most room ws)) (comm_formed most room (place_form ws) ws) (c, rest) e) [
       | inl r ↦ comm_receive_sound most room ws c rest r.1
-      | inr f ↦ comm_formed_sound most room (form_of true ws) ws c rest f.1
+      | inr f ↦ comm_formed_sound most room (place_form ws) ws c rest f.1
     ]

@@ -18,14 +18,15 @@ use Rattle.parser_base.proofs.ExpressionAgain.{step_kind, IsLone, EndsExpression
 use Rattle.parser_base.proofs.ExpressionSound.{IsOperand}
 use Rattle.parser_base.proofs.Resumed.{Begun, begun, FromFirst, Again, Alone, from_first}
 use Rattle.parser_base.proofs.Steps.{then_again, made_again, read_as, gave, Sound, made_is, either}
+use Rattle.parser_simple.specs.declared.form.Form.{Form}
 use Rattle.parser_simple.specs.declared.form.Form.TheVariants as forms
 use Rattle.parser_simple.specs.Spelling.{IsName, place_words, IsPlace, IsPrimary, IsUnary, arguments_words, AreArguments, right_words, IsRight, update_kind, simple_words, IsSimple}
 use Rattle.parser_header.specs.Spelling.{IsAny, if_head_words, IsIfHead, optional, target_words, IsTarget, for_head_words, IsForHead}
-use Rattle.parser_simple.specs.Reading.{behind_mark, before_mark, begins_with, begins_call, defines, form_of, received, arguments, call_of, simple, led, within, fits}
+use Rattle.parser_simple.specs.Reading.{begins_name, place_form, behind_mark, before_mark, begins_with, begins_call, defines, form_of, received, arguments, call_of, simple, led, within, fits}
 use Rattle.parser_simple.proofs.BeginLaws.{value_not}
 use Rattle.parser_header.specs.Reading.{Head, HeadSimple, HeadCondition, is_primary, condition_or_sent, led_or_condition, ends_condition, headed_on, alone_or_on, received_head, head_received, called_head, head_called, head, condition, behind_semicolon, behind_head, if_headed, if_header, unless_next, post_behind, for_clauses, ranged, range_defined, range_assigned, for_headed, ranges, for_begun, for_header}
 use Rattle.parser_simple.proofs.PlaceLaws.{place_again}
-use Rattle.parser_simple.proofs.FormLaws.{update_again, fields_form, no_defines, no_form, led_none}
+use Rattle.parser_simple.proofs.FormLaws.{name_form, form_behind, update_again, fields_form, no_defines, no_form, led_none}
 use Rattle.parser_simple.proofs.FitLaws.{Fits, within_fits, fits_again, operand_fits, condition_fits}
 use Rattle.parser_simple.proofs.RightLaws.{Stops, EndsAt, ends_at, value_again, received_again, arguments_again, value_sound, received_sound}
 use Rattle.parser_simple.proofs.CallLaws.{Starts, WithCall, WithReceive, WithNeither, starts, BeginsCall, begins_call_as, call_operand_sound, receive_operand_sound, call_alone_sound, resumed_is}
@@ -508,18 +509,18 @@ for_defined : (most room : ℕ) (name : List ℕ) (c : Expression) (ws : List Le
     → ForOutcome most room (for_begun most room (for_head_words (Range (DefineTarget name) c) (Mark kinds.LeftBrace ∷ ws))) (Range (DefineTarget name) c) (Mark kinds.LeftBrace ∷ ws)
 unfolding for_begun form_of begins_with defines range_defined expect
 for_defined most room name c ws plain is =
-    rw (plain_name_again name (Mark kinds.Define ∷ Mark kinds.Range ∷ before c (Mark kinds.LeftBrace ∷ ws)) plain) (ranged_again most room (DefineTarget name) c ws is)
+    rw (name_form name (Mark kinds.Define ∷ Mark kinds.Range ∷ before c (Mark kinds.LeftBrace ∷ ws)) plain, plain_name_again name (Mark kinds.Define ∷ Mark kinds.Range ∷ before c (Mark kinds.LeftBrace ∷ ws)) plain) (ranged_again most room (DefineTarget name) c ws is)
 
-assign_form : (p : Place) (ws : List Lexeme) → ranges (form_of true (place_words p (Mark kinds.Assign ∷ Mark kinds.Range ∷ ws))) ≡ true
+assign_form : (p : Place) (ws : List Lexeme) → IsPlace p → ranges (place_form (place_words p (Mark kinds.Assign ∷ Mark kinds.Range ∷ ws))) ≡ true
 unfolding form_of begins_with
-assign_form p ws = rw (fields_form p.fields (Mark kinds.Assign ∷ Mark kinds.Range ∷ ws)) refl
+assign_form p ws is = rw (form_behind p (Mark kinds.Assign ∷ Mark kinds.Range ∷ ws) is) refl
 
 for_assigned : (most room : ℕ) (p : Place) (c : Expression) (ws : List Lexeme) → IsPlace p → IsGrouped false c
     → ForOutcome most room (for_begun most room (for_head_words (Range (AssignTarget p) c) (Mark kinds.LeftBrace ∷ ws))) (Range (AssignTarget p) c) (Mark kinds.LeftBrace ∷ ws)
 unfolding for_begun range_assigned expect begins_with
 for_assigned most room p c ws place_is is =
     let behind' = Mark kinds.Range ∷ before c (Mark kinds.LeftBrace ∷ ws) in
-    rw (assign_form p (before c (Mark kinds.LeftBrace ∷ ws)), no_defines p [] behind', place_again p (Mark kinds.Assign ∷ behind') place_is refl) (ranged_again most room (AssignTarget p) c ws is)
+    rw (assign_form p (before c (Mark kinds.LeftBrace ∷ ws)) place_is, no_defines p [] behind', place_again p (Mark kinds.Assign ∷ behind') place_is refl) (ranged_again most room (AssignTarget p) c ws is)
 
 -- no right side begins with `range`
 right_no_range : (literals : Bool) (vs : List Expression) (ws : List Lexeme) → IsRight literals vs → begins_with kinds.Range (right_words vs ws) ≡ false
@@ -582,19 +583,27 @@ simple_not_range (Define [] r) ws is = absurd is.1
 simple_not_range (Define (n ∷ ns) r) ws is = refl
 simple_not_range (Update p o v) ws is = refl
 
+no_ranges : (b : Bool) (f : Form) → ranges f ≡ false → ranges (cond b f forms.Other) ≡ false
+no_ranges true f none = none
+no_ranges false f none = refl
+
+-- and so not where a place comes next
+no_place_range : (ws : List Lexeme) → ranges (form_of true ws) ≡ false → ranges (place_form ws) ≡ false
+no_place_range ws none = no_ranges (begins_name ws) (form_of true ws) none
+
 for_simple : (most room : ℕ) (s : Simple) (test : Option Expression) (post : Option Simple) (ws : List Lexeme) → IsForHead (ForClauses (Some s) test post)
     → ForOutcome most room (for_begun most room (for_head_words (ForClauses (Some s) test post) (Mark kinds.LeftBrace ∷ ws))) (ForClauses (Some s) test post) (Mark kinds.LeftBrace ∷ ws)
 unfolding for_begun expect
 for_simple most room s test post ws is =
     let after = optional before test (Mark kinds.Semicolon ∷ optional simple_words post (Mark kinds.LeftBrace ∷ ws)) in
-    rw (no_range s (Mark kinds.Semicolon ∷ after) is.0)
+    rw (no_place_range (simple_words s (Mark kinds.Semicolon ∷ after)) (no_range s (Mark kinds.Semicolon ∷ after) is.0))
     (then_again _ (head_simple most room s after is.0) (λ high. omega arith) (λ listing. omega arith) (λ low few.
     clauses_again most room (Some s) test post ws low few is.1 is.2))
 
 for_while : (most room : ℕ) (c : Expression) (ws : List Lexeme) → IsGrouped false c → ForOutcome most room (for_begun most room (before c (Mark kinds.LeftBrace ∷ ws))) (While c) (Mark kinds.LeftBrace ∷ ws)
 unfolding for_begun form_of
 for_while most room c ws is =
-    rw (no_range_value c (Mark kinds.LeftBrace ∷ ws) refl)
+    rw (no_place_range (before c (Mark kinds.LeftBrace ∷ ws)) (no_range_value c (Mark kinds.LeftBrace ∷ ws) refl))
     (then_again _ (head_condition most room c ws is) (λ high. high) (λ listing. omega arith) (λ low few. Found low few refl))
 
 begun_place : (most room : ℕ) (p : Place) (ws : List Lexeme) → for_header most room (place_words p ws) ≡ for_begun most room (place_words p ws)
@@ -697,7 +706,7 @@ for_headed_sound most room ws (HeadCondition c) after sound h rest e =
 begun_sound : (most room : ℕ) (ws : List Lexeme) (h : ForHead) (rest : List Lexeme) → for_begun most room ws ≡ gave h rest → ForSound most room ws h rest
 unfolding for_begun
 begun_sound most room ws h rest e =
-    elim (either (ranges (form_of true ws)) (cond (defines true ws) (range_defined most room ws) (range_assigned most room ws)) (head most room ws >>= for_headed most room) (h, rest) e) [
+    elim (either (ranges (place_form ws)) (cond (defines true ws) (range_defined most room ws) (range_assigned most room ws)) (head most room ws >>= for_headed most room) (h, rest) e) [
       | inl r ↦ elim (either (defines true ws) (range_defined most room ws) (range_assigned most room ws) (h, rest) r.1) [
         | inl d ↦ defined_sound most room ws h rest d.1
         | inr a ↦ assigned_sound most room ws h rest a.1

@@ -10,7 +10,7 @@ use Rattle.parser_base.specs.Spelling.{outer_precedence}
 use Rattle.parser_base.specs.Reading.{Reading, ◌>>=◌, as_one, expect, plain_name, expression, resumed}
 use Rattle.parser_simple.specs.declared.form.Form.{Form}
 use Rattle.parser_simple.specs.declared.form.Form.TheVariants as forms
-use Rattle.parser_simple.specs.Reading.{behind_mark, before_mark, begins_with, begins_call, form_of, defines, place, received, arguments, call_of, led, sent, simple, within, fits}
+use Rattle.parser_simple.specs.Reading.{behind_mark, before_mark, begins_with, begins_call, place_form, defines, place, received, arguments, call_of, led, sent, simple, within, fits}
 
 -- ---- headers
 
@@ -38,13 +38,13 @@ led_or_condition most room (None, rest) = fits true false true 0 room rest >>= �
 abbrev pub ends_condition : Expression → List Lexeme → Bool
 ends_condition condition words = begins_with kinds.LeftBrace words || (begins_with kinds.Arrow words && is_primary condition)
 
--- a condition that begins with this operand, which may be a level too high, or a send on such a one
+-- a condition that begins with the operand `left`, which may be one level too high, or a send whose channel does
 unfoldable pub headed_on : ℕ → ℕ → Expression → List Lexeme → Reading Head
 headed_on most room left words =
     resumed false most room 0 left words >>= λ found.
     within (expression_height found.0) room (ends_condition found.0 found.1) >>= λ low. condition_or_sent most room found
 
--- a statement that is this operand alone, before a semicolon, or what begins with the operand
+-- the statement `alone` if a semicolon comes next, or a condition or a send that begins with the operand `left`
 abbrev pub alone_or_on : ℕ → ℕ → Simple → Expression → List Lexeme → Reading Head
 alone_or_on most room alone left words =
     if begins_with kinds.Semicolon words then Ok (HeadSimple alone, words) else headed_on most room left words
@@ -52,14 +52,14 @@ alone_or_on most room alone left words =
 abbrev pub received_head : ℕ → ℕ → Expression × List Lexeme → Reading Head
 received_head most room (channel, words) = alone_or_on most room (ReceiveAlone channel) (Receive channel) words
 
--- what begins with a receive
+-- a receive alone, or a condition that begins with it
 abbrev pub head_received : ℕ → ℕ → List Lexeme → Reading Head
 head_received most room words = received false most room words >>= received_head most room
 
 abbrev pub called_head : ℕ → ℕ → List ℕ → Arguments × List Lexeme → Reading Head
 called_head most room function (all, words) = alone_or_on most room (CallAlone function all) (call_of function all) words
 
--- what begins with a call
+-- a call alone, or a condition or a send that begins with it
 unfoldable pub head_called : ℕ → ℕ → List Lexeme → Reading Head
 head_called most room words = do
   function ← plain_name words
@@ -108,7 +108,7 @@ comm_formed most room form words = sent CommSend true most room words
 -- what a clause of a select waits for, below which there are at most so many levels
 unfoldable pub comm : ℕ → ℕ → List Lexeme → Reading Comm
 comm most room words =
-    if begins_with kinds.Arrow words then as_one CommReceive (received true most room words) else comm_formed most room (form_of true words) words
+    if begins_with kinds.Arrow words then as_one CommReceive (received true most room words) else comm_formed most room (place_form words) words
 
 -- ---- headers of an if and a for
 
@@ -172,7 +172,7 @@ ranges form = false
 -- what stands between a `for` and its block, where that is no mark
 unfoldable pub for_begun : ℕ → ℕ → List Lexeme → Reading ForHead
 for_begun most room words =
-    if ranges (form_of true words) then (if defines true words then range_defined most room words else range_assigned most room words)
+    if ranges (place_form words) then (if defines true words then range_defined most room words else range_assigned most room words)
     else (head most room words >>= for_headed most room)
 
 -- what stands between a `for` and its block

@@ -12,7 +12,7 @@ use parser_base::beside::beside;
 use parser_base::cursor::Cursor;
 use parser_base::fault::ParseFault;
 use parser_base::found::Found;
-use parser_simple::form::{Form, begins_with, defines, form_of};
+use parser_simple::form::{Form, begins_with, defines, place_form};
 use parser_simple::place::{name_at, place};
 use parser_simple::right::{expression_behind, receive_operand};
 use parser_simple::simple::send_operand;
@@ -163,5 +163,5 @@ pub fn comm_statement(
     if begins_with(TokenKind::Arrow, cursor) {
         return lone_receive(alloc, room, cursor);
     }
-    form_statement(alloc, room, form_of(cursor), cursor)
+    form_statement(alloc, room, place_form(cursor), cursor)
 }

@@ -15,7 +15,7 @@ use parser_base::expression::{Measured, expression, resumed_expression};
 use parser_base::fault::ParseFault;
 use parser_base::found::Found;
 use parser_base::list::List;
-use parser_simple::form::{Form, begins_call, begins_with, defines, fits, form_of, within};
+use parser_simple::form::{Form, begins_call, begins_with, defines, fits, place_form, within};
 use parser_simple::place::{name_at, place_before};
 use parser_simple::right::{
     call_operand, expression_behind, measured_arguments, receive_from, receive_operand,
@@ -70,8 +70,8 @@ fn ends_condition(condition: &ExpressionNode, cursor: Cursor<'_>) -> bool
         || (begins_with(TokenKind::Arrow, cursor) && is_primary(condition))
 }
 
-/// A condition that begins with the operand `left`, which was read before and may be a level too high, or a send on such a
-/// one.
+/// A condition that begins with the operand `left`, which was read before and may be one level too high, or a send whose
+/// channel does.
 #[tactic(auto, unfolding(crate::specs::Reading::headed_on))]
 fn condition_on(
     alloc: Global,
@@ -95,7 +95,7 @@ fn condition_on(
     )
 }
 
-/// A receive alone, or what begins with it.
+/// A receive alone, or a condition that begins with it.
 fn receive_or_condition(
     alloc: Global,
     room: u32,
@@ -112,7 +112,7 @@ fn receive_or_condition(
     condition_on(alloc, room, left)
 }
 
-/// A call alone, or what begins with the call, whose highest argument is `levels` high.
+/// A call alone, or a condition or a send that begins with it. The highest of its arguments has `levels` levels.
 fn call_or_condition<'a>(
     alloc: Global,
     room: u32,
@@ -132,7 +132,7 @@ fn call_or_condition<'a>(
     condition_on(alloc, room, left)
 }
 
-/// What begins with a call.
+/// A statement or a condition that begins with a call.
 #[tactic(auto, unfolding(crate::specs::Reading::head_called))]
 fn begun_by_call(
     alloc: Global,
@@ -320,7 +320,7 @@ fn unmarked_for_header(
 ) -> Result<(ForHeader, Cursor<'_>), ParseFault>
     ensures { Gives (λ x. (for_head_of x.0, ahead x.1)) result (for_begun MAX_ENTRIES room (ahead cursor.entry)) }
 {
-    if ranges(form_of(cursor)) {
+    if ranges(place_form(cursor)) {
         if defines(cursor) {
             return defining_range(alloc, room, cursor);
         }

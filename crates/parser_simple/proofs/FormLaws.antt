@@ -11,7 +11,7 @@ use Rattle.parser_base.specs.Reading.{Reading, is_kind, begins}
 use Rattle.parser_simple.specs.declared.form.Form.{Form}
 use Rattle.parser_simple.specs.declared.form.Form.TheVariants as forms
 use Rattle.parser_simple.specs.Spelling.{name_words, IsPlace, place_words, update_kind}
-use Rattle.parser_simple.specs.Reading.{begins_with, form_at, form_of, defines, formed, led}
+use Rattle.parser_simple.specs.Reading.{begins_with, begins_name, form_at, form_of, place_form, defines, formed, led}
 
 -- ---- operators
 
@@ -226,3 +226,19 @@ led_none literals defining most room (Literal value ∷ ws) begun form = refl
 led_none literals defining most room (Text bytes ∷ ws) begun form = refl
 led_none literals defining most room (Mark kind ∷ ws) begun form = refl
 led_none literals defining most room (Name name ∷ ws) begun form = named_none literals defining most room name (is_builtin name) ws refl form begun
+
+-- ---- what begins with a place
+
+other_form : (b : Bool) (f : Form) → f ≡ forms.Other → cond b f forms.Other ≡ forms.Other
+other_form true f is = is
+other_form false f is = refl
+
+pub no_place_form : (ws : List Lexeme) → form_of true ws ≡ forms.Other → place_form ws ≡ forms.Other
+no_place_form ws none = other_form (begins_name ws) (form_of true ws) none
+
+pub name_form : (name : List ℕ) (ws : List Lexeme) → is_builtin name ≡ false → place_form (Name name ∷ ws) ≡ form_of false ws
+unfolding begins_name form_of
+name_form name ws plain = rw plain refl
+
+pub form_behind : (p : Place) (ws : List Lexeme) → IsPlace p → place_form (place_words p ws) ≡ form_of false ws
+form_behind p ws is = name_form p.name (separated name_words (behind kinds.Period) p.fields ws) is.0 ∙ fields_form p.fields ws

@@ -96,6 +96,10 @@ form_of true words = forms.Other
 form_of false (Mark kind ∷ rest) = if is_kind kind kinds.Period then form_of true rest else form_at kind rest
 form_of false words = forms.Other
 
+-- the form of what begins with a place, if one comes next: no name of a built-in function is one
+abbrev pub place_form : List Lexeme → Form
+place_form words = if begins_name words then form_of true words else forms.Other
+
 -- names with commas between them stand before a `:=`; a name comes next where `named` holds
 unfoldable pub defines : (named : Bool) → List Lexeme → Bool
 defines true (Name name ∷ rest) = defines false rest
@@ -251,7 +255,8 @@ formed literals defining most room forms.List words =
     behind_place room words (as_one (λ s. Some s) (if defining && defines true words then defined literals most room words else assigned literals most room words))
 formed literals defining most room forms.Other words = Ok (None, words)
 
--- a simple statement that begins with a place or a name of its own, or None where a value comes next, or nothing that is one
+-- a simple statement that begins with a place or with the name of a built-in function, or None if a value comes next, or
+-- no statement
 unfoldable pub led : (literals defining : Bool) → ℕ → ℕ → List Lexeme → Reading (Option Simple)
 led literals defining most room (Name name ∷ rest) =
     if makes_value name then Ok (None, Name name ∷ rest)
@@ -284,7 +289,7 @@ begins_call words = false
 abbrev pub call_of : List ℕ → Arguments → Expression
 call_of function arguments = Call function (expressions arguments.values) arguments.trailing
 
--- a send whose channel begins with this operand, which may be a level too high
+-- a send whose channel begins with the operand `left`, which may be one level too high
 unfoldable pub sent_on : Bool → ℕ → ℕ → Expression → List Lexeme → Reading Simple
 sent_on literals most room left words =
     resumed literals most room 7 left words >>= λ channel.
@@ -296,7 +301,7 @@ alone_or_sent literals most room function (all, words) =
     if begins_with kinds.Period words || begins_with kinds.Arrow words then sent_on literals most room (call_of function all) words
     else Ok (CallAlone function all, words)
 
--- what begins with a call
+-- a statement that begins with a call
 unfoldable pub called : Bool → ℕ → ℕ → List Lexeme → Reading Simple
 called literals most room words = do
   function ← plain_name words

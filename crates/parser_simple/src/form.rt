@@ -4,7 +4,7 @@ ghost use Rattle.std.specs.Prelude.{◌≡◌, true, zero};
 ghost use Rattle.parser_base.specs.Cursor.{ahead};
 ghost use Rattle.parser_base.specs.Reading.{Gives, begins};
 ghost use Rattle.parser_simple.specs.Spelling.{update_kind};
-ghost use Rattle.parser_simple.specs.Reading.{begins_with, begins_call, begins_name, separator_next, update_of, form_at, form_of, defines, goes_on, within, stopped, fits};
+ghost use Rattle.parser_simple.specs.Reading.{begins_with, begins_call, begins_name, separator_next, update_of, form_at, form_of, place_form, defines, goes_on, within, stopped, fits};
 
 use parser_base::cursor::{Cursor, Word, is_builtin};
 use parser_base::expression::begins;
@@ -180,6 +180,17 @@ pub fn form_of(cursor: Cursor<'_>) -> Form
         }
     }
     Form::Other
+}
+
+/// The form of what begins here with a place, if one comes next.
+pub fn place_form(cursor: Cursor<'_>) -> Form
+    ensures { result ≡ place_form (ahead cursor.entry) }
+{
+    if begins_name(cursor) {
+        form_of(cursor)
+    } else {
+        Form::Other
+    }
 }
 
 /// Whether names with commas between them stand here before a `:=`.

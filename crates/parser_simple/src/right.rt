@@ -86,7 +86,7 @@ pub fn receive_operand(
     measured_expression(alloc, literals, room, 6, rest)
 }
 
-/// Arguments in parentheses, and the height of the highest of them, or 0.
+/// Arguments in parentheses, and the height of the highest one, or 0.
 #[tactic(auto, unfolding(crate::specs::Reading::arguments))]
 pub fn measured_arguments(
     alloc: Global,
@@ -122,7 +122,7 @@ pub fn arguments(
     })
 }
 
-/// A call with these arguments, the highest of which is `levels` high, as an operand.
+/// A call of the function `name` as an operand. The highest of its arguments has `levels` levels.
 pub fn call_operand<'a>(
     alloc: Global,
     name: &[u8],
@@ -145,7 +145,7 @@ pub fn call_operand<'a>(
     })
 }
 
-/// A receive from this channel, as an operand.
+/// A receive from `channel` as an operand.
 pub fn receive_from(alloc: Global, channel: Measured<'_>) -> Result<Measured<'_>, ParseFault>
     requires height { channel.height ≡ expression_height (expression_of channel.node) }
     requires low { channel.height < 2 ^ 32 }

@@ -210,7 +210,7 @@ pub fn call_alone<'a>(
     })
 }
 
-/// A send whose channel begins with the operand `left`, which was read before and may be a level too high.
+/// A send whose channel begins with the operand `left`, which was read before and may be one level too high.
 #[tactic(auto, unfolding(crate::specs::Reading::sent_on))]
 fn send_on<'a>(
     alloc: Global,
@@ -235,7 +235,7 @@ fn send_on<'a>(
     })
 }
 
-/// A call alone, or a send whose channel begins with the call, whose highest argument is `levels` high.
+/// A call alone, or a send whose channel begins with the call. The highest of its arguments has `levels` levels.
 fn alone_or_send<'a>(
     alloc: Global,
     literals: bool,
@@ -255,7 +255,7 @@ fn alone_or_send<'a>(
     call_alone(alloc, name, all)
 }
 
-/// What begins with a call.
+/// A statement that begins with a call.
 #[tactic(auto, unfolding(crate::specs::Reading::called))]
 fn call_statement(
     alloc: Global,
