@@ -1,5 +1,5 @@
 -- Clauses of a select by their numbers.
-use Rattle.std.proofs.Common.{◌≡◌, ℕ, zero, suc, ◌-◌, ◌≤◌, List, Some, refl, ap, arith}
+use Rattle.std.proofs.Common.{◌≡◌, ℕ, zero, suc, ◌-◌, ◌≤◌, List, Some, ap, arith}
 use Rattle.syntax.specs.Tree.{Clauses, Clause, Comm, Statements}
 use Rattle.type_table.specs.Scopes.{Globals}
 use Rattle.word.specs.declared.value.Word.{Word}

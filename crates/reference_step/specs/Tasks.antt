@@ -1,5 +1,5 @@
 -- Tasks in memory, as the meaning of a program sees them: lists lie with their next entry last.
-use Rattle.std.specs.Prelude.{ℕ, List, [], map, reverse, option_map, Option}
+use Rattle.std.specs.Prelude.{ℕ, List, map, reverse, option_map, Option}
 use Rattle.std.specs.Borrow.{Bor}
 use Rattle.syntax.specs.declared.node.ExpressionNode.{ExpressionNode}
 use Rattle.syntax.specs.declared.node.SimpleNode.{SimpleNode}

@@ -2,7 +2,7 @@
 
 ghost use Rattle.std.specs.Prelude.{◌≡◌, IfErr, IfOk, map, option_map};
 ghost use Rattle.syntax.specs.View.{expression_of, name_of, right_of, type_of};
-ghost use Rattle.type_table.specs.Visible.{globals_in, types_of};
+ghost use Rattle.type_table.specs.Visible.{globals_in};
 ghost use Rattle.meaning.specs.Expressions.{written_kind};
 ghost use Rattle.meaning.specs.Source.{statement_work, zero_of};
 ghost use Rattle.syntax.specs.Tree.{VarTyped, VarUntyped};

@@ -3,7 +3,7 @@
 ghost use Rattle.std.specs.Prelude.{◌≡◌, ◌∷◌, [], IfErr, IfOk};
 ghost use Rattle.meaning.specs.Source.{task_work};
 ghost use Rattle.reference_step.specs.Steps.{Becomes, Leads, Stays};
-ghost use Rattle.reference_step.specs.Tasks.{loop_of, task_of};
+ghost use Rattle.reference_step.specs.Tasks.{task_of};
 ghost use Rattle.type_table.specs.Visible.{types_of};
 
 use crate::block::block;

@@ -1,11 +1,11 @@
-use Rattle.std.proofs.Common.{rules, ◌≡◌, ◌∷◌, [], ◌∙◌, false, length, map, nat_eq, ap}
+use Rattle.std.proofs.Common.{rules, ◌≡◌, false, length, map, nat_eq, ap}
 use Rattle.std.proofs.lemmas.List.{length-map}
 use Rattle.syntax.specs.declared.node.ExpressionNode.TheFolds.{the_lemmas}
 use Rattle.syntax.specs.Tree.{Composite, Named, expressions}
 use Rattle.syntax.specs.View.{name_of, expression_of}
 use Rattle.type_table.specs.Visible.{types_of, globals_in}
 use Rattle.type_table.specs.Zeros.{zero_words}
-use Rattle.meaning.specs.Expressions.{fields, type_of, value}
+use Rattle.meaning.specs.Expressions.{fields, type_of}
 use Rattle.meaning.specs.Values.{Value}
 use Rattle.meaning.specs.Worked.{Worked}
 use Rattle.reference_value.specs.Scopes.{blocks_of}
