@@ -28,5 +28,6 @@ pub mod Tables
 pub mod Before
 pub mod Plain
 pub mod Noting
+pub mod Sides
 pub mod StatementMakes
 pub mod Making

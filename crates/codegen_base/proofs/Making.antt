@@ -33,7 +33,7 @@ module _ (globals : Globals) (elements : List Element) where
   abbrev Grown : List Element → Type 0
   Grown some = Grows some elements
 
-  kind_noted : (kind : TypeExpression) (some : List Element) → Grown (noting types kind some) → Noted elements (known (type_in types nothing_declared kind))
+  pub kind_noted : (kind : TypeExpression) (some : List Element) → Grown (noting types kind some) → Noted elements (known (type_in types nothing_declared kind))
   kind_noted kind some g = noted_grows (noting types kind some) elements (known (type_in types nothing_declared kind)) g (type_noted some (known (type_in types nothing_declared kind)))
 
   one_makes : (e : Expression) (some : List Element) → Grown (noting_expression types e some) → OneMakes globals elements e
