@@ -17,6 +17,7 @@ pub mod Told
 pub mod Expressions
 pub mod Settled
 pub mod Known
+pub mod Channels
 pub mod Pushed
 pub mod Near
 pub mod Sends
@@ -27,3 +28,6 @@ pub mod Tables
 pub mod Before
 pub mod Plain
 pub mod Noting
+pub mod Sides
+pub mod StatementMakes
+pub mod Making

@@ -4,7 +4,6 @@ use Rattle.std.specs.Prelude.{option_and_then}
 use Rattle.std.specs.Result.{result_ok}
 use Rattle.std.proofs.lemmas.Option.{same_Some}
 use Rattle.std.proofs.lemmas.List.{append-nil, length-map, map-append}
-use Rattle.go_text.specs.declared.rule.Rule.TheVariants as rules
 use Rattle.syntax.specs.declared.node.UnaryOperator.{UnaryOperator}
 use Rattle.syntax.specs.declared.node.UnaryOperator.TheVariants as signs
 use Rattle.syntax.specs.declared.node.BinaryOperator.{BinaryOperator}
@@ -24,12 +23,12 @@ use Rattle.syntax.specs.declared.node.Direction.{Direction}
 use Rattle.word.specs.Apply.{value as applied}
 use Rattle.word.specs.Kinds.{Asks}
 use Rattle.word.specs.Related.{here}
-use Rattle.type_table.specs.Types.{ValueType, IntType, BoolType, StructType, ChannelType, is_int_type, assignable, element_type}
+use Rattle.type_table.specs.Types.{ValueType, IntType, BoolType, StructType, ChannelType, element_type}
 use Rattle.type_table.specs.Containment.{Field, fields_of}
 use Rattle.type_table.specs.Scopes.{Globals, type_in}
-use Rattle.typing_rules.specs.Calls.{parameters_of, result_of, yielded, result_type, made_of}
+use Rattle.typing_rules.specs.Calls.{parameters_of, result_of, yielded, result_type}
 use Rattle.type_table.specs.Zeros.{zero_words}
-use Rattle.typing_rules.specs.Worths.{Worth, Typed, Constant, Nil, literal, is_int as is_int_constant, is_not, unary_worth, binary_worth, selected_worth, type_of_field, element_of, worth}
+use Rattle.typing_rules.specs.Worths.{Worth, Typed, Constant, Nil, literal, is_not, unary_worth, binary_worth, selected_worth, type_of_field, element_of, worth}
 use Rattle.typing_rules.specs.Expressions.{nodes_of, ValueHas, ValuesFail, field_kinds, PassedHave, LiteralHas, default_type, ChannelHas, SizeHas, ExpressionHas, ExpressionsHave}
 use Rattle.meaning.specs.Values.{Value, known, words_like, parted, first_of}
 use Rattle.meaning.specs.Variables.{Blocks, scope_in}
@@ -46,7 +45,7 @@ use Rattle.codegen_base.proofs.Seen.{Like}
 use Rattle.codegen_base.proofs.Static.{variables_known}
 use Rattle.codegen_base.proofs.Likeness.{is_int, is_bool, is_channel, made_like, like_length, like_append, zeros_like, kinds_zeros, all_words_of, AreLike, kinds_long}
 use Rattle.codegen_base.proofs.Fields.{AllTyped, fields_zeros, struct_zeros}
-use Rattle.codegen_base.proofs.Typing.{Free, Fits, fits, broken, nodes_end, int_type, not_false, yield_there, worth_there, selects, unary_made, binary_made, carried_there, literal_there, typed_same}
+use Rattle.codegen_base.proofs.Typing.{Free, Fits, fits, nodes_end, yield_there, worth_there, selects, unary_made, binary_made, carried_there, literal_there, typed_same}
 use Rattle.codegen_base.proofs.Operators.{Gives}
 use Rattle.codegen_base.proofs.Splits.{unary_typed, constant_untyped}
 use Rattle.codegen_base.proofs.Gave.{Follows, stays, bind as follows_then}
@@ -56,6 +55,7 @@ use Rattle.codegen_base.proofs.Settled.{P, pushes_by, operator_goes}
 use Rattle.codegen_base.proofs.Expressions.{zeros_goes, blocks, same_worth, type_here, type_there, named_goes, selection_goes}
 use Rattle.codegen_base.proofs.Called.{AllFit, same_count, calls_there}
 use Rattle.codegen_base.proofs.Noted.{shape_there}
+use Rattle.codegen_base.proofs.Channels.{channel_worth, made_type, size_fits}
 use Rattle.codegen_base.proofs.Known.{worth_noted}
 use Rattle.codegen_base.proofs.Makes.{ExpressionMakes, ExpressionsMake, type_anywhere}
 use Rattle.bytecode.specs.declared.instr.WordKind.{WordKind}
@@ -142,14 +142,7 @@ module _ {globals : Globals} {program : Compiled globals} {coded : Coded program
   channel_at e first free channel =
       let w = worth_there globals s types-known (variables_known s scope alike placed.known) e first free in
       let c = carried_there globals s e first w.0 w.1 channel in
-      go w.0 c.0 (sym (checked e) ∙ w.1) (sym (ap element_of w.1) ∙ c.1) where
-        go : (w : Worth) (t : ValueType) → worth globals scope e ≡ Some w → element_of (Some w) ≡ Some t → (d : Direction) × (t : ValueType) × (worth globals scope e ≡ Some (Typed (ChannelType d t)))
-        go (Typed (ChannelType d u)) t is has = (d, u, is)
-        go (Typed IntType) t is has = absurd cc
-        go (Typed BoolType) t is has = absurd cc
-        go (Typed (StructType n)) t is has = absurd cc
-        go (Constant z) t is has = absurd cc
-        go Nil t is has = absurd cc
+      let (d, t, ch) = channel_worth w.0 c.0 (sym (ap element_of w.1) ∙ c.1) in (d, t, sym (checked e) ∙ w.1 ∙ ap Some ch)
 
   -- what a channel carries has a shape
   pub shaped : (e : Expression) → ExpressionMakes globals.types elements e → (d : Direction) (t : ValueType) → worth globals scope e ≡ Some (Typed (ChannelType d t)) → slice_get code.shapes (shape_of elements t) ≡ Some (kinds_of globals.structs elements t)
@@ -161,26 +154,11 @@ module _ {globals : Globals} {program : Compiled globals} {coded : Coded program
   abbrev pub LA : List ValueType → Plan → Option ℕ → List Word → List Value → Frames → Type 0
   LA types rest out base vs d = (to : ℕ) × AreLike globals.structs types vs × (d ≡ SP to (base ++ all_words_of vs)) × ST rest to out
 
-  made_type_at : (kind : TypeExpression) (o : Option ValueType) (k : ValueType) → option_map Typed (made_of o) ≡ Some (Typed k) → (d : Direction) × (t : ValueType) × (o ≡ Some (ChannelType d t)) × (ChannelType d t ≡ k)
-  made_type_at kind None k e = absurd cc
-  made_type_at kind (Some (ChannelType d t)) k e = (d, t, refl, typed_same (ChannelType d t) k e)
-  made_type_at kind (Some IntType) k e = absurd cc
-  made_type_at kind (Some BoolType) k e = absurd cc
-  made_type_at kind (Some (StructType n)) k e = absurd cc
-
-  -- a size may stand where an int is wanted
-  size_fits : (e : Expression) (first : ℕ) (w : Worth) → Free (SizeHas (Some w) (nodes_of first e)) → Fits w IntType
-  size_fits e first (Typed kind) free =
-      let b = broken rules.Made (nodes_of first e).end (nodes_end first e) in
-      ap (λ j. assignable j IntType) (int_type kind (not_false (is_int_type kind) (λ x. free b.0 (x, b.1))))
-  size_fits e first (Constant z) free = let b = broken rules.Constant (nodes_of first e).end (nodes_end first e) in (refl, not_false (is_int_constant z) (λ x. free b.0 (inl (x, b.1))))
-  size_fits e first Nil free = let b = broken rules.Nil ((nodes_of first e).first + 1) (omega arith) in absurd (free b.0 b.1)
-
   -- a new channel, whose size lies on the stack
   made_goes : (kind : TypeExpression) (k : ValueType) (n : ℤ) (rest : Plan) (out : Option ℕ) (place : ℕ) (stack : List Word) → ExpressionMakes globals.types elements (Make kind) → worth globals scope (Make kind) ≡ Some (Typed k) → ST (makes_plan globals elements scope kind rest) place out
       → EK (made globals kind n) k rest out place (stack ++ Int n ∷ []) stack
   made_goes kind k n rest out place stack noted-kind is on =
-      let (d, t, at-kind, k-is) = made_type_at kind (type_in globals.types scope kind) k is in
+      let (d, t, at-kind, k-is) = made_type (type_in globals.types scope kind) k is in
       let written : written_kind globals kind ≡ ChannelType d t = ap known (type_anywhere globals.types scope kind (ChannelType d t) at-kind) in
       let shape-at : elements_shape elements (known (type_in globals.types scope kind)) ≡ shape_of elements t = ap (λ o. elements_shape elements (known o)) at-kind in
       let has = shaped (Make kind) noted-kind d t (is ∙ ap (λ j. Some (Typed j)) (sym k-is)) in

@@ -42,7 +42,7 @@ use Rattle.codegen_fine.proofs.Returns.{IsResult}
 use Rattle.codegen_fine.proofs.Finished.{typed_body}
 use Rattle.codegen_fine.proofs.Wholes.{parameters_fit}
 use Rattle.codegen_fine.proofs.Signatures.{parameters_locals}
-use Rattle.codegen_follows.proofs.Making.{all_make}
+use Rattle.codegen_base.proofs.Making.{all_make}
 use Rattle.codegen_equal.proofs.Located.{Located}
 use Rattle.codegen_equal.proofs.Passed.{arguments_fitted, fitted_length, passed}
 use Rattle.codegen_equal.proofs.Standing.{Near}

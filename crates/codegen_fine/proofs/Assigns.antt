@@ -32,7 +32,6 @@ use Rattle.plan.proofs.Typed.{Allowed, Typed}
 use Rattle.codegen_fine.proofs.Pushing.{Puts}
 use Rattle.codegen_fine.proofs.Operands.{Grounds}
 use Rattle.codegen_fine.proofs.Emitted.{all_kinds}
-use Rattle.codegen_fine.proofs.Operations.{Functions}
 use Rattle.codegen_fine.proofs.Spots.{joined, SpotFits, SpotsFit, assigns_typed}
 use Rattle.codegen_fine.proofs.Places.{IsHoused, AllHoused, found_housed, drop_housed, housed_of, place_leads, place_alike}
 use Rattle.codegen_fine.proofs.Givens.{WantHas, WantsFail, WantsNoted, WellTaken, taken, taken_all, worths, given_alike}
@@ -95,7 +94,7 @@ module _ (globals : Globals) (elements : List Element) where
   defined_alike s scope alike names count m n right =
       by_worths s scope alike names s (given globals s count m right) ∙ ap (with_worths globals s names) (given_alike globals elements s scope alike count m n right) ∙ sym (by_worths s scope alike names s (given globals scope count n right))
 
-  module _ (code : Code) (f : CodeFunction) (grounds : Grounds globals elements code) (functions : Functions globals elements code) where
+  module _ (code : Code) (f : CodeFunction) (grounds : Grounds globals elements code) where
     abbrev kinds_in : ValueType → List WordKind
     kinds_in = kinds_of globals.structs elements
 
@@ -157,7 +156,7 @@ module _ (globals : Globals) (elements : List Element) where
             (subst (λ o. Noted elements (known o)) (sym (ap type_of_field l.is ∙ l.housed.has)) l.housed.noted, rest)
 
       -- an assignment
-      pub typed_sets : (places : List Place) (right : Right) (first : ℕ) → Free (SimpleHas globals s first (Assign places right)) → RightNoted globals elements code f grounds scope (housed_of globals elements f scope all) s alike functions right
+      pub typed_sets : (places : List Place) (right : Right) (first : ℕ) → Free (SimpleHas globals s first (Assign places right)) → RightNoted globals elements code f grounds scope (housed_of globals elements f scope all) s alike right
           → Leaves (sets globals elements scope places (right_types globals elements scope (length places) right) right)
       typed_sets places right first free noted =
           let count = length places in
@@ -165,7 +164,7 @@ module _ (globals : Globals) (elements : List Element) where
           let fine : Free (PlacesHave globals s first places) = λ flaw h. free flaw (inl h) in
           let wants = places_want globals scope places in
           let types = right_types globals elements scope count right in
-          let t = typed_right globals elements code f grounds scope housed s alike functions right (first + count) (first + simple_size (Assign places right)) count wants (omega arith) (length-map places (place_want globals scope)) (places_noted places first fine)
+          let t = typed_right globals elements code f grounds scope housed s alike right (first + count) (first + simple_size (Assign places right)) count wants (omega arith) (length-map places (place_want globals scope)) (places_noted places first fine)
           (λ flaw h. free flaw (inr (inl h))) (λ flaw h. free flaw (inr (inr (inl h)))) (λ flaw h. free flaw (inr (inr (inr (places_fail places first (given globals s count (first + count) right) flaw fine h))))) noted in
           let pushed = subst (λ (l : List ValueType). Puts globals.structs elements code f (all_kinds globals.structs elements l) (pushes_right globals elements scope count l right)) (sym (places_taken globals elements scope places types)) t.pushed in
           put_leaves (taken_types globals elements scope places types) (place_spots globals elements scope places types) (pushes_right globals elements scope count (taken_types globals elements scope places types) right) pushed (places_fit places first types fine)
@@ -210,11 +209,11 @@ module _ (globals : Globals) (elements : List Element) where
 
       -- the names of a declaration, and what they take
       pub record DefineFits (names : List (List ℕ)) (right : Right) : Type 0 where
-        pub takes : Takes globals elements code f grounds layout.scope (housed_of globals elements f layout.scope room.housed) s alike.named functions (length names) (names_want layout.scope names) (given globals layout.scope (length names) 0 right) (λ types. pushes_right globals elements layout.scope (length names) types right)
+        pub takes : Takes globals elements code f grounds layout.scope (housed_of globals elements f layout.scope room.housed) s alike.named (length names) (names_want layout.scope names) (given globals layout.scope (length names) 0 right) (λ types. pushes_right globals elements layout.scope (length names) types right)
         pub names_fit : NamesFit globals elements code f grounds layout layout s names (given globals layout.scope (length names) 0 right)
 
       pub defines_fit : (names : List (List ℕ)) (right : Right) → has_twice names ≡ false → Begins f (declaring_all globals elements names (right_types globals elements layout.scope (length names) right) layout)
-          → Takes globals elements code f grounds layout.scope (housed_of globals elements f layout.scope room.housed) s alike.named functions (length names) (names_want layout.scope names) (given globals layout.scope (length names) 0 right) (λ types. pushes_right globals elements layout.scope (length names) types right)
+          → Takes globals elements code f grounds layout.scope (housed_of globals elements f layout.scope room.housed) s alike.named (length names) (names_want layout.scope names) (given globals layout.scope (length names) 0 right) (λ types. pushes_right globals elements layout.scope (length names) types right)
           → DefineFits names right
       defines_fit names right twice begins t = record {
         takes = t;
@@ -222,7 +221,7 @@ module _ (globals : Globals) (elements : List Element) where
       }
 
       pub typed_defines : (names : List (List ℕ)) (right : Right) (first end : ℕ) → 1 ≤ end → has_twice names ≡ false → Free (RightHas globals s first right) → Free (NumbersHave (length (given globals s (length names) first right)) (length names) end)
-          → Free (NamesFail s names (given globals s (length names) first right)) → RightNoted globals elements code f grounds layout.scope (housed_of globals elements f layout.scope room.housed) s alike.named functions right
+          → Free (NamesFail s names (given globals s (length names) first right)) → RightNoted globals elements code f grounds layout.scope (housed_of globals elements f layout.scope room.housed) s alike.named right
           → Begins f (declaring_all globals elements names (right_types globals elements layout.scope (length names) right) layout)
           → Declares (defines globals elements layout names (right_types globals elements layout.scope (length names) right) right) (with_defined globals s names (given globals s (length names) 0 right))
           (declaring_all globals elements names (right_types globals elements layout.scope (length names) right) layout)
@@ -231,7 +230,7 @@ module _ (globals : Globals) (elements : List Element) where
           let housed = housed_of globals elements f layout.scope room.housed in
           let wants = names_want layout.scope names in
           let types = right_types globals elements layout.scope count right in
-          let t = typed_right globals elements code f grounds layout.scope housed s alike.named functions right first end count wants le (length-map names (λ name. want_of (own_variable layout.scope name))) (names_noted names) free numbers (λ flaw h. fail flaw (names_fail names (given globals s count first right) flaw h)) noted in
+          let t = typed_right globals elements code f grounds layout.scope housed s alike.named right first end count wants le (length-map names (λ name. want_of (own_variable layout.scope name))) (names_noted names) free numbers (λ flaw h. fail flaw (names_fail names (given globals s count first right) flaw h)) noted in
           let n = names_fit globals elements code f grounds names (given globals layout.scope count 0 right) layout layout s room begins alike (own_same layout.scope names) twice (all_taken names (given globals layout.scope count 0 right) t.well) in
           let pushed = subst (λ (l : List ValueType). Puts globals.structs elements code f (all_kinds globals.structs elements l) (pushes_right globals elements layout.scope count l right)) (sym (names_taken globals elements layout names types)) t.pushed in
           record {
@@ -245,7 +244,7 @@ module _ (globals : Globals) (elements : List Element) where
       not_true false never = refl
 
       -- a `:=`
-      pub typed_define : (names : List (List ℕ)) (right : Right) (first : ℕ) → Free (SimpleHas globals s first (Define names right)) → RightNoted globals elements code f grounds layout.scope (housed_of globals elements f layout.scope room.housed) s alike.named functions right
+      pub typed_define : (names : List (List ℕ)) (right : Right) (first : ℕ) → Free (SimpleHas globals s first (Define names right)) → RightNoted globals elements code f grounds layout.scope (housed_of globals elements f layout.scope room.housed) s alike.named right
           → Begins f (behind_simple globals elements (Define names right) layout)
           → Declares (defines globals elements layout names (right_types globals elements layout.scope (length names) right) right) (after_simple globals s (Define names right)) (behind_simple globals elements (Define names right) layout)
       typed_define names right first free noted begins =

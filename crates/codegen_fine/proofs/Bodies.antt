@@ -21,7 +21,6 @@ use Rattle.plan.proofs.Tables.{Tabled}
 use Rattle.plan.proofs.Typed.{Allowed, in_loop, Typed}
 use Rattle.codegen_fine.proofs.Sees.{Sees, worth_sees, known_sees}
 use Rattle.codegen_fine.proofs.Operands.{Grounds}
-use Rattle.codegen_fine.proofs.Operations.{Functions}
 use Rattle.codegen_fine.proofs.Branches.{typed_test}
 use Rattle.codegen_fine.proofs.Places.{housed_of}
 use Rattle.codegen_fine.proofs.Layouts.{Longer, Begins, begins_before, Room, room_entering, room_leaving}
@@ -46,7 +45,7 @@ prints_front code first xs ys h n x e = h n x (front_there xs ys n x e)
 pub prints_back : (code : Code) (first : ℕ) (xs ys : List PrintTable) → Prints code first (xs ++ ys) → Prints code (first + length xs) ys
 prints_back code first xs ys h n x e = let z : first + length xs + n ≡ first + (length xs + n) = omega arith in subst (λ k. slice_get code.prints k ≡ Some x) (sym z) (h (length xs + n) x (back_there xs ys n x e))
 
-module _ (globals : Globals) (elements : List Element) (code : Code) (f : CodeFunction) (grounds : Grounds globals elements code) (functions : Functions globals elements code) where
+module _ (globals : Globals) (elements : List Element) (code : Code) (f : CodeFunction) (grounds : Grounds globals elements code) where
   -- what is made of statements leads from an empty stack to an empty one, where its selects find their tables
   abbrev pub Runs : Allowed → Plan → Type 0
   Runs a plan = (place : ℕ) → Tabled code.selects place plan → Typed code f a [] plan []
@@ -91,7 +90,7 @@ module _ (globals : Globals) (elements : List Element) (code : Code) (f : CodeFu
   module _ (layout : Layout) (room : Room globals elements code f layout) (s : Scope) (sees : Sees s layout.scope) where
     pub typed_tests : (condition : Expression) (first : ℕ) → Free (TestHas globals s first condition) → (a : Allowed) (ks out : List WordKind) (rest : Plan) → Typed code f a (ks ++ kinds.Bool ∷ []) rest out → Typed code f a ks (tests globals elements layout condition rest) out
     typed_tests condition first free a ks out rest t =
-        let w = worth_there globals s (grounds.fields_known s) (known_sees s layout.scope sees (housed_of globals elements f layout.scope room.housed).known) condition first (λ flaw h. free flaw (inl h)) in
+        let w = worth_there globals s grounds.types_known (known_sees s layout.scope sees (housed_of globals elements f layout.scope room.housed).known) condition first (λ flaw h. free flaw (inl h)) in
         let fit = condition_fits w.0 (nodes_of first condition) (nodes_end first condition) (λ flaw h. free flaw (inr (subst (λ o. ConditionHas o (nodes_of first condition) flaw) (sym w.1) h))) in
         typed_test globals elements code f grounds layout.scope (housed_of globals elements f layout.scope room.housed) s sees condition first (λ flaw h. free flaw (inl h)) w.0 (sym (worth_sees s layout.scope sees globals condition) ∙ w.1) fit a ks out rest t
 
@@ -124,10 +123,10 @@ module _ (globals : Globals) (elements : List Element) (code : Code) (f : CodeFu
     pub typed_any : (simple : Option Simple) (first : ℕ) (a : Allowed) → Alike s site.layout.scope → Free (IfSimpleHas globals s first simple) → (all : List Element) → Grows (noting_first globals.types simple all) elements → Fits site.prints (made_any globals elements site simple) → IsMadeAlike a (made_any globals elements site simple) (after_any globals s simple)
     typed_any None first a alike free all g fits = (record { runs = λ place tabled. refl; room = room }, alike)
     typed_any (Some simple) first a alike free all g fits =
-        let d = typed_simple globals elements code f grounds functions site.layout room s alike site.prints simple first free all g fits.begins fits.prints in
+        let d = typed_simple globals elements code f grounds site.layout room s alike site.prints simple first free all g fits.begins fits.prints in
         (record { runs = λ place tabled. d.leaves a [] [] refl; room = d.room }, d.alike)
 
-module _ (globals : Globals) (elements : List Element) (code : Code) (f : CodeFunction) (grounds : Grounds globals elements code) (functions : Functions globals elements code) where
+module _ (globals : Globals) (elements : List Element) (code : Code) (f : CodeFunction) (grounds : Grounds globals elements code) where
   still_behind : (simple : Simple) (layout : Layout) → IsStill simple → behind_simple globals elements simple layout ≡ layout
   still_behind (Define names right) layout still = absurd still
   still_behind (CallAlone a b) layout still = refl
@@ -141,12 +140,12 @@ module _ (globals : Globals) (elements : List Element) (code : Code) (f : CodeFu
   still_behind (Update a b c) layout still = refl
 
   pub typed_post : (header : Layout) (site : Site) → Room globals elements code f header → Room globals elements code f site.layout → (s : Scope) → Sees s site.layout.scope → (post : Option Simple) (first : ℕ) (a : Allowed) → StillAny post → Free (IfSimpleHas globals s first post) → (all : List Element) → Grows (noting_first globals.types post all) elements
-      → Prints code site.prints (made_post globals elements header site post).prints → IsMade globals elements code f grounds functions a (made_post globals elements header site post)
+      → Prints code site.prints (made_post globals elements header site post).prints → IsMade globals elements code f grounds a (made_post globals elements header site post)
   typed_post header site outer room s sees None first a still free all g prints = record { runs = λ place tabled. refl; room = room }
   typed_post header site outer room s sees (Some simple) first a still free all g prints =
       let within = entering site.layout in
       let inner = room_entering globals elements code f site.layout room in
       record {
-        runs = λ place tabled. typed_still globals elements code f grounds functions within inner s sees site.prints simple first still free all g prints a [] [] refl;
+        runs = λ place tabled. typed_still globals elements code f grounds within inner s sees site.prints simple first still free all g prints a [] [] refl;
         room = subst (λ (x : Layout). Room globals elements code f (leaving header x)) (sym (still_behind simple within still)) (room_leaving globals elements code f header within outer inner);
       }

@@ -12,7 +12,7 @@ use Rattle.typing_rules.specs.Worths.{Worth, worth}
 use Rattle.typing_rules.specs.Expressions.{ExpressionHas}
 use Rattle.typing_rules.specs.Operations.{parameters_of, CallHas}
 use Rattle.meaning.specs.Values.{known}
-use Rattle.meaning.specs.Destinations.{number_of}
+use Rattle.meaning.specs.Expressions.{number_of}
 use Rattle.codegen_base.specs.declared.element.Element.{Element}
 use Rattle.codegen_base.specs.Elements.{kinds_of}
 use Rattle.codegen_base.specs.Pushes.{pushes}
@@ -24,7 +24,7 @@ use Rattle.plan.specs.Plan.{Plan, Skip, Do, IfElse, IfThen, Cycle, Endless, Stop
 use Rattle.plan.proofs.Typed.{Allowed, in_loop, Typed}
 use Rattle.codegen_fine.proofs.Operands.{Grounds, Housed}
 use Rattle.codegen_fine.proofs.Emitted.{all_kinds, typed_pushes}
-use Rattle.codegen_fine.proofs.Operations.{Functions, call_there}
+use Rattle.codegen_fine.proofs.Operations.{call_there}
 use Rattle.codegen_fine.proofs.Requests.{starts_typed}
 
 module _ (globals : Globals) (elements : List Element) (code : Code) (f : CodeFunction) (grounds : Grounds globals elements code) where
@@ -64,7 +64,7 @@ module _ (globals : Globals) (elements : List Element) (code : Code) (f : CodeFu
     pub typed_go : Functions globals elements code → (function : List ℕ) (arguments : Arguments) (first : ℕ) → Free (CallHas globals s first function arguments)
         → (a : Allowed) (ks out : List WordKind) → T a ks Skip out → T a ks (pushes_arguments globals elements scope (number_of globals function) arguments.values (Do (instrs.Go (number_of globals function)) Skip)) out
     typed_go functions function arguments first free a ks out t =
-        let c = call_there globals elements code f grounds scope housed s alike functions function arguments first free in
+        let c = call_there globals elements code f grounds scope housed s alike function arguments first free in
         subst (λ n. T a ks (pushes_arguments globals elements scope n arguments.values (Do (instrs.Go n) Skip)) out) (sym c.is)
         (c.pushed a ks out (Do (instrs.Go c.number) Skip)
         (starts_typed globals elements code f grounds c.number (all_kinds globals.structs elements (map known (parameters_of globals c.number))) c.there (functions.params c.number) a ks out Skip t))

@@ -156,7 +156,7 @@ module _ (globals : Globals) (elements : List Element) (code : Code) (f : CodeFu
         let housed = housed_of globals elements f scope all in
         let r = readable place first (λ flaw h. free flaw (inl h)) in
         let p = place_is place r in
-        let (w, has) = worth_there globals s (grounds.fields_known s) (known_sees s scope alike housed.known) value (first + 1) (λ flaw h. free flaw (inr (inl h))) in
+        let (w, has) = worth_there globals s grounds.types_known (known_sees s scope alike housed.known) value (first + 1) (λ flaw h. free flaw (inr (inl h))) in
         let here-is : worth globals scope value ≡ Some w = sym (worth_sees s scope alike globals value) ∙ has in
         let end = first + 1 + expression_size value + 1 in
         let nodes = nodes_of (first + 1) value in

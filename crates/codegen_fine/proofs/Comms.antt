@@ -32,7 +32,7 @@ use Rattle.codegen_fine.proofs.Sees.{Sees, worth_sees, known_sees}
 use Rattle.codegen_fine.proofs.Pushing.{Puts, puts_both}
 use Rattle.codegen_fine.proofs.Operands.{Grounds, shape_within}
 use Rattle.codegen_fine.proofs.Emitted.{all_kinds, typed_pushes}
-use Rattle.codegen_fine.proofs.Operations.{Functions, IsChannel, channel_there}
+use Rattle.codegen_fine.proofs.Operations.{IsChannel, channel_there}
 use Rattle.codegen_fine.proofs.Requests.{shape_is}
 use Rattle.codegen_fine.proofs.Simple.{discards_typed}
 use Rattle.codegen_fine.proofs.Spots.{joined, SpotsFit, assigns_typed}
@@ -51,7 +51,7 @@ comm_channel (CommReceive channel) = channel
 comm_channel (CommDefine item ok channel) = channel
 comm_channel (CommAssign item ok channel) = channel
 
-module _ (globals : Globals) (elements : List Element) (code : Code) (f : CodeFunction) (grounds : Grounds globals elements code) (functions : Functions globals elements code) (result : Yield) where
+module _ (globals : Globals) (elements : List Element) (code : Code) (f : CodeFunction) (grounds : Grounds globals elements code) (result : Yield) where
   abbrev kinds_in : ValueType → List WordKind
   kinds_in = kinds_of globals.structs elements
 
@@ -65,17 +65,17 @@ module _ (globals : Globals) (elements : List Element) (code : Code) (f : CodeFu
       pub gives : (to : ℕ) → clause_gives code (Some (table_clause globals elements result layout comm to)) ≡ comm_kinds globals elements result layout comm
       pub there : (to : ℕ) → clause_shape (table_clause globals elements result layout comm to) < length code.shapes
 
-    shapes_are : (channel : Expression) (c : IsChannel globals elements code f grounds layout.scope (housed_of globals elements f layout.scope room.housed) s sees functions channel) → shape_kinds code (shape_of elements (carried globals elements layout.scope channel)) ≡ kinds_in (carried globals elements layout.scope channel)
+    shapes_are : (channel : Expression) (c : IsChannel globals elements code f grounds layout.scope (housed_of globals elements f layout.scope room.housed) s sees channel) → shape_kinds code (shape_of elements (carried globals elements layout.scope channel)) ≡ kinds_in (carried globals elements layout.scope channel)
     shapes_are channel c = subst (λ j. shape_kinds code (shape_of elements j) ≡ kinds_in j) (sym c.carries) (shape_is globals elements code f grounds c.direction c.element c.noted)
 
-    shape_is_there : (channel : Expression) (c : IsChannel globals elements code f grounds layout.scope (housed_of globals elements f layout.scope room.housed) s sees functions channel) → shape_of elements (carried globals elements layout.scope channel) < length code.shapes
+    shape_is_there : (channel : Expression) (c : IsChannel globals elements code f grounds layout.scope (housed_of globals elements f layout.scope room.housed) s sees channel) → shape_of elements (carried globals elements layout.scope channel) < length code.shapes
     shape_is_there channel c = subst (λ j. shape_of elements j < length code.shapes) (sym c.carries) (shape_within globals elements code f grounds c.direction c.element c.noted)
 
-    channel_pushed : (channel : Expression) (c : IsChannel globals elements code f grounds layout.scope (housed_of globals elements f layout.scope room.housed) s sees functions channel) → Puts globals.structs elements code f (kinds.Chan (shape_of elements (carried globals elements layout.scope channel)) ∷ []) (pushes_own globals elements layout.scope channel)
+    channel_pushed : (channel : Expression) (c : IsChannel globals elements code f grounds layout.scope (housed_of globals elements f layout.scope room.housed) s sees channel) → Puts globals.structs elements code f (kinds.Chan (shape_of elements (carried globals elements layout.scope channel)) ∷ []) (pushes_own globals elements layout.scope channel)
     channel_pushed channel c = subst (λ j. Puts globals.structs elements code f (kinds.Chan (shape_of elements j) ∷ []) (pushes_own globals elements layout.scope channel)) (sym c.carries) c.pushed
 
-    channel_is : (channel : Expression) (first : ℕ) → Free (ExpressionHas globals s first channel) → Free (ChannelHas (worth globals s channel) (nodes_of first channel)) → IsChannel globals elements code f grounds layout.scope (housed_of globals elements f layout.scope room.housed) s sees functions channel
-    channel_is channel first free is = channel_there globals elements code f grounds layout.scope (housed_of globals elements f layout.scope room.housed) s sees functions channel first free is
+    channel_is : (channel : Expression) (first : ℕ) → Free (ExpressionHas globals s first channel) → Free (ChannelHas (worth globals s channel) (nodes_of first channel)) → IsChannel globals elements code f grounds layout.scope (housed_of globals elements f layout.scope room.housed) s sees channel
+    channel_is channel first free is = channel_there globals elements code f grounds layout.scope (housed_of globals elements f layout.scope room.housed) s sees channel first free is
 
     pub comm_fine : (comm : Comm) (first : ℕ) → Free (SimpleHas globals s first (comm_simple comm)) → CommFine comm
     comm_fine (CommReceive channel) first free =
@@ -91,7 +91,7 @@ module _ (globals : Globals) (elements : List Element) (code : Code) (f : CodeFu
         let housed = housed_of globals elements f layout.scope room.housed in
         let c = channel_is channel first (λ flaw h. free flaw (inl h)) (λ flaw h. free flaw (inr (inr (inl h)))) in
         let behind = first + expression_size channel in
-        let w = worth_there globals s (grounds.fields_known s) (known_sees s layout.scope sees housed.known) value behind (λ flaw h. free flaw (inr (inl h))) in
+        let w = worth_there globals s grounds.types_known (known_sees s layout.scope sees housed.known) value behind (λ flaw h. free flaw (inr (inl h))) in
         let kind = carried globals elements layout.scope channel in
         let is-element : element_of (worth globals s channel) ≡ Some kind = ap element_of (worth_sees s layout.scope sees globals channel ∙ c.is) ∙ ap Some (sym c.carries) in
         let fit = fits w.0 kind (nodes_of behind value) (nodes_end behind value)
@@ -170,9 +170,9 @@ module _ (globals : Globals) (elements : List Element) (code : Code) (f : CodeFu
         let fine : Free (PlacesHave globals s first places) = λ flaw h. free flaw (inl h) in
         let wants = places_want globals layout.scope places in
         let types = right_types globals elements layout.scope count right in
-        let t = typed_given globals elements code f grounds layout.scope housed s alike.named functions operation (first + count) (first + simple_size (Assign places right)) count wants (omega arith) (length-map places (place_want globals layout.scope)) (places_noted globals elements code f grounds functions layout.scope room.housed s alike.named places first fine)
-        (λ flaw h. free flaw (inr (inl h))) (λ flaw h. free flaw (inr (inr (inl h)))) (λ flaw h. free flaw (inr (inr (inr (places_fail globals elements code f grounds functions layout.scope room.housed s alike.named places first (given globals s count (first + count) right) flaw fine h))))) tt in
-        let fit = places_fit globals elements code f grounds functions layout.scope room.housed s alike.named places first types fine in
+        let t = typed_given globals elements code f grounds layout.scope housed s alike.named operation (first + count) (first + simple_size (Assign places right)) count wants (omega arith) (length-map places (place_want globals layout.scope)) (places_noted globals elements code f grounds layout.scope room.housed s alike.named places first fine)
+        (λ flaw h. free flaw (inr (inl h))) (λ flaw h. free flaw (inr (inr (inl h)))) (λ flaw h. free flaw (inr (inr (inr (places_fail globals elements code f grounds layout.scope room.housed s alike.named places first (given globals s count (first + count) right) flaw fine h))))) tt in
+        let fit = places_fit globals elements code f grounds layout.scope room.housed s alike.named places first types fine in
         let same : joined (map kinds_in (taken_types globals elements layout.scope places types)) ≡ wanted ok kind =
         joined_kinds globals elements (taken_types globals elements layout.scope places types) ∙ ap (all_kinds globals.structs elements) (places_taken globals elements layout.scope places types) ∙ t.same ∙ ap (all_kinds globals.structs elements) (given_two item ok layout.scope channel) ∙ two_kinds ok kind in
         let spots : place_spots globals elements layout.scope places types ≡ place_spots globals elements layout.scope (one_or_two globals elements result item ok) (kind ∷ BoolType ∷ []) = ap (place_spots globals elements layout.scope places) (given_two item ok layout.scope channel) ∙ two_spots [] item ok kind in
@@ -193,10 +193,10 @@ module _ (globals : Globals) (elements : List Element) (code : Code) (f : CodeFu
         let types = right_types globals elements layout.scope count right in
         let b = broken rules.NewName end (omega arith) in
         let twice = not_true (has_twice names || not (list_any (is_declarable s) names)) (λ e. free b.0 (inr (inr (inl (inr (e, b.1)))))) in
-        let t = typed_given globals elements code f grounds layout.scope housed s alike.named functions operation first end count wants (omega arith) (length-map names (λ name. want_of (own_variable layout.scope name))) (names_noted globals elements code f grounds functions layout room s alike names)
-        (λ flaw h. free flaw (inl h)) (λ flaw h. free flaw (inr (inl h))) (λ flaw h. free flaw (inr (inr (inr (names_fail globals elements code f grounds functions layout room s alike names (given globals s count first right) flaw h))))) tt in
+        let t = typed_given globals elements code f grounds layout.scope housed s alike.named operation first end count wants (omega arith) (length-map names (λ name. want_of (own_variable layout.scope name))) (names_noted globals elements code f grounds layout room s alike names)
+        (λ flaw h. free flaw (inl h)) (λ flaw h. free flaw (inr (inl h))) (λ flaw h. free flaw (inr (inr (inr (names_fail globals elements code f grounds layout room s alike names (given globals s count first right) flaw h))))) tt in
         let behind-is : declaring_all globals elements names types layout ≡ behind_comm globals elements result (CommDefine item ok channel) layout = ap (λ (l : List ValueType). declaring_all globals elements names l layout) (given_two item ok layout.scope channel) ∙ two_behind item ok kind in
-        let n = (defines_fit globals elements code f grounds functions layout room s alike names right (or_parts (has_twice names) (not (list_any (is_declarable s) names)) twice).0 (subst (Begins f) (sym behind-is) begins) t.takes).names_fit in
+        let n = (defines_fit globals elements code f grounds layout room s alike names right (or_parts (has_twice names) (not (list_any (is_declarable s) names)) twice).0 (subst (Begins f) (sym behind-is) begins) t.takes).names_fit in
         let same : joined (map kinds_in (name_types globals elements layout names types)) ≡ wanted ok kind =
         joined_kinds globals elements (name_types globals elements layout names types) ∙ ap (all_kinds globals.structs elements) (names_taken globals elements layout names types) ∙ t.same ∙ ap (all_kinds globals.structs elements) (given_two item ok layout.scope channel) ∙ two_kinds ok kind in
         let spots : name_spots globals elements layout names types ≡ name_spots globals elements layout (one_or_two globals elements result item ok) (kind ∷ BoolType ∷ []) = ap (name_spots globals elements layout names) (given_two item ok layout.scope channel) ∙ two_names item ok kind in

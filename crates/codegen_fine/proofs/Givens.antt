@@ -20,7 +20,7 @@ use Rattle.typing_rules.specs.Worths.{Worth, Typed as TypedWorth, Constant, Nil,
 use Rattle.typing_rules.specs.Expressions.{nodes_of, ValueHas, DefaultHas, default_type, element_of, ExpressionsHave}
 use Rattle.typing_rules.specs.Operations.{TypeHas, Callee, NotDeclared, NoFunction, IsFunction, function_of, is_other, callee, result_of, result_type, yielded, CalleeHas, YieldHas, ResultHas, made_of, OperationHas, operation_type, is_receive, Given, given_values, given_by, given}
 use Rattle.meaning.specs.Values.{known}
-use Rattle.meaning.specs.Destinations.{number_of}
+use Rattle.meaning.specs.Expressions.{number_of}
 use Rattle.codegen_base.specs.declared.element.Element.{Element}
 use Rattle.codegen_base.specs.Elements.{kinds_of, shape_of}
 use Rattle.codegen_base.specs.Generated.{result_kinds}
@@ -39,7 +39,7 @@ use Rattle.codegen_fine.proofs.WordKinds.{assignable_kinds}
 use Rattle.codegen_fine.proofs.Pushing.{Puts}
 use Rattle.codegen_fine.proofs.Operands.{Grounds, Housed, P}
 use Rattle.codegen_fine.proofs.Emitted.{AllNoted}
-use Rattle.codegen_fine.proofs.Operations.{Functions, MakesNoted, channel_there, typed_call, typed_received, typed_operation}
+use Rattle.codegen_fine.proofs.Operations.{MakesNoted, channel_there, typed_call, typed_received, typed_operation}
 use Rattle.codegen_fine.proofs.Simple.{discards_typed}
 
 -- ---- what is wanted: a value of a type, or any that has one
@@ -181,7 +181,7 @@ module _ (globals : Globals) (elements : List Element) where
       values_fit [] (want ∷ wants) first m many noted free fail = absurd cc
       values_fit (value ∷ rest) [] first m many noted free fail = absurd cc
       values_fit (value ∷ rest) (want ∷ wants) first m many noted free fail =
-          let (w, is) = worth_there globals s (grounds.fields_known s) (known_sees s scope alike housed.known) value first (λ flaw h. free flaw (inl h)) in
+          let (w, is) = worth_there globals s grounds.types_known (known_sees s scope alike housed.known) value first (λ flaw h. free flaw (inl h)) in
           let here-is : worth globals scope value ≡ Some w = sym (worth_sees s scope alike globals value) ∙ is in
           let n = first_noted want wants noted in
           let one = value_taken want w (nodes_of first value) value here-is (nodes_end first value) n.0 (λ flaw h. fail flaw (inl (subst (λ o. WantHas want (record { worth = o; nodes = nodes_of first value }) flaw) (sym is) h))) in
@@ -196,7 +196,7 @@ module _ (globals : Globals) (elements : List Element) where
 
       -- ---- operations
 
-      module _ (functions : Functions globals elements code) where
+      module _ where
         -- an operation gives a value
         pub record GivesOne (operation : Operation) : Type 0 where
           pub kind : ValueType
@@ -218,7 +218,7 @@ module _ (globals : Globals) (elements : List Element) where
                 kind = known kind;
                 is = ap (result_type globals) is ∙ ap yielded gives ∙ functions.result_known n kind gives;
                 noted = functions.result_noted n kind gives;
-                pushed = λ a ks out rest t. typed_call globals elements code f grounds scope housed s alike functions function arguments first (λ flaw h. free flaw (inl h)) a ks out rest (subst (λ (l : List WordKind). Typed code f a (ks ++ l) rest out) (sym same) t);
+                pushed = λ a ks out rest t. typed_call globals elements code f grounds scope housed s alike function arguments first (λ flaw h. free flaw (inl h)) a ks out rest (subst (λ (l : List WordKind). Typed code f a (ks ++ l) rest out) (sym same) t);
               }
 
           go : (c : Callee) → callee globals s function ≡ c → GivesOne (Call function arguments)
@@ -229,19 +229,19 @@ module _ (globals : Globals) (elements : List Element) where
         -- whether an item was sent is dropped
         receive_gives : (channel : Expression) (first : ℕ) → Free (OperationHas globals s first (Receive channel)) → GivesOne (Receive channel)
         receive_gives channel first free =
-            let c = channel_there globals elements code f grounds scope housed s alike functions channel first (λ flaw h. free flaw (inl h)) (λ flaw h. free flaw (inr (inl h))) in
+            let c = channel_there globals elements code f grounds scope housed s alike channel first (λ flaw h. free flaw (inl h)) (λ flaw h. free flaw (inr (inl h))) in
             let item = kinds_of globals.structs elements (carried globals elements scope channel) in
             record {
               kind = c.element;
               is = ap element_of (worth_sees s scope alike globals channel ∙ c.is);
               noted = c.noted.0;
               pushed = λ a ks out rest t.
-                  typed_received globals elements code f grounds scope housed s alike functions channel first free a ks out (Do (instrs.Discard 1) rest)
+                  typed_received globals elements code f grounds scope housed s alike channel first free a ks out (Do (instrs.Discard 1) rest)
                   (subst (λ (l : List WordKind). Typed code f a l (Do (instrs.Discard 1) rest) out) (append_assoc ks item (kinds.Bool ∷ []))
                   (discards_typed globals elements code f grounds 1 (kinds.Bool ∷ []) refl a (ks ++ item) out rest (subst (λ k. Typed code f a (ks ++ kinds_of globals.structs elements k) rest out) (sym c.carries) t)));
             }
 
-        make_gives : (kind : TypeExpression) (size : Option Expression) (first : ℕ) → Free (OperationHas globals s first (Make kind size)) → MakesNoted globals elements code f grounds scope housed s alike functions (Make kind size) → GivesOne (Make kind size)
+        make_gives : (kind : TypeExpression) (size : Option Expression) (first : ℕ) → Free (OperationHas globals s first (Make kind size)) → MakesNoted globals elements code f grounds scope housed s alike (Make kind size) → GivesOne (Make kind size)
         make_gives kind size first free (d, c, is, noted) = go (type_in globals.types s kind) refl where
           go : (o : Option ValueType) → type_in globals.types s kind ≡ o → GivesOne (Make kind size)
           go None none = let b = broken rules.Visible (first + 1) (omega arith) in absurd (free b.0 (inl (subst (λ o. TypeHas o first b.0) (sym none) b.1)))
@@ -253,12 +253,12 @@ module _ (globals : Globals) (elements : List Element) where
                 is = ap made_of (some ∙ ap Some channel);
                 noted = noted;
                 pushed = subst (λ x. P globals elements code f grounds (ChannelType d c) (pushes_one globals elements scope (Make kind size))) is
-                    (subst (λ x. Puts globals.structs elements code f (kinds.Chan (shape_of elements (known (element_type x))) ∷ []) (pushes_operation globals elements scope (Make kind size))) is (typed_operation globals elements code f grounds scope housed s alike functions (Make kind size) first free (d, c, is, noted)));
+                    (subst (λ x. Puts globals.structs elements code f (kinds.Chan (shape_of elements (known (element_type x))) ∷ []) (pushes_operation globals elements scope (Make kind size))) is (typed_operation globals elements code f grounds scope housed s alike (Make kind size) first free (d, c, is, noted)));
               }
 
-        pub typed_one : (operation : Operation) (first : ℕ) → Free (OperationHas globals s first operation) → MakesNoted globals elements code f grounds scope housed s alike functions operation → GivesOne operation
+        pub typed_one : (operation : Operation) (first : ℕ) → Free (OperationHas globals s first operation) → MakesNoted globals elements code f grounds scope housed s alike operation → GivesOne operation
         typed_one (Call function arguments) first free noted = call_gives function arguments first free
         typed_one (Receive channel) first free noted = receive_gives channel first free
         typed_one (Make kind size) first free noted = make_gives kind size first free noted
-        typed_one (Length channel) first free noted = record { kind = IntType; is = refl; noted = tt; pushed = typed_operation globals elements code f grounds scope housed s alike functions (Length channel) first free noted }
-        typed_one (Capacity channel) first free noted = record { kind = IntType; is = refl; noted = tt; pushed = typed_operation globals elements code f grounds scope housed s alike functions (Capacity channel) first free noted }
+        typed_one (Length channel) first free noted = record { kind = IntType; is = refl; noted = tt; pushed = typed_operation globals elements code f grounds scope housed s alike (Length channel) first free noted }
+        typed_one (Capacity channel) first free noted = record { kind = IntType; is = refl; noted = tt; pushed = typed_operation globals elements code f grounds scope housed s alike (Capacity channel) first free noted }

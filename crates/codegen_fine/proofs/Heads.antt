@@ -20,7 +20,6 @@ use Rattle.codegen_base.specs.Grammar.{PostsTops}
 use Rattle.codegen_base.proofs.Noted.{Noted, Grows, grows_no, grows_on}
 use Rattle.codegen_base.proofs.Typing.{Free, broken}
 use Rattle.codegen_fine.proofs.Operands.{Grounds}
-use Rattle.codegen_fine.proofs.Operations.{Functions}
 use Rattle.codegen_fine.proofs.Makes.{written_noted}
 use Rattle.codegen_base.proofs.Noting.{declared_grow, any_grows, statements_grow, tops_grow}
 use Rattle.codegen_fine.proofs.Wholes.{ParametersFine}
@@ -59,8 +58,8 @@ module _ (globals : Globals) (elements : List Element) where
       let same : Some t ≡ kind = sym is ∙ ap (λ y. yielded y None) e in
       subst (λ o. (o ≡ Some (known o)) × Noted elements (known o)) same (refl, written_noted globals.types elements all nothing_declared written t g is)
 
-  module _ (code : Code) (grounds : Grounds globals elements code) (functions : Functions globals elements code) where
-    pub all_fine : (tops : List Top) (names : List (List ℕ)) (number first : ℕ) → Free (HeadersHave globals.types names number first tops) → PostsTops tops → (all : List Element) → Grows (noting_tops globals.types tops all) elements → AllFine globals elements code grounds functions tops
+  module _ (code : Code) (grounds : Grounds globals elements code) where
+    pub all_fine : (tops : List Top) (names : List (List ℕ)) (number first : ℕ) → Free (HeadersHave globals.types names number first tops) → PostsTops tops → (all : List Element) → Grows (noting_tops globals.types tops all) elements → AllFine globals elements code grounds tops
     all_fine [] names number first free still all g = tt
     all_fine (StructTop struct ∷ rest) names number first free still all g = all_fine rest names number (first + top_size (StructTop struct)) (λ flaw h. free flaw (inr h)) still (noting_top globals.types (StructTop struct) all) g
     all_fine (FunctionTop function ∷ rest) names number first free still all g =
@@ -83,6 +82,6 @@ module _ (globals : Globals) (elements : List Element) where
 -- the functions of the code of a file that the checker takes, no post statement of which declares anything
 pub file_holds : (file : File) → Grounds (globals_of file.tops) (elements_of file) (code_of file) → Functions (globals_of file.tops) (elements_of file) (code_of file) → PostsTops file.tops → Free (FileHas file)
     → AllHold (code_of file) (code_of file).functions (code_of file).selects
-file_holds file grounds functions still free =
-    file_functions file grounds functions
-    (all_fine (globals_of file.tops) (elements_of file) (code_of file) grounds functions file.tops (function_names file.tops) 0 0 (λ flaw h. free flaw (inl (inr h))) still [] (grows_no (elements_of file))) free
+file_holds file grounds still free =
+    file_functions file grounds
+    (all_fine (globals_of file.tops) (elements_of file) (code_of file) grounds file.tops (function_names file.tops) 0 0 (λ flaw h. free flaw (inl (inr h))) still [] (grows_no (elements_of file))) free

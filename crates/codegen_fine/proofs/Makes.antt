@@ -22,7 +22,7 @@ use Rattle.codegen_base.proofs.Noted.{Noted, Grows, noted_grows, type_noted}
 use Rattle.codegen_base.proofs.Splits.{channel_is}
 use Rattle.codegen_base.proofs.Typing.{Free, broken, not_false}
 use Rattle.codegen_fine.proofs.Operands.{Grounds, Housed, shape_within}
-use Rattle.codegen_fine.proofs.Operations.{Functions, MakesNoted}
+use Rattle.codegen_fine.proofs.Operations.{MakesNoted}
 use Rattle.codegen_fine.proofs.Rights.{RightNoted}
 
 -- a type that is written in a scope is the same outside of all
@@ -55,7 +55,7 @@ module _ (globals : Globals) (elements : List Element) (code : Code) (f : CodeFu
   noted_there (StructType n) noted = grounds.structs_there n
   noted_there (ChannelType d c) noted = one_there (kinds.Chan (shape_of elements c)) (shape_within globals elements code f grounds d c noted)
 
-  module _ (scope : Scope) (housed : Housed globals elements f scope) (s : Scope) (alike : Sees s scope) (functions : Functions globals elements code) where
+  module _ (scope : Scope) (housed : Housed globals elements f scope) (s : Scope) (alike : Sees s scope) where
     -- a type with which nothing is wrong
     pub written : (kind : TypeExpression) (first : ℕ) → Free (TypeHas (type_in globals.types s kind) first) → (t : ValueType) × (type_in globals.types s kind ≡ Some t)
     written kind first free = go (type_in globals.types s kind) refl where
@@ -63,7 +63,7 @@ module _ (globals : Globals) (elements : List Element) (code : Code) (f : CodeFu
       go None is = let b = broken rules.Visible (first + 1) (omega arith) in absurd (free b.0 (subst (λ o. TypeHas o first b.0) (sym is) b.1))
       go (Some t) is = (t, is)
 
-    make_noted : (kind : TypeExpression) (size : Option Expression) (first : ℕ) → Free (OperationHas globals s first (Make kind size)) → (all : List Element) → Grows (noting globals.types kind all) elements → MakesNoted globals elements code f grounds scope housed s alike functions (Make kind size)
+    make_noted : (kind : TypeExpression) (size : Option Expression) (first : ℕ) → Free (OperationHas globals s first (Make kind size)) → (all : List Element) → Grows (noting globals.types kind all) elements → MakesNoted globals elements code f grounds scope housed s alike (Make kind size)
     make_noted kind size first free all g =
         let (t, is) = written kind first (λ flaw h. free flaw (inl h)) in
         let end = first + operation_size (Make kind size) in
@@ -72,7 +72,7 @@ module _ (globals : Globals) (elements : List Element) (code : Code) (f : CodeFu
         let here-is : type_in globals.types scope kind ≡ Some t = sym (type_sees s scope alike globals.types kind) ∙ is in
         (d, c, ap known here-is ∙ channel, subst (Noted elements) channel (written_noted globals.types elements all scope kind t g here-is))
 
-    pub right_noted : (right : Right) (first : ℕ) → Free (RightHas globals s first right) → (all : List Element) → Grows (noting_right globals.types right all) elements → RightNoted globals elements code f grounds scope housed s alike functions right
+    pub right_noted : (right : Right) (first : ℕ) → Free (RightHas globals s first right) → (all : List Element) → Grows (noting_right globals.types right all) elements → RightNoted globals elements code f grounds scope housed s alike right
     right_noted (Values values) first free all g = tt
     right_noted (RightOperation (Call a b)) first free all g = tt
     right_noted (RightOperation (Receive a)) first free all g = tt

@@ -9,7 +9,7 @@ use Rattle.type_table.specs.Types.{ValueType}
 use Rattle.type_table.specs.Scopes.{Globals, Yield, type_in}
 use Rattle.typing_rules.specs.Statements.{head_simple}
 use Rattle.meaning.specs.Values.{known}
-use Rattle.meaning.specs.Destinations.{number_of}
+use Rattle.meaning.specs.Expressions.{number_of}
 use Rattle.codegen_base.specs.declared.element.Element.{Element}
 use Rattle.codegen_base.specs.Elements.{kinds_of}
 use Rattle.codegen_base.specs.Layouts.{Layout, entering, keeping, carried}

@@ -1,6 +1,6 @@
 -- What the code of operands and operators pushes, by what the operands are worth.
 use Rattle.std.specs.Int.{w64, int_wrap}
-use Rattle.std.proofs.Common.{◌≡◌, ℕ, ℤ, ◌+◌, ◌<◌, ◌≤◌, Bool, true, false, ◌||◌, List, ◌++◌, length, Some, Ok, refl, sym, ap, ◌∙◌, subst, slice_get, slice_range, ◌⊎◌, inl, inr, ⊎_elim}
+use Rattle.std.proofs.Common.{◌≡◌, ℕ, ℤ, ◌+◌, ◌<◌, ◌≤◌, Bool, true, false, ◌||◌, List, [], ◌∷◌, ◌++◌, length, map, Option, Some, Ok, refl, sym, ap, ◌∙◌, subst, slice_get, slice_range, ◌⊎◌, inl, inr, ⊎_elim}
 use Rattle.std.specs.Prelude.{if◌then◌else◌}
 use Rattle.std.proofs.lemmas.Bool.{or_cases}
 use Rattle.std.proofs.lemmas.Option.{slice_get_within}
@@ -15,8 +15,11 @@ use Rattle.bytecode.specs.Code.{Function as CodeFunction, Code}
 use Rattle.bytecode.specs.Rules.{AreThere}
 use Rattle.word.specs.declared.apply.Op.TheVariants as ops
 use Rattle.type_table.specs.Types.{ValueType, IntType, BoolType, StructType, ChannelType, assignable}
-use Rattle.type_table.specs.Containment.{Field, fields_of}
-use Rattle.type_table.specs.Scopes.{Globals, Scope, Variable, variable_named}
+use Rattle.type_table.specs.Containment.{Field, Structs, fields_of}
+use Rattle.type_table.specs.Scopes.{Globals, Scope, Variable, Yields, variable_named, function_number}
+use Rattle.typing_rules.specs.Calls.{parameters_of, result_of}
+use Rattle.bytecode.specs.Effects.{params_in, results_in}
+use Rattle.codegen_base.specs.Generated.{result_kinds}
 use Rattle.typing_rules.specs.Worths.{Worth, Typed as TypedWorth, Constant, Nil, is_equality, is_order, is_logical, is_not, made_type, if_good, are_comparable, unary_worth, binary_worth}
 use Rattle.typing_rules.specs.Expressions.{default_type}
 use Rattle.meaning.specs.Values.{known}
@@ -25,8 +28,9 @@ use Rattle.codegen_base.specs.Elements.{kinds_of, shape_of, shapes_of}
 use Rattle.codegen_base.specs.Pushes.{operator_of, elements_shape, valued, compared, settled, signed, between, operates}
 use Rattle.codegen_base.proofs.Fields.{AllWide, AllTyped}
 use Rattle.codegen_base.proofs.Noted.{Noted, shape_there}
-use Rattle.codegen_base.proofs.Known.{FieldsNoted}
-use Rattle.codegen_base.proofs.Typing.{FieldsKnown, VariablesKnown, Fits}
+use Rattle.codegen_base.proofs.Known.{FieldsNoted, ResultsNoted}
+use Rattle.codegen_base.proofs.Typing.{TypesKnown, VariablesKnown, Fits}
+use Rattle.codegen_base.proofs.Called.{KindsKnown}
 use Rattle.codegen_base.proofs.Splits.{plain_plan, equality_plain, constants_compare, made_logical, channel_is, unary_typed, Operands, Ints, Bools, Channels, Truths, typed_operands, left_operand, right_operand, nil_right, nil_left, two_constants}
 use Rattle.plan.specs.Plan.{Plan, Do}
 use Rattle.plan.proofs.Typed.{Typed}
@@ -52,15 +56,36 @@ carried_compared operator d g s t k eq made = go (is_equality operator) eq (good
   go true e h = two h
   go false e h = absurd cc
 
+-- the kinds of values of these types, one behind the other
+abbrev pub all_kinds : Structs → List Element → List ValueType → List WordKind
+all_kinds structs elements [] = []
+all_kinds structs elements (kind ∷ types) = kinds_of structs elements kind ++ all_kinds structs elements types
+
+abbrev pub AllNoted : List Element → List ValueType → Type 0
+AllNoted elements [] = Unit {0}
+AllNoted elements (kind ∷ types) = Noted elements kind × AllNoted elements types
+
+-- what is so of the functions of a program: the code's are there, with the kinds of their parameters and results, which are noted
+pub record Functions (globals : Globals) (elements : List Element) (code : Code) : Type 0 where
+  pub there : (name : List ℕ) (n : ℕ) → function_number globals.functions name ≡ Some n → n < length code.functions
+  pub params : (n : ℕ) → params_in (slice_get code.functions n) ≡ all_kinds globals.structs elements (map known (parameters_of globals n))
+  pub results : (n : ℕ) → results_in (slice_get code.functions n) ≡ result_kinds globals elements (result_of globals n)
+  pub noted : (n : ℕ) → AllNoted elements (map known (parameters_of globals n))
+  pub known_kinds : (n : ℕ) → KindsKnown (parameters_of globals n)
+  pub result_known : (n : ℕ) (kind : Option ValueType) → result_of globals n ≡ Yields kind → kind ≡ Some (known kind)
+  pub result_noted : (n : ℕ) (kind : Option ValueType) → result_of globals n ≡ Yields kind → Noted elements (known kind)
+
 -- what is so of a program: its structs' words are known, and the elements of its channels are noted
 pub record Grounds (globals : Globals) (elements : List Element) (code : Code) : Type 0 where
   pub wide : AllWide globals.structs
   pub typed : (n : ℕ) → AllTyped globals.structs (fields_of globals.structs n)
-  pub fields_known : (s : Scope) → FieldsKnown globals s
+  pub types_known : TypesKnown globals
   pub fields_noted : FieldsNoted elements globals
+  pub results_noted : ResultsNoted elements globals
   pub literals_noted : (n : ℕ) (m : ℕ) (field : Field) → slice_get (fields_of globals.structs n) m ≡ Some field → Noted elements (known field.kind)
   pub shapes : code.shapes ≡ shapes_of globals.structs elements
   pub structs_there : (n : ℕ) → AreThere code (kinds_of globals.structs elements (StructType n))
+  pub functions : Functions globals elements code
 
 -- each variable that is visible has a type, of whose kinds its locals are, and whose elements are noted
 pub record Housed (globals : Globals) (elements : List Element) (f : CodeFunction) (scope : Scope) : Type 0 where

@@ -15,7 +15,7 @@ use Rattle.typing_rules.specs.Worths.{Worth, Typed as TypedWorth, Constant, Nil,
 use Rattle.typing_rules.specs.Expressions.{nodes_of, element_of, ChannelHas, default_type, ExpressionHas}
 use Rattle.typing_rules.specs.Operations.{parameters_of, result_of, CallHas, OperationHas, SizeHas, IfSizeHas, ReceiveHas}
 use Rattle.meaning.specs.Values.{known}
-use Rattle.meaning.specs.Destinations.{number_of}
+use Rattle.meaning.specs.Expressions.{number_of}
 use Rattle.codegen_base.specs.declared.element.Element.{Element}
 use Rattle.codegen_base.specs.Elements.{kinds_of, shape_of}
 use Rattle.codegen_base.specs.Generated.{result_kinds}
@@ -51,7 +51,7 @@ channel_of BoolType o is never = absurd (never (sym is))
 channel_of (StructType n) o is never = absurd (never (sym is))
 
 module _ (globals : Globals) (elements : List Element) (code : Code) (f : CodeFunction) (grounds : Grounds globals elements code) where
-  module _ (scope : Scope) (housed : Housed globals elements f scope) (s : Scope) (alike : Sees s scope) (functions : Functions globals elements code) where
+  module _ (scope : Scope) (housed : Housed globals elements f scope) (s : Scope) (alike : Sees s scope) where
     abbrev PK : ValueType → (Plan → Plan) → Type 0
     PK kind push = P globals elements code f grounds kind push
 
@@ -80,7 +80,7 @@ module _ (globals : Globals) (elements : List Element) (code : Code) (f : CodeFu
         subst (λ o. Typed code f a ks (settled elements o (known (default_type o)) (emits globals elements scope e rest) rest) out) (sym w) (typed_emits globals elements code f grounds scope housed s alike e first free k w a ks out rest t)
 
     pub channel_there : (e : Expression) (first : ℕ) → Free (ExpressionHas globals s first e) → Free (ChannelHas (worth globals s e) (nodes_of first e)) → IsChannel e
-    channel_there e first free channel = let w = worth_there globals s (grounds.fields_known s) (known_sees s scope alike housed.known) e first free in go w.0 w.1 (sym (checked e) ∙ w.1) where
+    channel_there e first free channel = let w = worth_there globals s grounds.types_known (known_sees s scope alike housed.known) e first free in go w.0 w.1 (sym (checked e) ∙ w.1) where
       never : (w : Worth) → worth globals s e ≡ Some w → element_of (Some w) ≡ None → ⊥
       never w is none = let b = broken rules.Channel (nodes_of first e).end (nodes_end first e) in channel b.0 (subst (λ o. ChannelHas o (nodes_of first e) b.0) (sym is) (none, b.1))
 
@@ -118,7 +118,7 @@ module _ (globals : Globals) (elements : List Element) (code : Code) (f : CodeFu
 
     pub call_there : (function : List ℕ) (arguments : Arguments) (first : ℕ) → Free (CallHas globals s first function arguments) → IsCall function arguments.values
     call_there function arguments first free =
-        let c = calls globals s (grounds.fields_known s) (known_sees s scope alike housed.known) functions.known_kinds function arguments first free in
+        let c = calls globals s grounds.types_known (known_sees s scope alike housed.known) functions.known_kinds function arguments first free in
         record {
           number = c.number;
           is = c.numbered;
@@ -159,7 +159,7 @@ module _ (globals : Globals) (elements : List Element) (code : Code) (f : CodeFu
     size_pushed : (size : Option Expression) (first : ℕ) → Free (IfSizeHas globals s first size) → PS (kinds.Int ∷ []) (pushes_size globals elements scope size)
     size_pushed None first free = puts_int globals.structs elements code f (pos 0)
     size_pushed (Some size) first free =
-        let w = worth_there globals s (grounds.fields_known s) (known_sees s scope alike housed.known) size first (λ flaw h. free flaw (inl h)) in
+        let w = worth_there globals s grounds.types_known (known_sees s scope alike housed.known) size first (λ flaw h. free flaw (inl h)) in
         let fit = size_fits w.0 size first (λ flaw h. free flaw (inr (subst (λ o. SizeHas o (nodes_of first size) flaw) (sym w.1) h))) in
         typed_pushes globals elements code f grounds scope housed s alike size first (λ flaw h. free flaw (inl h)) w.0 IntType (sym (checked size) ∙ w.1) fit tt
 

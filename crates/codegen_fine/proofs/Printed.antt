@@ -56,7 +56,7 @@ module _ (globals : Globals) (elements : List Element) where
       typed_parts [] first free a ks out rest t = subst (λ (l : List WordKind). Typed code f a l rest out) (append-nil ks) t
       typed_parts (Text bytes ∷ others) first free a ks out rest t = typed_parts others (first + part_size (Text bytes)) (λ flaw h. free flaw (inr h)) a ks out rest t
       typed_parts (ValuePart value ∷ others) first free a ks out rest t =
-          let w = worth_there globals s (grounds.fields_known s) (known_sees s scope alike housed.known) value first (λ flaw h. free flaw (inl (inl h))) in
+          let w = worth_there globals s grounds.types_known (known_sees s scope alike housed.known) value first (λ flaw h. free flaw (inl (inl h))) in
           let here-is : worth globals scope value ≡ Some w.0 = sym (worth_sees s scope alike globals value) ∙ w.1 in
           let p = printable w.0 (nodes_of first value) (nodes_end first value) (λ flaw h. free flaw (inl (inr (subst (λ o. PrintedHas o (nodes_of first value) flaw) (sym w.1) h)))) in
           let kind = known (default_type (Some w.0)) in

@@ -17,7 +17,6 @@ use Rattle.plan.specs.Plan.{tables, table_count}
 use Rattle.plan.proofs.Lists.{behind}
 use Rattle.plan.proofs.Tables.{all_made, tables_size}
 use Rattle.codegen_fine.proofs.Operands.{Grounds}
-use Rattle.codegen_fine.proofs.Operations.{Functions}
 use Rattle.codegen_fine.proofs.Simples.{Prints}
 use Rattle.codegen_base.proofs.Noting.{tops_grow}
 use Rattle.codegen_fine.proofs.Bodies.{prints_front, prints_back}
@@ -34,11 +33,11 @@ hold_more code f functions own selects one shapes others = record { each = each;
   each zero h e = subst (Holds code) (same_Some f h e) one
   each (suc g) h e = others.each g h e
 
-module _ (globals : Globals) (elements : List Element) (code : Code) (grounds : Grounds globals elements code) (functions : Functions globals elements code) where
+module _ (globals : Globals) (elements : List Element) (code : Code) (grounds : Grounds globals elements code) where
   abbrev pub AllFine : List Top → Type 0
   AllFine [] = Unit {0}
   AllFine (StructTop struct ∷ rest) = AllFine rest
-  AllFine (FunctionTop function ∷ rest) = IsFine globals elements code grounds functions function × AllFine rest
+  AllFine (FunctionTop function ∷ rest) = IsFine globals elements code grounds function × AllFine rest
 
   pub functions_hold : (tops : List Top) (prints selects first : ℕ) → AllFine tops → Free (BodiesHave globals first tops) → (all : List Element) → Grows (noting_tops globals.types tops all) elements → Prints code prints (all_prints globals elements prints selects tops)
       → drop selects code.selects ≡ all_selects globals elements prints selects tops → AllHold code (functions_code globals elements prints selects tops) (all_selects globals elements prints selects tops)
@@ -51,14 +50,14 @@ module _ (globals : Globals) (elements : List Element) (code : Code) (grounds : 
       let more = all_prints globals elements (prints + length m.prints) (selects + table_count m.plan) rest in
       let next = all_selects globals elements (prints + length m.prints) (selects + table_count m.plan) rest in
       let left = ap (λ n. drop (selects + n) code.selects) (sym (tables_size m.plan 0)) ∙ behind code.selects selects (tables 0 m.plan) next selects-of in
-      let one = typed_function globals elements code grounds functions function fine.0 prints selects first (λ flaw h. free flaw (inl h)) (noting_any globals.types function.result (noting_declared globals.types function.parameters all))
+      let one = typed_function globals elements code grounds function fine.0 prints selects first (λ flaw h. free flaw (inl h)) (noting_any globals.types function.result (noting_declared globals.types function.parameters all))
       (grows_on noted (noting_tops globals.types rest noted) elements (tops_grow globals.types rest noted) grows) (prints_front code prints m.prints more tables-of) next selects-of in
       let others = functions_hold rest (prints + length m.prints) (selects + table_count m.plan) (first + top_size (FunctionTop function)) fine.1 (λ flaw h. free flaw (inr h)) noted grows (prints_back code prints m.prints more tables-of) left in
       hold_more code (function_code globals elements function m) (functions_code globals elements (prints + length m.prints) (selects + table_count m.plan) rest) (tables 0 m.plan) next one.0 (all_made (HasShapes code) m.plan 0 one.1) others
 
 -- the functions of the code of a file that the checker takes
-pub file_functions : (file : File) (grounds : Grounds (globals_of file.tops) (elements_of file) (code_of file)) (functions : Functions (globals_of file.tops) (elements_of file) (code_of file)) → AllFine (globals_of file.tops) (elements_of file) (code_of file) grounds functions file.tops → Free (FileHas file)
+pub file_functions : (file : File) (grounds : Grounds (globals_of file.tops) (elements_of file) (code_of file)) (functions : Functions (globals_of file.tops) (elements_of file) (code_of file)) → AllFine (globals_of file.tops) (elements_of file) (code_of file) grounds file.tops → Free (FileHas file)
     → AllHold (code_of file) (code_of file).functions (code_of file).selects
-file_functions file grounds functions fine free =
-    functions_hold (globals_of file.tops) (elements_of file) (code_of file) grounds functions file.tops 0 0 0 fine (λ flaw h. free flaw (inr (inr h))) [] (grows_no (elements_of file))
+file_functions file grounds fine free =
+    functions_hold (globals_of file.tops) (elements_of file) (code_of file) grounds file.tops 0 0 0 fine (λ flaw h. free flaw (inr (inr h))) [] (grows_no (elements_of file))
     (λ n x is. let z : 0 + n ≡ n = omega arith in subst (λ k. slice_get (code_of file).prints k ≡ Some x) (sym z) is) refl

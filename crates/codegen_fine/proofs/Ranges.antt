@@ -35,7 +35,7 @@ use Rattle.plan.proofs.Typed.{in_loop, Typed}
 use Rattle.codegen_fine.proofs.Sees.{worth_sees}
 use Rattle.codegen_fine.proofs.Pushing.{drops_typed, puts_locals}
 use Rattle.codegen_fine.proofs.Operands.{Grounds}
-use Rattle.codegen_fine.proofs.Operations.{Functions, channel_there}
+use Rattle.codegen_fine.proofs.Operations.{channel_there}
 use Rattle.codegen_fine.proofs.Requests.{receives_typed}
 use Rattle.codegen_fine.proofs.Spots.{SpotFits, stand_range, stores_typed, ticks_typed}
 use Rattle.codegen_fine.proofs.Places.{housed_of}
@@ -87,7 +87,7 @@ place_taken globals elements scope place kind = go (is_blank place.name) where
   go true = refl
   go false = refl
 
-module _ (globals : Globals) (elements : List Element) (code : Code) (f : CodeFunction) (grounds : Grounds globals elements code) (functions : Functions globals elements code) where
+module _ (globals : Globals) (elements : List Element) (code : Code) (f : CodeFunction) (grounds : Grounds globals elements code) where
   abbrev kinds_in : ValueType → List WordKind
   kinds_in = kinds_of globals.structs elements
 
@@ -110,7 +110,7 @@ module _ (globals : Globals) (elements : List Element) (code : Code) (f : CodeFu
       record { taken = drops_typed globals.structs elements code f (kinds_in kind) in_loop [] [] Skip refl; room = room; alike = alike }
   goes layout room s alike fresh kind noted item (DefineTarget name) first end is le free fit_goes begins _ =
       let names = name ∷ [] in
-      let n = names_fit globals elements code f grounds names (alike_values names kind) layout layout (entered s) room begins alike (own_same layout.scope names) (one_once name) (taken_alike globals elements code f grounds functions layout.scope names kind noted) in
+      let n = names_fit globals elements code f grounds names (alike_values names kind) layout layout (entered s) room begins alike (own_same layout.scope names) (one_once name) (taken_alike globals elements code f grounds layout.scope names kind noted) in
       let after = variables_are globals elements names kind (entered s) (entered s) alike.fits (own_same (entered s) names) (new_entered s name, tt) (one_once name) in
       record {
         taken = stored layout kind (name_spot globals elements layout name kind) (kinds_in (name_type globals elements kind (own_variable layout.scope name))) (ap (λ o. kinds_in (name_type globals elements kind o)) (fresh name)) n.fit.0;
@@ -120,9 +120,9 @@ module _ (globals : Globals) (elements : List Element) (code : Code) (f : CodeFu
   goes layout room s alike fresh kind noted item (AssignTarget place) first end is le free fit_goes begins _ =
       let places = place ∷ [] in
       let fine : Free (PlacesHave globals (entered s) first places) = λ flaw h. one_of (PlaceHas globals (entered s) first place flaw) (free flaw) h in
-      let t = typed_taken globals elements (place_want globals layout.scope place) kind item is le (places_noted globals elements code f grounds functions layout.scope room.housed (entered s) alike.named places first fine) noted
-      (λ flaw h. one_of (GoesHas (is_blank place.name) item (place_type globals (entered s) place) flaw) (fit_goes flaw) (places_fail globals elements code f grounds functions layout.scope room.housed (entered s) alike.named places first (item ∷ []) flaw fine (inl h))) in
-      let fitting = places_fit globals elements code f grounds functions layout.scope room.housed (entered s) alike.named places first (kind ∷ []) fine in
+      let t = typed_taken globals elements (place_want globals layout.scope place) kind item is le (places_noted globals elements code f grounds layout.scope room.housed (entered s) alike.named places first fine) noted
+      (λ flaw h. one_of (GoesHas (is_blank place.name) item (place_type globals (entered s) place) flaw) (fit_goes flaw) (places_fail globals elements code f grounds layout.scope room.housed (entered s) alike.named places first (item ∷ []) flaw fine (inl h))) in
+      let fitting = places_fit globals elements code f grounds layout.scope room.housed (entered s) alike.named places first (kind ∷ []) fine in
       record {
         taken = stored layout kind (place_spot globals elements layout.scope place kind) (kinds_in (taken_type globals elements layout.scope place kind)) (ap kinds_in (place_taken globals elements layout.scope place kind) ∙ t.same) fitting.0;
         room = room;
@@ -130,12 +130,12 @@ module _ (globals : Globals) (elements : List Element) (code : Code) (f : CodeFu
       }
 
   module _ (result : Yield) (yields : IsResult globals elements f result) where
-    pub typed_ranges : RangesHold globals elements code f grounds functions result yields
+    pub typed_ranges : RangesHold globals elements code f grounds result yields
     typed_ranges target channel body site s a first end le room alike free fits body-made =
         let layout = site.layout in
         let at = first + target_size target in
         let housed = housed_of globals elements f layout.scope room.housed in
-        let c = channel_there globals elements code f grounds layout.scope housed (entered s) alike.named functions channel at (λ flaw h. free flaw (inr (inl (inl h)))) (λ flaw h. free flaw (inr (inl (inr (inl h))))) in
+        let c = channel_there globals elements code f grounds layout.scope housed (entered s) alike.named channel at (λ flaw h. free flaw (inr (inl (inl h)))) (λ flaw h. free flaw (inr (inl (inr (inl h))))) in
         let kind = carried globals elements layout.scope channel in
         let whole = ChannelType c.direction c.element in
         let own : type_of globals elements layout.scope channel ≡ whole = ap (λ o. known (default_type o)) c.is in

@@ -23,7 +23,6 @@ use Rattle.plan.proofs.Typed.{Allowed, Typed}
 use Rattle.codegen_fine.proofs.Sees.{Sees, worth_sees, known_sees}
 use Rattle.codegen_fine.proofs.WordKinds.{assignable_kinds}
 use Rattle.codegen_fine.proofs.Operands.{Grounds}
-use Rattle.codegen_fine.proofs.Operations.{Functions}
 use Rattle.codegen_fine.proofs.Branches.{typed_return}
 use Rattle.codegen_fine.proofs.Places.{housed_of}
 use Rattle.codegen_fine.proofs.Givens.{operation_end, typed_one}
@@ -36,7 +35,7 @@ pub record IsResult (globals : Globals) (elements : List Element) (f : CodeFunct
   pub known_kind : (kind : Option ValueType) → result ≡ Yields kind → kind ≡ Some (known kind)
   pub noted : (kind : Option ValueType) → result ≡ Yields kind → Noted elements (known kind)
 
-module _ (globals : Globals) (elements : List Element) (code : Code) (f : CodeFunction) (grounds : Grounds globals elements code) (functions : Functions globals elements code) where
+module _ (globals : Globals) (elements : List Element) (code : Code) (f : CodeFunction) (grounds : Grounds globals elements code) where
   module _ (layout : Layout) (room : Room globals elements code f layout) (s : Scope) (sees : Sees s layout.scope) where
     pub typed_returned : (result : Yield) → IsResult globals elements f result → (returned : Returned) (first : ℕ) → Free (ReturnStatementHas globals result s first returned) → (all : List Element) → Grows (noting_returned globals.types returned all) elements → (a : Allowed) (out : List WordKind)
         → Typed code f a [] (return_plan globals elements result layout returned) out
@@ -45,12 +44,12 @@ module _ (globals : Globals) (elements : List Element) (code : Code) (f : CodeFu
     typed_returned NoResult r (ReturnedOperation operation) first free all g a out = let b = broken rules.Returned (first + (returned_size (ReturnedOperation operation) + 1)) (omega arith) in absurd (free b.0 (inr b.1))
     typed_returned NoResult r (ReturnedValue value) first free all g a out = let b = broken rules.Returned (first + (returned_size (ReturnedValue value) + 1)) (omega arith) in absurd (free b.0 (inr b.1))
     typed_returned (Yields kind) r (ReturnedValue value) first free all g a out =
-        let (w, is) = worth_there globals s (grounds.fields_known s) (known_sees s layout.scope sees (housed_of globals elements f layout.scope room.housed).known) value first (λ flaw h. free flaw (inl h)) in
+        let (w, is) = worth_there globals s grounds.types_known (known_sees s layout.scope sees (housed_of globals elements f layout.scope room.housed).known) value first (λ flaw h. free flaw (inl h)) in
         let fit = fits w (known kind) (nodes_of first value) (nodes_end first value) (λ flaw h. free flaw (inr (subst (λ o. ValueHas (worth globals s value) o (nodes_of first value) flaw) (sym (r.known_kind kind refl)) (subst (λ o. ValueHas o (Some (known kind)) (nodes_of first value) flaw) (sym is) h)))) in
         typed_return globals elements code f grounds layout.scope (housed_of globals elements f layout.scope room.housed) s sees value first (λ flaw h. free flaw (inl h)) w (known kind) (sym (worth_sees s layout.scope sees globals value) ∙ is) fit (r.noted kind refl) (sym r.kinds_are) a out
     typed_returned (Yields kind) r (ReturnedOperation operation) first free all g a out =
         let housed = housed_of globals elements f layout.scope room.housed in
-        let one = typed_one globals elements code f grounds layout.scope housed s sees functions operation first (λ flaw h. free flaw (inl h)) (right_noted globals elements code f grounds layout.scope housed s sees functions (RightOperation operation) first (λ flaw h. free flaw (inl h)) all g) in
+        let one = typed_one globals elements code f grounds layout.scope housed s sees operation first (λ flaw h. free flaw (inl h)) (right_noted globals elements code f grounds layout.scope housed s sees (RightOperation operation) first (λ flaw h. free flaw (inl h)) all g) in
         let value = given_by first operation (operation_type globals s operation) in
         let fit = fits (TypedWorth one.kind) (known kind) value.nodes (operation_end first operation)
         (λ flaw h. free flaw (inr (subst (λ o. ValueHas value.worth o value.nodes flaw) (sym (r.known_kind kind refl)) (subst (λ o. ValueHas (option_map TypedWorth o) (Some (known kind)) value.nodes flaw) (sym one.is) h)))) in

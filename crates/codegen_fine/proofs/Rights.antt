@@ -26,7 +26,7 @@ use Rattle.plan.specs.Plan.{Plan}
 use Rattle.codegen_fine.proofs.Pushing.{Puts}
 use Rattle.codegen_fine.proofs.Operands.{Grounds, Housed}
 use Rattle.codegen_fine.proofs.Emitted.{all_kinds, typed_pushes_all}
-use Rattle.codegen_fine.proofs.Operations.{Functions, MakesNoted, channel_there, typed_received}
+use Rattle.codegen_fine.proofs.Operations.{MakesNoted, channel_there, typed_received}
 use Rattle.codegen_fine.proofs.Givens.{HasDefault, WellTaken, WantsFail, WantsNoted, taken, taken_all, operation_alike, operation_end, typed_taken, first_noted, values_fit, typed_one}
 
 pub default_typed : (o : Option ValueType) → default_type (option_map TypedWorth o) ≡ o
@@ -38,7 +38,7 @@ values_many globals s [] m = refl
 values_many globals s (value ∷ rest) m = ap suc (values_many globals s rest (m + expression_size value))
 
 module _ (globals : Globals) (elements : List Element) (code : Code) (f : CodeFunction) (grounds : Grounds globals elements code) where
-  module _ (scope : Scope) (housed : Housed globals elements f scope) (s : Scope) (alike : Sees s scope) (functions : Functions globals elements code) where
+  module _ (scope : Scope) (housed : Housed globals elements f scope) (s : Scope) (alike : Sees s scope) where
     abbrev kinds_in : ValueType → List WordKind
     kinds_in = kinds_of globals.structs elements
 
@@ -46,7 +46,7 @@ module _ (globals : Globals) (elements : List Element) (code : Code) (f : CodeFu
     PS js push = Puts globals.structs elements code f js push
 
     abbrev pub RightNoted : Right → Type 0
-    RightNoted (RightOperation operation) = MakesNoted globals elements code f grounds scope housed s alike functions operation
+    RightNoted (RightOperation operation) = MakesNoted globals elements code f grounds scope housed s alike operation
     RightNoted (Values values) = Unit {0}
 
     -- what is taken of values is pushed
@@ -68,12 +68,12 @@ module _ (globals : Globals) (elements : List Element) (code : Code) (f : CodeFu
     one_default operation kind is noted = subst (λ o. HasDefault elements (option_map TypedWorth o)) (sym is) (refl, noted)
 
     takes_one : (operation : Operation) (first end count : ℕ) (wants : List (Option ValueType)) → 1 ≤ end → length wants ≡ count → WantsNoted elements wants → Free (OperationHas globals s first operation) → Free (NumbersHave 1 count end)
-        → Free (WantsFail wants (given_by first operation (operation_type globals s operation) ∷ [])) → MakesNoted globals elements code f grounds scope housed s alike functions operation
+        → Free (WantsFail wants (given_by first operation (operation_type globals s operation) ∷ [])) → MakesNoted globals elements code f grounds scope housed s alike operation
         → TakesGiven count wants (given_by 0 operation (operation_type globals scope operation) ∷ []) (λ types. pushes_one globals elements scope operation)
     takes_one operation first end count [] le long noted free numbers fail makes = absurd (omega (arith, long, same_count 1 count end le numbers))
     takes_one operation first end count (want ∷ other ∷ more) le long noted free numbers fail makes = absurd (omega (arith, long, same_count 1 count end le numbers))
     takes_one operation first end count (want ∷ []) le long noted free numbers fail makes =
-        let g = typed_one globals elements code f grounds scope housed s alike functions operation first free makes in
+        let g = typed_one globals elements code f grounds scope housed s alike operation first free makes in
         let one : one_type operation ≡ g.kind = ap (λ o. known (default_type (option_map TypedWorth o))) (sym (operation_alike globals elements s scope alike operation) ∙ g.is) in
         let x = typed_taken globals elements want g.kind (given_by first operation (operation_type globals s operation)) (ap (option_map TypedWorth) g.is) (operation_end first operation) (first_noted globals elements want [] noted).0 g.noted (λ flaw h. fail flaw (inl h)) in
         record {
@@ -93,7 +93,7 @@ module _ (globals : Globals) (elements : List Element) (code : Code) (f : CodeFu
     takes_two channel first end count (want ∷ []) le long noted free numbers fail = absurd (omega (arith, long, same_count 2 count end le numbers))
     takes_two channel first end count (want ∷ other ∷ third ∷ more) le long noted free numbers fail = absurd (omega (arith, long, same_count 2 count end le numbers))
     takes_two channel first end count (want ∷ other ∷ []) le long noted free numbers fail =
-        let c = channel_there globals elements code f grounds scope housed s alike functions channel first (λ flaw h. free flaw (inl h)) (λ flaw h. free flaw (inr (inl h))) in
+        let c = channel_there globals elements code f grounds scope housed s alike channel first (λ flaw h. free flaw (inl h)) (λ flaw h. free flaw (inr (inl h))) in
         let n = first_noted globals elements want (other ∷ []) noted in
         let is : operation_type globals s (Receive channel) ≡ Some c.element = ap element_of (worth_sees s scope alike globals channel ∙ c.is) in
         let x = typed_taken globals elements want c.element (given_by first (Receive channel) (operation_type globals s (Receive channel))) (ap (option_map TypedWorth) is) (operation_end first (Receive channel)) n.0 c.noted.0 (λ flaw h. fail flaw (inl h)) in
@@ -108,7 +108,7 @@ module _ (globals : Globals) (elements : List Element) (code : Code) (f : CodeFu
             many = same_count 2 count end le numbers;
             well = (λ e. one_default (Receive channel) c.element (ap element_of c.is) c.noted.0, (λ e. (refl, tt), tt));
             pushed = subst (λ k. PS (kinds_in (taken want k) ++ (kinds_in (taken other BoolType) ++ [])) push) (sym one)
-                (subst (λ (l : List WordKind). PS l push) (sym both) (typed_received globals elements code f grounds scope housed s alike functions channel first free));
+                (subst (λ (l : List WordKind). PS l push) (sym both) (typed_received globals elements code f grounds scope housed s alike channel first free));
           };
           same = ap (λ (l : List WordKind). l ++ (kinds_in (taken other BoolType) ++ [])) (subst (λ k. kinds_in (taken want k) ≡ kinds_in k) (sym one) x.same) ∙ ap (λ (l : List WordKind). kinds_in (one_type (Receive channel)) ++ (l ++ [])) y.same;
         }
@@ -117,7 +117,7 @@ module _ (globals : Globals) (elements : List Element) (code : Code) (f : CodeFu
     both_given two first x operation = given_by first operation (operation_type globals x operation) ∷ (if two then given_by first operation (Some BoolType) ∷ [] else [])
 
     takes_operation : (operation : Operation) (first end count : ℕ) (wants : List (Option ValueType)) (two : Bool) → (two ≡ true → is_receive operation ≡ true) → 1 ≤ end → length wants ≡ count → WantsNoted elements wants → Free (OperationHas globals s first operation)
-        → Free (NumbersHave (length (both_given two first s operation)) count end) → Free (WantsFail wants (both_given two first s operation)) → MakesNoted globals elements code f grounds scope housed s alike functions operation
+        → Free (NumbersHave (length (both_given two first s operation)) count end) → Free (WantsFail wants (both_given two first s operation)) → MakesNoted globals elements code f grounds scope housed s alike operation
         → TakesGiven count wants (both_given two 0 scope operation) (λ types rest. if two then pushes_operation globals elements scope operation rest else pushes_one globals elements scope operation rest)
     takes_operation operation first end count wants false receives le long noted free numbers fail makes = takes_one operation first end count wants le long noted free numbers fail makes
     takes_operation (Receive channel) first end count wants true receives le long noted free numbers fail makes = takes_two channel first end count wants le long noted free numbers fail

@@ -1,12 +1,13 @@
 -- By each name two scopes see a variable of the same type, or none.
-use Rattle.std.proofs.Common.{◌≡◌, ℕ, Bool, true, false, List, Some, None, option_map, refl, ap, ◌∙◌}
-use Rattle.std.specs.Prelude.{option_and_then, if◌then◌else◌}
+use Rattle.std.proofs.Common.{◌≡◌, ℕ, Bool, true, false, List, Some, None, option_map, refl, ap, ◌∙◌, not, ◌&&◌, ◌||◌, bytes_eq}
+use Rattle.std.specs.Prelude.{option_and_then, if◌then◌else◌, codes}
 use Rattle.std.specs.Option.{is_some}
 use Rattle.std.specs.Result.{result_ok}
-use Rattle.syntax.specs.Tree.{TypeExpression, NamedType, ParenthesizedType, Channel, Expression, Integer, Named, Parenthesized, Selection, Composite, Unary, Binary}
+use Rattle.syntax.specs.Tree.{TypeExpression, NamedType, ParenthesizedType, Channel, Expression, Integer, Named, Parenthesized, Selection, Composite, Unary, Binary, Call, Receive, Make, MakeSized, Length, Capacity}
 use Rattle.type_table.specs.Types.{BoolType, StructType, ChannelType}
-use Rattle.type_table.specs.Scopes.{Scope, Globals, is_blank, is_truth, is_nil, last_named, variable_named, number_of, type_in}
-use Rattle.typing_rules.specs.Worths.{Typed, Nil, selected_worth, unary_worth, binary_worth, worth}
+use Rattle.type_table.specs.Scopes.{Scope, Globals, is_blank, is_truth, is_nil, last_named, variable_named, is_reserved, number_of, function_number, type_in}
+use Rattle.typing_rules.specs.Calls.{NoFunction, function_of, result_type, made_of}
+use Rattle.typing_rules.specs.Worths.{Typed, Nil, selected_worth, unary_worth, binary_worth, element_of, worth}
 use Rattle.codegen_base.proofs.Alike.{kind_if, there_alike, kind_alike}
 use Rattle.codegen_base.proofs.Typing.{VariablesKnown}
 use Rattle.codegen_base.proofs.Static.{known_alike}
@@ -42,3 +43,11 @@ module _ (s t : Scope) (sees : Sees s t) where
   worth_sees globals (Binary operator l r) =
       ap (option_and_then (λ x. option_and_then (λ y. result_ok (binary_worth operator x y)) (worth globals s r))) (worth_sees globals l)
       ∙ ap (λ o. option_and_then (λ x. option_and_then (λ y. result_ok (binary_worth operator x y)) o) (worth globals t l)) (worth_sees globals r)
+  worth_sees globals (Call function values trailing) =
+      ap (λ b. option_map Typed (result_type globals (if b || is_some (number_of globals.types function) || (is_reserved function && not (bytes_eq function (codes "init"))) then NoFunction else function_of (function_number globals.functions function))))
+      (there_alike (variable_named s function) (variable_named t function) (variable_sees function))
+  worth_sees globals (Receive channel) = ap (λ o. option_map Typed (element_of o)) (worth_sees globals channel)
+  worth_sees globals (Make kind) = ap (λ o. option_map Typed (made_of o)) (type_sees globals.types kind)
+  worth_sees globals (MakeSized kind size) = ap (λ o. option_map Typed (made_of o)) (type_sees globals.types kind)
+  worth_sees globals (Length channel) = refl
+  worth_sees globals (Capacity channel) = refl

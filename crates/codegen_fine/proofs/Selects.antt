@@ -28,7 +28,6 @@ use Rattle.plan.proofs.Typed.{Allowed, in_select, Typed}
 use Rattle.codegen_fine.proofs.Sees.{Sees, worth_sees}
 use Rattle.codegen_fine.proofs.Pushing.{Puts, puts_both}
 use Rattle.codegen_fine.proofs.Operands.{Grounds}
-use Rattle.codegen_fine.proofs.Operations.{Functions}
 use Rattle.codegen_fine.proofs.Layouts.{Room}
 use Rattle.codegen_fine.proofs.Comms.{comm_fine}
 use Rattle.codegen_base.proofs.Before.{before_tabled, clauses_before}
@@ -52,7 +51,7 @@ alike_clauses globals NoClause s t a = a
 alike_clauses globals (Clause comm body rest) s t a =
     let inner = after_all globals (after_any globals (entered s) (option_map comm_simple comm)) body in alike_clauses globals rest (left s inner) t (alike_step s t inner a)
 
-module _ (globals : Globals) (elements : List Element) (code : Code) (f : CodeFunction) (grounds : Grounds globals elements code) (functions : Functions globals elements code) (result : Yield) where
+module _ (globals : Globals) (elements : List Element) (code : Code) (f : CodeFunction) (grounds : Grounds globals elements code) (result : Yield) where
   abbrev setting : (breaks continues : Bool) → Setting
   setting breaks continues = record { globals = globals; result = result; breaks = breaks; continues = continues }
 
@@ -77,7 +76,7 @@ module _ (globals : Globals) (elements : List Element) (code : Code) (f : CodeFu
     all_puts (Clause (Some comm) body more) s sees b c first [] le free a ks out rest t = absurd (omega (arith, le))
     all_puts (Clause (Some comm) body more) s sees b c first (to ∷ places) le free a ks out rest t =
         let inner = after_any globals (entered s) (Some (comm_simple comm)) in
-        let one = comm_fine globals elements code f grounds functions result layout room (entered s) sees comm first (λ flaw h. free flaw (inl h)) in
+        let one = comm_fine globals elements code f grounds result layout room (entered s) sees comm first (λ flaw h. free flaw (inl h)) in
         puts_both globals.structs elements code f _ (all_clause_kinds code (clauses_at layout more places)) (pushes_comm globals elements result layout comm) (pushes_clauses globals elements result layout more) (one.pushed to)
         (all_puts more (left s (after_all globals inner body)) sees b c (first + comm_size comm + statements_size body + 1) places (omega (arith, le)) (λ flaw h. free flaw (inr (inr h)))) a ks out rest t
 
@@ -89,7 +88,7 @@ module _ (globals : Globals) (elements : List Element) (code : Code) (f : CodeFu
         shapes_named more (left s (after_all globals (entered s) body)) sees b c (first + if_any comm_size None + statements_size body + 1) places (λ flaw h. free flaw (inr (inr h))) n x e
     shapes_named (Clause (Some comm) body more) s sees b c first [] free n x e = absurd cc
     shapes_named (Clause (Some comm) body more) s sees b c first (to ∷ places) free zero x e =
-        let one = comm_fine globals elements code f grounds functions result layout room (entered s) sees comm first (λ flaw h. free flaw (inl h)) in
+        let one = comm_fine globals elements code f grounds result layout room (entered s) sees comm first (λ flaw h. free flaw (inl h)) in
         subst (λ y. clause_shape y < length code.shapes) (same_Some (table_clause globals elements result layout comm to) x e) (one.there to)
     shapes_named (Clause (Some comm) body more) s sees b c first (to ∷ places) free (suc n) x e =
         let inner = after_any globals (entered s) (Some (comm_simple comm)) in
@@ -164,7 +163,7 @@ module _ (globals : Globals) (elements : List Element) (code : Code) (f : CodeFu
           own (to ∷ places) le (suc k) js e = w.kinds_are places (omega (arith, le)) k js e
 
     -- the default
-    pub last_way : (s : Scope) (a : Allowed) (one : Made) → IsMade globals elements code f grounds functions a one → Alike s one.layout.scope → WaysFine s NoClause a (with_way [] one None)
+    pub last_way : (s : Scope) (a : Allowed) (one : Made) → IsMade globals elements code f grounds a one → Alike s one.layout.scope → WaysFine s NoClause a (with_way [] one None)
     last_way s a one m seen = record {
       least = omega arith;
       most = omega arith;
@@ -213,7 +212,7 @@ module _ (globals : Globals) (elements : List Element) (code : Code) (f : CodeFu
         )
 
     pub typed_choice : (site : Site) → site.layout ≡ layout → (s : Scope) (sees : Sees s layout.scope) (clauses : Clauses) (breaks continues : Bool) (first : ℕ) (a : Allowed) (o : Option Made) → Free (ClausesHave (setting breaks continues) s first clauses) → Alike s layout.scope → WaysOf s clauses (in_select a) o
-        → IsMade globals elements code f grounds functions a (made_select globals elements result (record { layout = layout; prints = site.prints; selects = site.selects }) clauses o) × Alike s (made_select globals elements result (record { layout = layout; prints = site.prints; selects = site.selects }) clauses o).layout.scope
+        → IsMade globals elements code f grounds a (made_select globals elements result (record { layout = layout; prints = site.prints; selects = site.selects }) clauses o) × Alike s (made_select globals elements result (record { layout = layout; prints = site.prints; selects = site.selects }) clauses o).layout.scope
     typed_choice site same s sees clauses b c first a None free alike none = (record { runs = λ place tabled. go place tabled; room = room }, alike) where
       go : (place : ℕ) → Tabled code.selects place (pushes_clauses globals elements result layout clauses (Choose site.selects (select_table globals elements result layout clauses) Skip)) → Typed code f a [] (pushes_clauses globals elements result layout clauses (Choose site.selects (select_table globals elements result layout clauses) Skip)) []
       go place tabled =

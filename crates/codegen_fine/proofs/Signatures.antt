@@ -30,7 +30,6 @@ use Rattle.codegen_base.proofs.Typing.{Free}
 use Rattle.plan.specs.Plan.{Stop, table_count}
 use Rattle.codegen_fine.proofs.Operands.{Grounds}
 use Rattle.codegen_fine.proofs.Emitted.{all_kinds, AllNoted}
-use Rattle.codegen_fine.proofs.Operations.{Functions}
 use Rattle.codegen_fine.proofs.Layouts.{longer_no}
 use Rattle.codegen_fine.proofs.Growing.{longer_statements, longer_unless}
 use Rattle.codegen_base.proofs.Noting.{any_grows, statements_grow, tops_grow}

@@ -13,7 +13,7 @@ use Rattle.typing_rules.specs.Expressions.{nodes_of, ValueHas, element_of}
 use Rattle.typing_rules.specs.Operations.{result_of}
 use Rattle.typing_rules.specs.Simples.{SimpleHas}
 use Rattle.meaning.specs.Values.{known}
-use Rattle.meaning.specs.Destinations.{number_of}
+use Rattle.meaning.specs.Expressions.{number_of}
 use Rattle.codegen_base.specs.declared.element.Element.{Element}
 use Rattle.codegen_base.specs.Elements.{kinds_of, shape_of}
 use Rattle.codegen_base.specs.Generated.{result_kinds}
@@ -27,7 +27,7 @@ use Rattle.plan.proofs.Typed.{Allowed, Typed, typed_step}
 use Rattle.codegen_fine.proofs.Pushing.{drops_typed}
 use Rattle.codegen_fine.proofs.Operands.{Grounds, Housed}
 use Rattle.codegen_fine.proofs.Emitted.{typed_pushes}
-use Rattle.codegen_fine.proofs.Operations.{Functions, channel_there, typed_call, typed_received}
+use Rattle.codegen_fine.proofs.Operations.{channel_there, typed_call, typed_received}
 use Rattle.codegen_fine.proofs.Requests.{sends_typed, closes_typed}
 
 module _ (globals : Globals) (elements : List Element) (code : Code) (f : CodeFunction) (grounds : Grounds globals elements code) where
@@ -45,28 +45,28 @@ module _ (globals : Globals) (elements : List Element) (code : Code) (f : CodeFu
     abbrev pub Leaves : ℕ → Simple → Type 0
     Leaves q simple = (a : Allowed) (ks out : List WordKind) → Typed code f a ks Skip out → Typed code f a ks (simple_plan globals elements layout q simple) out
 
-    module _ (q : ℕ) (s : Scope) (alike : Sees s layout.scope) (functions : Functions globals elements code) where
+    module _ (q : ℕ) (s : Scope) (alike : Sees s layout.scope) where
       pub typed_call_alone : (function : List ℕ) (arguments : Arguments) (first : ℕ) → Free (SimpleHas globals s first (CallAlone function arguments)) → Leaves q (CallAlone function arguments)
       typed_call_alone function arguments first free a ks out t =
           let result = result_of globals (number_of globals function) in
-          typed_call globals elements code f grounds layout.scope housed s alike functions function arguments first free a ks out (drops (result_words globals elements layout.scope result) Skip) (result_dropped result a ks out Skip t)
+          typed_call globals elements code f grounds layout.scope housed s alike function arguments first free a ks out (drops (result_words globals elements layout.scope result) Skip) (result_dropped result a ks out Skip t)
 
       pub typed_close : (channel : Expression) (first : ℕ) → Free (SimpleHas globals s first (Close channel)) → Leaves q (Close channel)
       typed_close channel first free a ks out t =
-          let c = channel_there globals elements code f grounds layout.scope housed s alike functions channel first (λ flaw h. free flaw (inl (inl h))) (λ flaw h. free flaw (inl (inr h))) in
+          let c = channel_there globals elements code f grounds layout.scope housed s alike channel first (λ flaw h. free flaw (inl (inl h))) (λ flaw h. free flaw (inl (inr h))) in
           c.pushed a ks out (Do instrs.Close Skip) (closes_typed globals elements code f grounds c.direction c.element a ks out Skip t)
 
       pub typed_receive_alone : (channel : Expression) (first : ℕ) → Free (SimpleHas globals s first (ReceiveAlone channel)) → Leaves q (ReceiveAlone channel)
       typed_receive_alone channel first free a ks out t =
           let js = kinds_of globals.structs elements (carried globals elements layout.scope channel) in
           let many : length js + 1 ≡ length (js ++ kinds.Bool ∷ []) = sym (length-append js (kinds.Bool ∷ [])) in
-          typed_received globals elements code f grounds layout.scope housed s alike functions channel first free a ks out (Do (instrs.Discard (length js + 1)) Skip) (discards_typed (length js + 1) (js ++ kinds.Bool ∷ []) many a ks out Skip t)
+          typed_received globals elements code f grounds layout.scope housed s alike channel first free a ks out (Do (instrs.Discard (length js + 1)) Skip) (discards_typed (length js + 1) (js ++ kinds.Bool ∷ []) many a ks out Skip t)
 
       pub typed_send : (channel value : Expression) (first : ℕ) → Free (SimpleHas globals s first (Send channel value)) → Leaves q (Send channel value)
       typed_send channel value first free a ks out t =
-          let c = channel_there globals elements code f grounds layout.scope housed s alike functions channel first (λ flaw h. free flaw (inl h)) (λ flaw h. free flaw (inr (inr (inl h)))) in
+          let c = channel_there globals elements code f grounds layout.scope housed s alike channel first (λ flaw h. free flaw (inl h)) (λ flaw h. free flaw (inr (inr (inl h)))) in
           let behind = first + expression_size channel in
-          let w = worth_there globals s (grounds.fields_known s) (known_sees s layout.scope alike housed.known) value behind (λ flaw h. free flaw (inr (inl h))) in
+          let w = worth_there globals s grounds.types_known (known_sees s layout.scope alike housed.known) value behind (λ flaw h. free flaw (inr (inl h))) in
           let is-element : element_of (worth globals s channel) ≡ Some c.element = ap element_of (worth_sees s layout.scope alike globals channel ∙ c.is) in
           let fit = fits w.0 c.element (nodes_of behind value) (nodes_end behind value)
           (λ flaw h. free flaw (inr (inr (inr (inr (subst (λ o. ValueHas (worth globals s value) o (nodes_of behind value) flaw) (sym is-element) (subst (λ o. ValueHas o (Some c.element) (nodes_of behind value) flaw) (sym w.1) h))))))) in

@@ -15,7 +15,6 @@ use Rattle.codegen_base.proofs.Noted.{Grows}
 use Rattle.codegen_base.proofs.Typing.{Free}
 use Rattle.codegen_fine.proofs.Sees.{Sees}
 use Rattle.codegen_fine.proofs.Operands.{Grounds}
-use Rattle.codegen_fine.proofs.Operations.{Functions}
 use Rattle.codegen_fine.proofs.Places.{housed_of}
 use Rattle.codegen_fine.proofs.Layouts.{Begins, Room}
 use Rattle.codegen_fine.proofs.Simple.{typed_call_alone, typed_close, typed_receive_alone, typed_send}
@@ -28,13 +27,13 @@ use Rattle.codegen_fine.proofs.Makes.{right_noted}
 abbrev pub Prints : Code → ℕ → List PrintTable → Type 0
 Prints code first xs = (n : ℕ) (x : PrintTable) → slice_get xs n ≡ Some x → slice_get code.prints (first + n) ≡ Some x
 
-module _ (globals : Globals) (elements : List Element) (code : Code) (f : CodeFunction) (grounds : Grounds globals elements code) (functions : Functions globals elements code) where
+module _ (globals : Globals) (elements : List Element) (code : Code) (f : CodeFunction) (grounds : Grounds globals elements code) where
   pub typed_still : (layout : Layout) (room : Room globals elements code f layout) (s : Scope) (sees : Sees s layout.scope) (q : ℕ) (simple : Simple) (first : ℕ) → IsStill simple → Free (SimpleHas globals s first simple) → (all : List Element) → Grows (noting_simple globals.types simple all) elements → Prints code q (simple_prints globals elements layout.scope simple)
-      → Leaves globals elements code f grounds functions (simple_plan globals elements layout q simple)
-  typed_still layout room s sees q (CallAlone function arguments) first still free all g prints = typed_call_alone globals elements code f grounds layout (housed_of globals elements f layout.scope room.housed) q s sees functions function arguments first free
-  typed_still layout room s sees q (Close channel) first still free all g prints = typed_close globals elements code f grounds layout (housed_of globals elements f layout.scope room.housed) q s sees functions channel first free
-  typed_still layout room s sees q (ReceiveAlone channel) first still free all g prints = typed_receive_alone globals elements code f grounds layout (housed_of globals elements f layout.scope room.housed) q s sees functions channel first free
-  typed_still layout room s sees q (Send channel value) first still free all g prints = typed_send globals elements code f grounds layout (housed_of globals elements f layout.scope room.housed) q s sees functions channel value first free
+      → Leaves globals elements code f grounds (simple_plan globals elements layout q simple)
+  typed_still layout room s sees q (CallAlone function arguments) first still free all g prints = typed_call_alone globals elements code f grounds layout (housed_of globals elements f layout.scope room.housed) q s sees function arguments first free
+  typed_still layout room s sees q (Close channel) first still free all g prints = typed_close globals elements code f grounds layout (housed_of globals elements f layout.scope room.housed) q s sees channel first free
+  typed_still layout room s sees q (ReceiveAlone channel) first still free all g prints = typed_receive_alone globals elements code f grounds layout (housed_of globals elements f layout.scope room.housed) q s sees channel first free
+  typed_still layout room s sees q (Send channel value) first still free all g prints = typed_send globals elements code f grounds layout (housed_of globals elements f layout.scope room.housed) q s sees channel value first free
   typed_still layout room s sees q (Print line parts trailing) first still free all g prints =
       let e : q + 0 ≡ q = omega arith in
       let table : PrintTable = record { parts = map (printed_part globals elements layout.scope) parts; line = line } in
@@ -44,13 +43,13 @@ module _ (globals : Globals) (elements : List Element) (code : Code) (f : CodeFu
   typed_still layout room s sees q (Decrement place) first still free all g prints = typed_decrement globals elements code f grounds layout.scope room.housed s sees place first free
   typed_still layout room s sees q (Update place operator value) first still free all g prints = typed_assign_with globals elements code f grounds layout.scope room.housed s sees place operator value first free
   typed_still layout room s sees q (Assign places right) first still free all g prints =
-      typed_sets globals elements code f grounds functions layout.scope room.housed s sees places right first free
-      (right_noted globals elements code f grounds layout.scope (housed_of globals elements f layout.scope room.housed) s sees functions right _ (λ flaw h. free flaw (inr (inl h))) all g)
+      typed_sets globals elements code f grounds layout.scope room.housed s sees places right first free
+      (right_noted globals elements code f grounds layout.scope (housed_of globals elements f layout.scope room.housed) s sees right _ (λ flaw h. free flaw (inr (inl h))) all g)
   typed_still layout room s sees q (Define names right) first still free all g prints = absurd still
 
   module _ (layout : Layout) (room : Room globals elements code f layout) (s : Scope) (alike : Alike s layout.scope) where
     abbrev pub IsDone : ℕ → Simple → Type 0
-    IsDone q simple = Declares globals elements code f grounds functions (simple_plan globals elements layout q simple) (after_simple globals s simple) (behind_simple globals elements simple layout)
+    IsDone q simple = Declares globals elements code f grounds (simple_plan globals elements layout q simple) (after_simple globals s simple) (behind_simple globals elements simple layout)
 
     pub typed_simple : (q : ℕ) (simple : Simple) (first : ℕ) → Free (SimpleHas globals s first simple) → (all : List Element) → Grows (noting_simple globals.types simple all) elements → Begins f (behind_simple globals elements simple layout) → Prints code q (simple_prints globals elements layout.scope simple) → IsDone q simple
     typed_simple q (CallAlone a b) first free all g begins prints = record { leaves = typed_still layout room s alike.named q (CallAlone a b) first tt free all g prints; room = room; alike = alike }
@@ -63,5 +62,5 @@ module _ (globals : Globals) (elements : List Element) (code : Code) (f : CodeFu
     typed_simple q (Update a b c) first free all g begins prints = record { leaves = typed_still layout room s alike.named q (Update a b c) first tt free all g prints; room = room; alike = alike }
     typed_simple q (Assign a b) first free all g begins prints = record { leaves = typed_still layout room s alike.named q (Assign a b) first tt free all g prints; room = room; alike = alike }
     typed_simple q (Define names right) first free all g begins prints =
-        typed_define globals elements code f grounds functions layout room s alike names right first free
-        (right_noted globals elements code f grounds layout.scope (housed_of globals elements f layout.scope room.housed) s alike.named functions right first (λ flaw h. free flaw (inl h)) all g) begins
+        typed_define globals elements code f grounds layout room s alike names right first free
+        (right_noted globals elements code f grounds layout.scope (housed_of globals elements f layout.scope room.housed) s alike.named right first (λ flaw h. free flaw (inl h)) all g) begins

@@ -25,7 +25,6 @@ use Rattle.codegen_base.proofs.Typing.{Free, broken, not_false}
 use Rattle.plan.specs.Plan.{Skip, reaches_end}
 use Rattle.plan.proofs.Typed.{Allowed, in_loop, in_select, Typed}
 use Rattle.codegen_fine.proofs.Operands.{Grounds}
-use Rattle.codegen_fine.proofs.Operations.{Functions}
 use Rattle.codegen_fine.proofs.Branches.{typed_go}
 use Rattle.codegen_fine.proofs.Places.{housed_of}
 use Rattle.codegen_fine.proofs.Layouts.{Longer, longer_on, begins_before, Room, room_entering, room_leaving}
@@ -44,18 +43,18 @@ use Rattle.codegen_fine.proofs.Returns.{IsResult, typed_returned}
 abbrev allowed : Bool → Bool → Allowed
 allowed breaks continues = record { break = breaks; continue = continues }
 
-module _ (globals : Globals) (elements : List Element) (code : Code) (f : CodeFunction) (grounds : Grounds globals elements code) (functions : Functions globals elements code) (result : Yield) (yields : IsResult globals elements f result) where
+module _ (globals : Globals) (elements : List Element) (code : Code) (f : CodeFunction) (grounds : Grounds globals elements code) (result : Yield) (yields : IsResult globals elements f result) where
   abbrev setting : Bool → Bool → Setting
   setting breaks continues = record { globals = globals; result = result; breaks = breaks; continues = continues }
 
   abbrev M : Allowed → Made → Type 0
-  M a x = IsMade globals elements code f grounds functions a x
+  M a x = IsMade globals elements code f grounds a x
 
   abbrev MA : Allowed → Made → Scope → Type 0
-  MA a x after = IsMadeAlike globals elements code f grounds functions a x after
+  MA a x after = IsMadeAlike globals elements code f grounds a x after
 
   abbrev F : ℕ → Made → Type 0
-  F first x = Fits globals elements code f grounds functions first x
+  F first x = Fits globals elements code f grounds first x
 
   abbrev R : Layout → Type 0
   R layout = Room globals elements code f layout
@@ -72,20 +71,20 @@ module _ (globals : Globals) (elements : List Element) (code : Code) (f : CodeFu
   made_unless a first x y behind longer fits p q = go (reaches_end x.plan) fits where
     go : (t : Bool) → F first (if t then followed x y else x) → M a (if t then followed x y else x)
     go true h =
-        let m = p (fits_first globals elements code f grounds functions first x y longer h) in
-        made_followed globals elements code f grounds functions a x y m.0 (q (fits_rest globals elements code f grounds functions first x y h) m)
+        let m = p (fits_first globals elements code f grounds first x y longer h) in
+        made_followed globals elements code f grounds a x y m.0 (q (fits_rest globals elements code f grounds first x y h) m)
     go false h = (p h).0
 
   -- a block of its own
   blocked : (a : Allowed) (outer : Layout) (x : Made) (s inner : Scope) → R outer → Alike s outer.scope → M a x → MA a (ended outer x) (left s inner)
-  blocked a outer x s inner room alike m = (made_ended globals elements code f grounds functions a outer x room m, alike_left s outer.scope inner x.layout.scope alike)
+  blocked a outer x s inner room alike m = (made_ended globals elements code f grounds a outer x room m, alike_left s outer.scope inner x.layout.scope alike)
 
   right_makes : (layout : Layout) (room : R layout) (s : Scope) (alike : Alike s layout.scope) (names : ℕ) (kind : Option ValueType) (right : Option Right) (first : ℕ) → Free (IfRightHas globals s names kind first right) → (all : List Element) → G (noting_given globals.types right all)
-      → (r : Right) → right ≡ Some r → RightNoted globals elements code f grounds layout.scope (housed_of globals elements f layout.scope room.housed) s alike.named functions r
+      → (r : Right) → right ≡ Some r → RightNoted globals elements code f grounds layout.scope (housed_of globals elements f layout.scope room.housed) s alike.named r
   right_makes layout room s alike names kind None first free all g r e = absurd cc
   right_makes layout room s alike names kind (Some q) first free all g r e =
-      subst (RightNoted globals elements code f grounds layout.scope (housed_of globals elements f layout.scope room.housed) s alike.named functions) (same_Some q r e)
-      (right_noted globals elements code f grounds layout.scope (housed_of globals elements f layout.scope room.housed) s alike.named functions q first (λ flaw h. free flaw (inl h)) all g)
+      subst (RightNoted globals elements code f grounds layout.scope (housed_of globals elements f layout.scope room.housed) s alike.named) (same_Some q r e)
+      (right_noted globals elements code f grounds layout.scope (housed_of globals elements f layout.scope room.housed) s alike.named q first (λ flaw h. free flaw (inl h)) all g)
 
   -- the body of an `if`, before its other part
   fits_so : (site : Site) (condition : Expression) (so : Made) (otherwise : Otherwise) → F site.prints (made_otherwise globals elements result site condition so otherwise) → F site.prints so
@@ -111,7 +110,7 @@ module _ (globals : Globals) (elements : List Element) (code : Code) (f : CodeFu
   -- ---- selects
 
   abbrev WF : (layout : Layout) → R layout → Scope → Clauses → Allowed → Option Made → Type 0
-  WF layout room s clauses a o = WaysOf globals elements code f grounds functions result layout room s clauses a o
+  WF layout room s clauses a o = WaysOf globals elements code f grounds result layout room s clauses a o
 
   -- ways that are there fit
   abbrev FO : ℕ → Option Made → Type 0
@@ -138,40 +137,40 @@ module _ (globals : Globals) (elements : List Element) (code : Code) (f : CodeFu
           → F site.prints (made globals elements result site statement) → MA (allowed breaks continues) (made globals elements result site statement) (after globals s statement)
       typed_statement Empty site s b c first room alike still free all g fits = (record { runs = λ place tabled. refl; room = room }, alike)
       typed_statement (Alone simple) site s b c first room alike still free all g fits =
-          let d = typed_simple globals elements code f grounds functions site.layout room s alike site.prints simple first free all g fits.begins fits.prints in
+          let d = typed_simple globals elements code f grounds site.layout room s alike site.prints simple first free all g fits.begins fits.prints in
           (record { runs = λ place tabled. d.leaves (allowed b c) [] [] refl; room = d.room }, d.alike)
       typed_statement (VarTyped names kind right) site s b c first room alike still free all g fits =
           let housed = housed_of globals elements f site.layout.scope room.housed in
-          let (t, is) = written globals elements code f grounds site.layout.scope housed s alike.named functions kind first (λ flaw h. free flaw (inl h)) in
+          let (t, is) = written globals elements code f grounds site.layout.scope housed s alike.named kind first (λ flaw h. free flaw (inl h)) in
           let same = type_alike s site.layout.scope alike globals.types kind in
           let here-is : type_in globals.types site.layout.scope kind ≡ Some t = sym same ∙ is in
           let own : t ≡ known (type_in globals.types site.layout.scope kind) = sym (ap known here-is) in
           let one = noting globals.types kind all in
           let noted = written_noted globals.types elements all site.layout.scope kind t (of_rest one (noting_given globals.types right one) (given_grows globals.types right one) g) here-is in
-          let d = typed_typed globals elements code f grounds functions site.layout room s alike names kind right first (known (type_in globals.types site.layout.scope kind)) (is ∙ ap Some own) (subst (Noted elements) own noted) free
+          let d = typed_typed globals elements code f grounds site.layout room s alike names kind right first (known (type_in globals.types site.layout.scope kind)) (is ∙ ap Some own) (subst (Noted elements) own noted) free
           (right_makes site.layout room s alike (length names) (type_in globals.types s kind) right (first + type_size kind) (λ flaw h. free flaw (inr (inl h))) one g) fits.begins in
           (record { runs = λ place tabled. d.leaves (allowed b c) [] [] refl; room = d.room }, d.alike)
       typed_statement (VarUntyped names right) site s b c first room alike still free all g fits =
-          let d = typed_untyped globals elements code f grounds functions site.layout room s alike names right first free
-          (right_noted globals elements code f grounds site.layout.scope (housed_of globals elements f site.layout.scope room.housed) s alike.named functions right first (λ flaw h. free flaw (inl h)) all g) fits.begins in
+          let d = typed_untyped globals elements code f grounds site.layout room s alike names right first free
+          (right_noted globals elements code f grounds site.layout.scope (housed_of globals elements f site.layout.scope room.housed) s alike.named right first (λ flaw h. free flaw (inl h)) all g) fits.begins in
           (record { runs = λ place tabled. d.leaves (allowed b c) [] [] refl; room = d.room }, d.alike)
       typed_statement (Block body) site s b c first room alike still free all g fits =
           let inner = made_all globals elements result (inside site) body in
           blocked (allowed b c) site.layout inner s (after_all globals (entered s) body) room alike
-          (typed_statements body (inside site) (entered s) b c first (room_entering globals elements code f site.layout room) (alike_entered s site.layout.scope alike) still free all g (fits_as globals elements code f grounds functions site.prints (ended site.layout inner) inner refl refl fits))
+          (typed_statements body (inside site) (entered s) b c first (room_entering globals elements code f site.layout room) (alike_entered s site.layout.scope alike) still free all g (fits_as globals elements code f grounds site.prints (ended site.layout inner) inner refl refl fits))
       typed_statement (If branch) site s b c first room alike still free all g fits = typed_branch branch site s b c first room alike still free all g fits
       typed_statement (For Forever body) site s b c first room alike still free all g fits =
           let inner = made_all globals elements result (inside site) body in
           let m = typed_statements body (inside site) (entered s) true true (first + for_head_size Forever) (room_entering globals elements code f site.layout room) (alike_entered s site.layout.scope alike) still (λ flaw h. free flaw (inr h)) all g
-          (fits_as globals elements code f grounds functions site.prints (made globals elements result site (For Forever body)) inner refl refl fits) in (
-            record { runs = runs_loop globals elements code f grounds functions site.layout room (entered s) alike.named None first (λ flaw h. h) (allowed b c) inner.plan Skip m.runs (λ place tabled. refl); room = room_leaving globals elements code f site.layout inner.layout room m.room },
+          (fits_as globals elements code f grounds site.prints (made globals elements result site (For Forever body)) inner refl refl fits) in (
+            record { runs = runs_loop globals elements code f grounds site.layout room (entered s) alike.named None first (λ flaw h. h) (allowed b c) inner.plan Skip m.runs (λ place tabled. refl); room = room_leaving globals elements code f site.layout inner.layout room m.room },
             alike_left s site.layout.scope (after_all globals (entered s) body) inner.layout.scope alike,
           )
       typed_statement (For (While condition) body) site s b c first room alike still free all g fits =
           let inner = made_all globals elements result (inside site) body in
           let m = typed_statements body (inside site) (entered s) true true (first + for_head_size (While condition)) (room_entering globals elements code f site.layout room) (alike_entered s site.layout.scope alike) still (λ flaw h. free flaw (inr h)) all g
-          (fits_as globals elements code f grounds functions site.prints (made globals elements result site (For (While condition) body)) inner refl refl fits) in (
-            record { runs = runs_loop globals elements code f grounds functions site.layout room (entered s) alike.named (Some condition) first (λ flaw h. free flaw (inl h)) (allowed b c) inner.plan Skip m.runs (λ place tabled. refl); room = room_leaving globals elements code f site.layout inner.layout room m.room },
+          (fits_as globals elements code f grounds site.prints (made globals elements result site (For (While condition) body)) inner refl refl fits) in (
+            record { runs = runs_loop globals elements code f grounds site.layout room (entered s) alike.named (Some condition) first (λ flaw h. free flaw (inl h)) (allowed b c) inner.plan Skip m.runs (λ place tabled. refl); room = room_leaving globals elements code f site.layout inner.layout room m.room },
             alike_left s site.layout.scope (after_all globals (entered s) body) inner.layout.scope alike,
           )
       typed_statement (For (ForClauses simple condition post) body) site s b c first room alike still free all g fits =
@@ -186,18 +185,18 @@ module _ (globals : Globals) (elements : List Element) (code : Code) (f : CodeFu
           let one = noting_first globals.types simple all in
           let two = noting_first globals.types post one in
           let g2 = of_rest two (noting_statements globals.types body two) (statements_grow globals.types body two) g in
-          let all-fit = fits_as globals elements code f grounds functions site.prints (made globals elements result site (For (ForClauses simple condition post) body)) (followed header looped) refl refl fits in
-          let head = typed_any globals elements code f grounds functions (inside site) (room_entering globals elements code f site.layout room) (entered s) simple first (allowed b c) (alike_entered s site.layout.scope alike) (λ flaw h. free flaw (inl (inl h))) all
-          (of_rest one two (first_grows globals.types post one) g2) (fits_first globals elements code f grounds functions site.prints header looped (longer_on header.layout within.layout turn.layout kept last) all-fit) in
+          let all-fit = fits_as globals elements code f grounds site.prints (made globals elements result site (For (ForClauses simple condition post) body)) (followed header looped) refl refl fits in
+          let head = typed_any globals elements code f grounds (inside site) (room_entering globals elements code f site.layout room) (entered s) simple first (allowed b c) (alike_entered s site.layout.scope alike) (λ flaw h. free flaw (inl (inl h))) all
+          (of_rest one two (first_grows globals.types post one) g2) (fits_first globals elements code f grounds site.prints header looped (longer_on header.layout within.layout turn.layout kept last) all-fit) in
           let h = after_any globals (entered s) simple in
-          let loop-fits = fits_rest globals elements code f grounds functions site.prints header looped all-fit in
+          let loop-fits = fits_rest globals elements code f grounds site.prints header looped all-fit in
           let inner-fits : F behind.prints inner = record { begins = begins_before f inner.layout turn.layout (longer_as within.layout turn.layout inner.layout turn.layout refl refl last) loop-fits.begins; prints = prints_front code behind.prints within.prints turn.prints loop-fits.prints } in
           let m = typed_statements body (inside behind) (entered h) true true (first + for_head_size (ForClauses simple condition post)) (room_entering globals elements code f header.layout head.0.room) (alike_entered h header.layout.scope head.1) still.1 (λ flaw x. free flaw (inr x)) two g inner-fits in
           let within-room = room_leaving globals elements code f header.layout inner.layout head.0.room m.room in
-          let p = typed_post globals elements code f grounds functions header.layout (past behind within) head.0.room within-room h head.1.named post (first + if_any simple_size simple + if_any expression_size condition) (allowed b c) still.0 (λ flaw x. free flaw (inl (inr (inr x)))) one g2
+          let p = typed_post globals elements code f grounds header.layout (past behind within) head.0.room within-room h head.1.named post (first + if_any simple_size simple + if_any expression_size condition) (allowed b c) still.0 (λ flaw x. free flaw (inl (inr (inr x)))) one g2
           (prints_back code behind.prints within.prints turn.prints loop-fits.prints) in
-          let l : M (allowed b c) looped = record { runs = runs_loop globals elements code f grounds functions header.layout head.0.room h head.1.named condition (first + if_any simple_size simple) (λ flaw x. free flaw (inl (inr (inl x)))) (allowed b c) within.plan turn.plan m.runs p.runs; room = p.room } in
-          blocked (allowed b c) site.layout (followed header looped) s (after_all globals (entered h) body) room alike (made_followed globals elements code f grounds functions (allowed b c) header looped head.0 l)
+          let l : M (allowed b c) looped = record { runs = runs_loop globals elements code f grounds header.layout head.0.room h head.1.named condition (first + if_any simple_size simple) (λ flaw x. free flaw (inl (inr (inl x)))) (allowed b c) within.plan turn.plan m.runs p.runs; room = p.room } in
+          blocked (allowed b c) site.layout (followed header looped) s (after_all globals (entered h) body) room alike (made_followed globals elements code f grounds (allowed b c) header looped head.0 l)
       typed_statement (For (Range target channel) body) site s b c first room alike still free all g fits =
           let item = item_site globals elements result site target channel in
           let x = after_for_head globals (entered s) (Range target channel) in (
@@ -210,12 +209,12 @@ module _ (globals : Globals) (elements : List Element) (code : Code) (f : CodeFu
           let o = made_ways globals elements result (within_select globals elements result site) default clauses in
           let w = typed_ways clauses (within_select globals elements result site) site.layout room s s alike.named b c first room alike alike still (λ flaw h. free flaw (inl h)) all g default (λ behind. longer_default globals elements result behind clauses)
           (λ behind behind-room seen h. typed_default clauses behind site.layout room s s b c first behind-room seen seen still (λ flaw h. free flaw (inl h)) all g h) (fits_select site clauses o fits) in
-          let x = typed_choice globals elements code f grounds functions result site.layout room site refl s alike.named clauses b c first (allowed b c) o (λ flaw h. free flaw (inl h)) alike w in
+          let x = typed_choice globals elements code f grounds result site.layout room site refl s alike.named clauses b c first (allowed b c) o (λ flaw h. free flaw (inl h)) alike w in
           (x.0, alike_clauses globals clauses s (made globals elements result site (Select clauses)).layout.scope x.1)
       typed_statement (Go function arguments) site s b c first room alike still free all g fits =
-          (record { runs = λ place tabled. typed_go globals elements code f grounds site.layout.scope (housed_of globals elements f site.layout.scope room.housed) s alike.named functions function arguments first free (allowed b c) [] [] refl; room = room }, alike)
+          (record { runs = λ place tabled. typed_go globals elements code f grounds site.layout.scope (housed_of globals elements f site.layout.scope room.housed) s alike.named function arguments first free (allowed b c) [] [] refl; room = room }, alike)
       typed_statement (Return returned) site s b c first room alike still free all g fits =
-          (record { runs = λ place tabled. typed_returned globals elements code f grounds functions site.layout room s alike.named result yields returned first free all g (allowed b c) []; room = room }, alike)
+          (record { runs = λ place tabled. typed_returned globals elements code f grounds site.layout room s alike.named result yields returned first free all g (allowed b c) []; room = room }, alike)
       typed_statement Break site s b c first room alike still free all g fits =
           let x = broken rules.Branch (first + 1) (omega arith) in (record { runs = λ place tabled. (not_false b (λ e. free x.0 (e, x.1)), refl); room = room }, alike)
       typed_statement Continue site s b c first room alike still free all g fits =
@@ -247,33 +246,33 @@ module _ (globals : Globals) (elements : List Element) (code : Code) (f : CodeFu
           let one = noting_first globals.types simple all in
           let two = noting_statements globals.types body one in
           let g2 = of_rest two (noting_otherwise globals.types otherwise two) (otherwise_grows globals.types otherwise two) g in
-          let all-fit = fits_as globals elements code f grounds functions site.prints (made_branch globals elements result site (Conditional head condition body otherwise)) (followed header other) refl refl fits in
-          let top = typed_any globals elements code f grounds functions (inside site) (room_entering globals elements code f site.layout room) (entered s) simple first (allowed b c) (alike_entered s site.layout.scope alike) (λ flaw h. free flaw (inl (inl h))) all
-          (of_rest one two (statements_grow globals.types body one) g2) (fits_first globals elements code f grounds functions site.prints header other (longer_on header.layout so.layout other.layout kept last) all-fit) in
+          let all-fit = fits_as globals elements code f grounds site.prints (made_branch globals elements result site (Conditional head condition body otherwise)) (followed header other) refl refl fits in
+          let top = typed_any globals elements code f grounds (inside site) (room_entering globals elements code f site.layout room) (entered s) simple first (allowed b c) (alike_entered s site.layout.scope alike) (λ flaw h. free flaw (inl (inl h))) all
+          (of_rest one two (statements_grow globals.types body one) g2) (fits_first globals elements code f grounds site.prints header other (longer_on header.layout so.layout other.layout kept last) all-fit) in
           let h = after_any globals (entered s) simple in
-          let other-fits = fits_rest globals elements code f grounds functions site.prints header other all-fit in
+          let other-fits = fits_rest globals elements code f grounds site.prints header other all-fit in
           let m = typed_statements body (inside behind) (entered h) b c block (room_entering globals elements code f header.layout top.0.room) (alike_entered h header.layout.scope top.1) still.0 (λ flaw x. free flaw (inr (inl x))) one g2
-          (fits_as globals elements code f grounds functions behind.prints so inner refl refl (fits_so behind condition so otherwise other-fits)) in
-          let so-made = made_ended globals elements code f grounds functions (allowed b c) header.layout inner top.0.room m in
+          (fits_as globals elements code f grounds behind.prints so inner refl refl (fits_so behind condition so otherwise other-fits)) in
+          let so-made = made_ended globals elements code f grounds (allowed b c) header.layout inner top.0.room m in
           let next = left h (after_all globals (entered h) body) in
           let o = typed_otherwise otherwise behind h next condition (first + if_head_size head) (λ flaw x. free flaw (inl (inr x))) so b c (block + statements_size body + 1) top.0.room top.1 so-made (alike_left h header.layout.scope (after_all globals (entered h) body) inner.layout.scope top.1) still.1 (λ flaw x. free flaw (inr (inr x))) two g other-fits in
-          blocked (allowed b c) site.layout (followed header other) s (after_otherwise globals next otherwise) room alike (made_followed globals elements code f grounds functions (allowed b c) header other top.0 o)
+          blocked (allowed b c) site.layout (followed header other) s (after_otherwise globals next otherwise) room alike (made_followed globals elements code f grounds (allowed b c) header other top.0 o)
 
       typed_otherwise : (otherwise : Otherwise) (site : Site) (h s : Scope) (condition : Expression) (at : ℕ) → Free (TestHas globals h at condition) → (so : Made) (breaks continues : Bool) (first : ℕ) → R site.layout → Alike h site.layout.scope → M (allowed breaks continues) so → Alike s so.layout.scope → PostsOtherwise otherwise
           → Free (OtherwiseHas (setting breaks continues) s first otherwise) → (all : List Element) → G (noting_otherwise globals.types otherwise all) → F site.prints (made_otherwise globals elements result site condition so otherwise) → M (allowed breaks continues) (made_otherwise globals elements result site condition so otherwise)
-      typed_otherwise NoElse site h s condition at test so b c first room alike m so-alike still free all g fits = runs_if globals elements code f grounds functions site.layout room h alike.named result condition at test (allowed b c) so m
+      typed_otherwise NoElse site h s condition at test so b c first room alike m so-alike still free all g fits = runs_if globals elements code f grounds site.layout room h alike.named result condition at test (allowed b c) so m
       typed_otherwise (ElseBlock body) site h s condition at test so b c first room alike m so-alike still free all g fits =
           let behind = past site so in
           let inner = made_all globals elements result (inside behind) body in
           let other = ended site.layout inner in
           let other-fits = fits_else site.prints site.layout condition so other fits in
-          let n = typed_statements body (inside behind) (entered s) b c first (room_entering globals elements code f so.layout m.room) (alike_entered s so.layout.scope so-alike) still free all g (fits_as globals elements code f grounds functions behind.prints other inner refl refl other-fits) in
-          runs_else globals elements code f grounds functions site.layout room h alike.named result condition at test (allowed b c) so other m (made_ended globals elements code f grounds functions (allowed b c) site.layout inner room n)
+          let n = typed_statements body (inside behind) (entered s) b c first (room_entering globals elements code f so.layout m.room) (alike_entered s so.layout.scope so-alike) still free all g (fits_as globals elements code f grounds behind.prints other inner refl refl other-fits) in
+          runs_else globals elements code f grounds site.layout room h alike.named result condition at test (allowed b c) so other m (made_ended globals elements code f grounds (allowed b c) site.layout inner room n)
       typed_otherwise (ElseIf branch) site h s condition at test so b c first room alike m so-alike still free all g fits =
           let behind = past site so in
           let other = made_branch globals elements result behind branch in
           let n = typed_branch branch behind s b c first m.room so-alike still free all g (fits_else site.prints site.layout condition so other fits) in
-          runs_else globals elements code f grounds functions site.layout room h alike.named result condition at test (allowed b c) so other m n.0
+          runs_else globals elements code f grounds site.layout room h alike.named result condition at test (allowed b c) so other m n.0
 
       typed_ways : (clauses : Clauses) (site : Site) (layout : Layout) (outer : R layout) (base s : Scope) → Sees s layout.scope → (breaks continues : Bool) (first : ℕ) → R site.layout → Alike base site.layout.scope → Alike s site.layout.scope → PostsClauses clauses → Free (ClausesHave (setting breaks continues) s first clauses)
           → (all : List Element) → G (noting_clauses globals.types clauses all) → (default : Site → Option Made) → ((behind : Site) → IfSome (default behind) (λ m. Longer behind.layout m.layout))
@@ -292,20 +291,20 @@ module _ (globals : Globals) (elements : List Element) (code : Code) (f : CodeFu
           let one = ended site.layout (followed begun inner) in
           let o = made_ways globals elements result (past site one) default more in
           let parts = fits_way site.prints ks one o (longer_ways globals elements result (past site one) default more grows) fits in
-          let both = fits_as globals elements code f grounds functions site.prints one (followed begun inner) refl refl parts.0 in
+          let both = fits_as globals elements code f grounds site.prints one (followed begun inner) refl refl parts.0 in
           let grown = longer_statements globals elements result behind body in
           let within = room_entering globals elements code f site.layout room in
-          let cm = comm_made globals elements code f grounds functions result (inside site).layout within (entered s) (alike_entered s site.layout.scope alike) comm first (λ flaw h. free flaw (inl h)) (begins_before f begun.layout inner.layout grown both.begins) in
+          let cm = comm_made globals elements code f grounds result (inside site).layout within (entered s) (alike_entered s site.layout.scope alike) comm first (λ flaw h. free flaw (inl h)) (begins_before f begun.layout inner.layout grown both.begins) in
           let checked = after_any globals (entered s) (Some (comm_simple comm)) in
           let noted = noting_statements globals.types body all in
           let m = typed_statements body behind checked true c (first + comm_size comm) cm.behind cm.seen still.0 (λ flaw h. free flaw (inr (inl h))) all (of_rest noted (noting_clauses globals.types more noted) (clauses_grow globals.types more noted) g)
-          (fits_rest globals elements code f grounds functions site.prints begun inner both) in
+          (fits_rest globals elements code f grounds site.prints begun inner both) in
           let a = in_select (allowed b c) in
-          let takes = subst (λ (l : List WordKind). Typed code f a l begun.plan []) (comm_same globals elements code f grounds functions result comm (inside site).layout site.layout (λ name e. refl)) (cm.takes a) in
-          let fine = comm_fine globals elements code f grounds functions result layout outer (entered s) sees comm first (λ flaw h. free flaw (inl h)) in
+          let takes = subst (λ (l : List WordKind). Typed code f a l begun.plan []) (comm_same globals elements code f grounds result comm (inside site).layout site.layout (λ name e. refl)) (cm.takes a) in
+          let fine = comm_fine globals elements code f grounds result layout outer (entered s) sees comm first (λ flaw h. free flaw (inl h)) in
           let ended-scope = after_all globals checked body in
-          join_way globals elements code f grounds functions result layout outer base comm body more a ks one o
-          (λ to. fine.gives to ∙ comm_same globals elements code f grounds functions result comm layout site.layout (λ name e. sym (sees name e) ∙ alike.named name e))
+          join_way globals elements code f grounds result layout outer base comm body more a ks one o
+          (λ to. fine.gives to ∙ comm_same globals elements code f grounds result comm layout site.layout (λ name e. sym (sees name e) ∙ alike.named name e))
           (λ place tabled. ([], takes, OnTrue_from (reaches_end begun.plan) (Typed code f a [] inner.plan []) (λ e. m.runs _ (OnTrue_at e tabled.1))))
           (room_leaving globals elements code f site.layout inner.layout room m.room) (alike_right base site.layout.scope inner.layout.scope seen)
           (typed_ways more (past site one) layout outer base (left s ended-scope) sees b c (first + comm_size comm + statements_size body + 1) (room_leaving globals elements code f site.layout inner.layout room m.room) (alike_right base site.layout.scope inner.layout.scope seen) (alike_left s site.layout.scope ended-scope inner.layout.scope alike) still.1
@@ -320,7 +319,7 @@ module _ (globals : Globals) (elements : List Element) (code : Code) (f : CodeFu
           let noted = noting_statements globals.types body all in
           let inner-fits : F site.prints inner = record { begins = record { more = fits.begins.more; is = fits.begins.is }; prints = fits.prints } in
           let m = typed_statements body (inside site) (entered s) true c (first + if_any comm_size None) (room_entering globals elements code f site.layout room) (alike_entered s site.layout.scope alike) still.0 (λ flaw h. free flaw (inr (inl h))) all (of_rest noted (noting_clauses globals.types more noted) (clauses_grow globals.types more noted) g) inner-fits in
-          last_way globals elements code f grounds functions result layout outer base (in_select (allowed b c)) one (made_ended globals elements code f grounds functions (in_select (allowed b c)) site.layout inner room m) (alike_right base site.layout.scope inner.layout.scope seen)
+          last_way globals elements code f grounds result layout outer base (in_select (allowed b c)) one (made_ended globals elements code f grounds (in_select (allowed b c)) site.layout inner room m) (alike_right base site.layout.scope inner.layout.scope seen)
       typed_default (Clause (Some comm) body more) site layout outer base s b c first room seen alike still free all g fits =
           let ended-scope = after_all globals (after_any globals (entered s) (Some (comm_simple comm))) body in
           typed_default more site layout outer base (left s ended-scope) b c (first + comm_size comm + statements_size body + 1) room seen (alike_step s site.layout.scope ended-scope alike) still.1 (λ flaw h. free flaw (inr (inr h))) (noting_statements globals.types body all) g fits

@@ -31,7 +31,6 @@ use Rattle.plan.proofs.Typed.{Typed}
 use Rattle.codegen_fine.proofs.Pushing.{Puts, puts_both, puts_zeros}
 use Rattle.codegen_fine.proofs.Operands.{Grounds}
 use Rattle.codegen_fine.proofs.Emitted.{all_kinds}
-use Rattle.codegen_fine.proofs.Operations.{Functions}
 use Rattle.codegen_fine.proofs.Spots.{SpotsFit}
 use Rattle.codegen_fine.proofs.Places.{housed_of}
 use Rattle.codegen_fine.proofs.Givens.{WantsFail, WantsNoted, taken_all}
@@ -125,7 +124,7 @@ module _ (globals : Globals) (elements : List Element) where
   want_fails (name ∷ names) kind o (value ∷ values) flaw is (inl h) = inl (subst (λ x. ValueHas value.worth x value.nodes flaw) (sym is) h)
   want_fails (name ∷ names) kind o (value ∷ values) flaw is (inr h) = inr (want_fails names kind o values flaw is h)
 
-  module _ (code : Code) (f : CodeFunction) (grounds : Grounds globals elements code) (functions : Functions globals elements code) where
+  module _ (code : Code) (f : CodeFunction) (grounds : Grounds globals elements code) where
     zeros_put : (names : List (List ℕ)) (count : ℕ) (kind : ValueType) → Noted elements kind → Puts globals.structs elements code f (all_kinds globals.structs elements (same_types globals elements names kind)) (zero_values globals elements count names kind)
     zeros_put [] count kind noted a ks out rest t = subst (λ (l : List WordKind). Typed code f a l rest out) (append-nil ks) t
     zeros_put (name ∷ names) count kind noted a ks out rest t =
@@ -138,22 +137,22 @@ module _ (globals : Globals) (elements : List Element) where
 
     module _ (layout : Layout) (room : Room globals elements code f layout) (s : Scope) (alike : Alike s layout.scope) where
       -- a `var` without a type
-      pub typed_untyped : (names : List (List ℕ)) (right : Right) (first : ℕ) → Free (UntypedVariablesHave globals s first names right) → RightNoted globals elements code f grounds layout.scope (housed_of globals elements f layout.scope room.housed) s alike.named functions right
+      pub typed_untyped : (names : List (List ℕ)) (right : Right) (first : ℕ) → Free (UntypedVariablesHave globals s first names right) → RightNoted globals elements code f grounds layout.scope (housed_of globals elements f layout.scope room.housed) s alike.named right
           → Begins f (declaring_all globals elements names (right_types globals elements layout.scope (length names) right) layout)
-          → Declares globals elements code f grounds functions (defines globals elements layout names (right_types globals elements layout.scope (length names) right) right) (with_defined globals s names (given globals s (length names) 0 right))
+          → Declares globals elements code f grounds (defines globals elements layout names (right_types globals elements layout.scope (length names) right) right) (with_defined globals s names (given globals s (length names) 0 right))
           (declaring_all globals elements names (right_types globals elements layout.scope (length names) right) layout)
       typed_untyped names right first free noted begins =
           let end = first + right_size right + 1 in
           let b = broken rules.Declared end (omega arith) in
           let none = not_true (list_any is_reserved names || has_twice names || list_any (λ name. is_some (own_variable s name)) names) (λ e. free b.0 (inr (inr (inl (e, b.1))))) in
-          typed_defines globals elements code f grounds functions layout room s alike names right first end (omega arith) (three_false (list_any is_reserved names) (has_twice names) (list_any (λ name. is_some (own_variable s name)) names) none).0
+          typed_defines globals elements code f grounds layout room s alike names right first end (omega arith) (three_false (list_any is_reserved names) (has_twice names) (list_any (λ name. is_some (own_variable s name)) names) none).0
           (λ flaw h. free flaw (inl h)) (λ flaw h. free flaw (inr (inl h))) (untyped_names s names (given globals s (length names) first right) end (omega arith) (λ flaw h. free flaw (inr h))) noted begins
 
       -- a `var` with a type
       pub typed_typed : (names : List (List ℕ)) (written : TypeExpression) (right : Option Right) (first : ℕ) (kind : ValueType) → type_in globals.types s written ≡ Some kind → Noted elements kind → Free (TypedVariablesHave globals s first names written right)
-          → ((r : Right) → right ≡ Some r → RightNoted globals elements code f grounds layout.scope (housed_of globals elements f layout.scope room.housed) s alike.named functions r)
+          → ((r : Right) → right ≡ Some r → RightNoted globals elements code f grounds layout.scope (housed_of globals elements f layout.scope room.housed) s alike.named r)
           → Begins f (declaring_each globals elements kind names layout)
-          → Declares globals elements code f grounds functions (variables_plan globals elements layout names kind right) (with_variables globals s (type_in globals.types s written) names) (declaring_each globals elements kind names layout)
+          → Declares globals elements code f grounds (variables_plan globals elements layout names kind right) (with_variables globals s (type_in globals.types s written) names) (declaring_each globals elements kind names layout)
       typed_typed names written right first kind is noted free makes begins =
           let end = first + type_size written + if_any right_size right + 1 in
           let b = broken rules.Declared end (omega arith) in
@@ -173,18 +172,18 @@ module _ (globals : Globals) (elements : List Element) where
                 (subst (λ x. Alike x (declaring_each globals elements kind names layout).scope) (variables_are names kind s s alike.fits (own_same s names) fresh parts.0) (subst (λ (x : Layout). Alike (with_defined globals s names (alike_values names kind)) x.scope) (all_each names kind layout) n.alike));
           } where
             go : (right : Option Right) → Free (IfRightHas globals s (length names) (type_in globals.types s written) (first + type_size written) right)
-                → ((r : Right) → right ≡ Some r → RightNoted globals elements code f grounds layout.scope (housed_of globals elements f layout.scope room.housed) s alike.named functions r)
+                → ((r : Right) → right ≡ Some r → RightNoted globals elements code f grounds layout.scope (housed_of globals elements f layout.scope room.housed) s alike.named r)
                 → name_types globals elements layout names (same_types globals elements names kind) ≡ same_types globals elements names kind
                 → SpotsFit globals.structs elements code f (name_spots globals elements layout names (same_types globals elements names kind)) (map (kinds_of globals.structs elements) (name_types globals elements layout names (same_types globals elements names kind)))
-                → Leaves globals elements code f grounds functions (variables_plan globals elements layout names kind right)
+                → Leaves globals elements code f grounds (variables_plan globals elements layout names kind right)
             go None free makes same fit =
-                put_leaves globals elements code f grounds functions (same_types globals elements names kind) (name_spots globals elements layout names (same_types globals elements names kind)) (zero_values globals elements 0 names kind) (zeros_put names 0 kind noted)
+                put_leaves globals elements code f grounds (same_types globals elements names kind) (name_spots globals elements layout names (same_types globals elements names kind)) (zero_values globals elements 0 names kind) (zeros_put names 0 kind noted)
                 (subst (λ (l : List ValueType). SpotsFit globals.structs elements code f (name_spots globals elements layout names (same_types globals elements names kind)) (map (kinds_of globals.structs elements) l)) same fit)
             go (Some r) free makes same fit =
                 let count = length names in
                 let at = first + type_size written in
                 let values = given globals layout.scope count 0 r in
-                let t = typed_right globals elements code f grounds layout.scope (housed_of globals elements f layout.scope room.housed) s alike.named functions r at (at + right_size r + 1) count (all_want names kind) (omega arith) (length-map names (λ name. Some kind)) (want_noted names kind noted)
+                let t = typed_right globals elements code f grounds layout.scope (housed_of globals elements f layout.scope room.housed) s alike.named r at (at + right_size r + 1) count (all_want names kind) (omega arith) (length-map names (λ name. Some kind)) (want_noted names kind noted)
                 (λ flaw h. free flaw (inl h)) (λ flaw h. free flaw (inr (inl h))) (λ flaw h. free flaw (inr (inr (want_fails names kind (type_in globals.types s written) (given globals s count at r) flaw is h)))) (makes r refl) in
                 let pushed = subst (λ (l : List ValueType). Puts globals.structs elements code f (all_kinds globals.structs elements l) (pushes_right globals elements layout.scope count l r)) (want_same names kind values t.many ∙ sym same) t.pushed in
-                put_leaves globals elements code f grounds functions (name_types globals elements layout names (same_types globals elements names kind)) (name_spots globals elements layout names (same_types globals elements names kind)) (pushes_right globals elements layout.scope count (name_types globals elements layout names (same_types globals elements names kind)) r) pushed fit
+                put_leaves globals elements code f grounds (name_types globals elements layout names (same_types globals elements names kind)) (name_spots globals elements layout names (same_types globals elements names kind)) (pushes_right globals elements layout.scope count (name_types globals elements layout names (same_types globals elements names kind)) r) pushed fit

@@ -24,7 +24,6 @@ use Rattle.plan.proofs.Stacks.{holds_by}
 use Rattle.plan.proofs.Tables.{Makes, tabled}
 use Rattle.plan.proofs.Typed.{outside, typed_makes}
 use Rattle.codegen_fine.proofs.Operands.{Grounds}
-use Rattle.codegen_fine.proofs.Operations.{Functions}
 use Rattle.codegen_fine.proofs.Layouts.{Longer, longer_no, longer_on, longer_declaring, Begins, begins_before, Room, room_declaring}
 use Rattle.codegen_fine.proofs.Simples.{Prints}
 use Rattle.codegen_fine.proofs.Growing.{longer_statements, longer_unless}
@@ -54,7 +53,7 @@ module _ (globals : Globals) (elements : List Element) where
         parameters_fit f rest next (declared globals.structs s field.kind field.name) fine.2 (room_declaring globals elements code f grounds kind field.name layout room before fine.1)
         (subst (λ o. Alike (declared globals.structs s o field.name) next.scope) (sym fine.0) (alike_declared globals.structs globals.structs s layout.scope (Some kind) field.name alike)) begins
 
-    module _ (functions : Functions globals elements code) where
+    module _ where
       -- what is known of a function beside its body: the types of its parameters and of its result, and that no post statement declares anything
       pub record IsFine (function : Function) : Type 0 where
         pub takes : ParametersFine (fields_declared globals.types function.parameters)
@@ -76,7 +75,7 @@ module _ (globals : Globals) (elements : List Element) where
           let whole : Begins f m.layout = record { more = []; is = sym (append-nil m.layout.locals) } in
           let yields : IsResult globals elements f result = record { kinds_are = refl; known_kind = fine.known_kind; noted = fine.noted } in
           let (room, alike) = parameters_fit f (fields_declared globals.types function.parameters) empty nothing_declared fine.takes (record { housed = tt; words = refl; there = λ n k e. absurd cc }) (alike_refl nothing_declared (omega arith)) (begins_before f start m.layout longer whole) in
-          let b = typed_body globals elements code f grounds functions result yields function.body site (parameters globals function) _ room alike fine.still (λ flaw h. free flaw (inl h)) all g (record { begins = whole; prints = tables-of }) in
+          let b = typed_body globals elements code f grounds result yields function.body site (parameters globals function) _ room alike fine.still (λ flaw h. free flaw (inl h)) all g (record { begins = whole; prints = tables-of }) in
           let tab = tabled code.selects m.plan 0 selects rest (numbered_body globals elements result function.body site) selects-of in
           let long = longer.is in
-          (holds_by code f m.plan [] tab refl (b.runs 0 tab) b.ends (omega (arith, ap length long, length-append start.locals longer.more)) b.room.there (result_there globals elements code f grounds functions result yields), typed_makes code f outside [] m.plan [] (b.runs 0 tab))
+          (holds_by code f m.plan [] tab refl (b.runs 0 tab) b.ends (omega (arith, ap length long, length-append start.locals longer.more)) b.room.there (result_there globals elements code f grounds result yields), typed_makes code f outside [] m.plan [] (b.runs 0 tab))

@@ -1,4 +1,3 @@
-pub mod Makes
 pub mod Stands
 pub mod Grown
 pub mod Narrowed
@@ -40,4 +39,3 @@ pub mod Selects
 pub mod Statements
 pub mod Step
 pub mod Matching
-pub mod Making

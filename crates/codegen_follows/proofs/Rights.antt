@@ -31,6 +31,7 @@ use Rattle.plan.proofs.Words.{Words}
 use Rattle.plan.proofs.Steps.{receives}
 use Rattle.codegen_base.proofs.Assigned.{behind_all, AreSpots}
 use Rattle.codegen_base.proofs.Typing.{Free, Fits, broken, not_false}
+use Rattle.codegen_base.proofs.Sides.{IsPlain, IsBoth, form}
 use Rattle.codegen_follows.proofs.Stands.{scope_of, variables, OneMakes, ValuesMake}
 use Rattle.codegen_follows.proofs.Calling.{all_go}
 use Rattle.codegen_base.proofs.Running.{Compiled, Coded}
@@ -75,35 +76,6 @@ pub default_fits : (w : Worth) (nodes : Nodes) → 1 ≤ nodes.end → Free (Def
 default_fits (Typed t) nodes le free = assignable_self t
 default_fits (Constant z) nodes le free = let b = broken rules.Constant nodes.end le in (refl, not_false (is_int z) (λ e. free b.0 (e, b.1)))
 default_fits Nil nodes le free = let b = broken rules.Nil (nodes.first + 1) (omega arith) in absurd (free b.0 b.1)
-
--- ---- one receive for two, or values alone
-
-pub record IsPlain (count : ℕ) (es : List Expression) : Type 0 where
-  pub values_are : (globals : Globals) (blocks : Blocks) → right_values globals blocks count es ≡ values globals blocks (expressions es)
-  pub plan_is : (globals : Globals) (elements : List Element) (scope : Scope) (types : List ValueType) (rest : Plan) → pushes_right globals elements scope count types es rest ≡ pushes_all globals elements scope types es rest
-  pub also_is : (first : ℕ) → also_given count first es ≡ []
-
-abbrev pub IsBoth : ℕ → List Expression → Type 0
-IsBoth count es = (channel : Expression) × (count ≡ suc (suc zero)) × (es ≡ Receive channel ∷ [])
-
-more_than_two : (n : ℕ) → (suc (suc (suc n)) == 2) ≡ false
-more_than_two n = grind (arith, nat_tests)
-
-pub form : (count : ℕ) (es : List Expression) → IsBoth count es ⊎ IsPlain count es
-form (suc (suc (suc n))) [] = inr (record { values_are = λ g b. refl; plan_is = λ g e s t r. refl; also_is = λ f. refl })
-form (suc (suc (suc n))) (e ∷ []) = inr (record { values_are = λ g b. refl; plan_is = λ g e s t r. refl; also_is = λ f. ap (λ b. if b && is_receive e then record { worth = Some (Typed BoolType); nodes = nodes_of f e } ∷ [] else []) (more_than_two n) })
-form (suc (suc (suc n))) (e ∷ e' ∷ es) = inr (record { values_are = λ g b. refl; plan_is = λ g e s t r. refl; also_is = λ f. refl })
-form zero [] = inr (record { values_are = λ g b. refl; plan_is = λ g e s t r. refl; also_is = λ f. refl })
-form zero (e ∷ []) = inr (record { values_are = λ g b. refl; plan_is = λ g e s t r. refl; also_is = λ f. refl })
-form zero (e ∷ e' ∷ es) = inr (record { values_are = λ g b. refl; plan_is = λ g e s t r. refl; also_is = λ f. refl })
-form (suc zero) [] = inr (record { values_are = λ g b. refl; plan_is = λ g e s t r. refl; also_is = λ f. refl })
-form (suc zero) (e ∷ []) = inr (record { values_are = λ g b. refl; plan_is = λ g e s t r. refl; also_is = λ f. refl })
-form (suc zero) (e ∷ e' ∷ es) = inr (record { values_are = λ g b. refl; plan_is = λ g e s t r. refl; also_is = λ f. refl })
-form (suc (suc zero)) [] = inr (record { values_are = λ g b. refl; plan_is = λ g e s t r. refl; also_is = λ f. refl })
-form (suc (suc zero)) (Receive channel ∷ e' ∷ es) = inr (record { values_are = λ g b. refl; plan_is = λ g e s t r. refl; also_is = λ f. refl })
-form (suc (suc zero)) (e ∷ e' ∷ es) = inr (record { values_are = λ g b. refl; plan_is = λ g e s t r. refl; also_is = λ f. refl })
-form (suc (suc zero)) (Receive channel ∷ []) = inl (channel, refl, refl)
-form (suc (suc zero)) (e ∷ []) = inr (record { values_are = λ g b. refl; plan_is = λ g e s t r. refl; also_is = λ f. refl })
 
 module _ {globals : Globals} {program : Compiled globals} {coded : Coded program} {simulated : Simulated coded} (position : Position simulated) where
   open program use {elements, code, wide as all}

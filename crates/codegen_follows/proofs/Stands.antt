@@ -19,7 +19,7 @@ use Rattle.codegen_base.specs.Pushes.{pushes_zeros, drops}
 use Rattle.codegen_base.specs.Statements.{Spot, assigns}
 use Rattle.codegen_base.specs.Elements.{kinds_of}
 use Rattle.codegen_base.specs.Generated.{Site, Made, past, ended, inside, loop, test_plan, made_post, made, made_all, made_otherwise, result_kinds}
-pub use Rattle.codegen_follows.proofs.Makes.{DeclaresNone, OneMakes, ValuesMake, PartsMake, SimpleMakes, ReturnedMakes, IfHeadMakes, ForHeadMakes, CommMakes, Makes, AllMake, BranchMakes, OtherwiseMakes, ClausesMake}
+pub use Rattle.codegen_base.proofs.StatementMakes.{DeclaresNone, OneMakes, ValuesMake, PartsMake, SimpleMakes, ReturnedMakes, IfHeadMakes, ForHeadMakes, CommMakes, Makes, AllMake, BranchMakes, OtherwiseMakes, ClausesMake}
 use Rattle.plan.specs.Plan.{Plan, Skip, Stop}
 use Rattle.plan.proofs.Places.{At, On, Leads}
 use Rattle.codegen_base.proofs.Alike.{Alike}

@@ -11,7 +11,7 @@ use Rattle.codegen_base.specs.Grammar.{StillAny, PostsStill, PostsAll, PostsBran
 use Rattle.codegen_base.proofs.Noted.{Noted, Grows, grows_on, noted_grows, type_noted}
 use Rattle.codegen_base.proofs.Makes.{makes_grows, make_grow, expression_grows, expression_makes, expressions_make}
 use Rattle.codegen_base.proofs.Noting.{given_grows, value_grows, parts_grow, first_grows, statements_grow, otherwise_grows, clauses_grow}
-use Rattle.codegen_follows.proofs.Makes.{DeclaresNone, OneMakes, ValuesMake, PartsMake, SimpleMakes, ReturnedMakes, IfHeadMakes, ForHeadMakes, CommMakes, Makes, AllMake, BranchMakes, OtherwiseMakes, ClausesMake}
+use Rattle.codegen_base.proofs.StatementMakes.{DeclaresNone, OneMakes, ValuesMake, PartsMake, SimpleMakes, ReturnedMakes, IfHeadMakes, ForHeadMakes, CommMakes, Makes, AllMake, BranchMakes, OtherwiseMakes, ClausesMake}
 
 none_declared : (post : Option Simple) → StillAny post → IfSome post DeclaresNone
 none_declared None still = tt
@@ -33,7 +33,7 @@ module _ (globals : Globals) (elements : List Element) where
   abbrev Grown : List Element → Type 0
   Grown some = Grows some elements
 
-  kind_noted : (kind : TypeExpression) (some : List Element) → Grown (noting types kind some) → Noted elements (known (type_in types nothing_declared kind))
+  pub kind_noted : (kind : TypeExpression) (some : List Element) → Grown (noting types kind some) → Noted elements (known (type_in types nothing_declared kind))
   kind_noted kind some g = noted_grows (noting types kind some) elements (known (type_in types nothing_declared kind)) g (type_noted some (known (type_in types nothing_declared kind)))
 
   one_makes : (e : Expression) (some : List Element) → Grown (noting_expression types e some) → OneMakes globals elements e

@@ -1,0 +1,43 @@
+-- A right side is one receive for two places, or values alone.
+use Rattle.std.proofs.Common.{◌≡◌, ℕ, zero, suc, ◌==◌, true, false, List, [], ◌∷◌, Some, refl, ap, arith, inl, inr, ◌⊎◌}
+use Rattle.std.specs.Prelude.{if◌then◌else◌, ◌&&◌}
+use Rattle.std.proofs.lemmas.Bool.Decides.{nat_tests}
+use Rattle.syntax.specs.Tree.{Expression, expressions, Receive}
+use Rattle.type_table.specs.Types.{ValueType, BoolType}
+use Rattle.type_table.specs.Scopes.{Globals, Scope}
+use Rattle.typing_rules.specs.Worths.{Typed}
+use Rattle.typing_rules.specs.Expressions.{nodes_of}
+use Rattle.typing_rules.specs.Operations.{is_receive, also_given}
+use Rattle.meaning.specs.Variables.{Blocks}
+use Rattle.meaning.specs.Expressions.{right_values, values}
+use Rattle.codegen_base.specs.declared.element.Element.{Element}
+use Rattle.codegen_base.specs.Pushes.{pushes_all}
+use Rattle.codegen_base.specs.Statements.{pushes_right}
+use Rattle.plan.specs.Plan.{Plan}
+
+pub record IsPlain (count : ℕ) (es : List Expression) : Type 0 where
+  pub values_are : (globals : Globals) (blocks : Blocks) → right_values globals blocks count es ≡ values globals blocks (expressions es)
+  pub plan_is : (globals : Globals) (elements : List Element) (scope : Scope) (types : List ValueType) (rest : Plan) → pushes_right globals elements scope count types es rest ≡ pushes_all globals elements scope types es rest
+  pub also_is : (first : ℕ) → also_given count first es ≡ []
+
+abbrev pub IsBoth : ℕ → List Expression → Type 0
+IsBoth count es = (channel : Expression) × (count ≡ suc (suc zero)) × (es ≡ Receive channel ∷ [])
+
+more_than_two : (n : ℕ) → (suc (suc (suc n)) == 2) ≡ false
+more_than_two n = grind (arith, nat_tests)
+
+pub form : (count : ℕ) (es : List Expression) → IsBoth count es ⊎ IsPlain count es
+form (suc (suc (suc n))) [] = inr (record { values_are = λ g b. refl; plan_is = λ g e s t r. refl; also_is = λ f. refl })
+form (suc (suc (suc n))) (e ∷ []) = inr (record { values_are = λ g b. refl; plan_is = λ g e s t r. refl; also_is = λ f. ap (λ b. if b && is_receive e then record { worth = Some (Typed BoolType); nodes = nodes_of f e } ∷ [] else []) (more_than_two n) })
+form (suc (suc (suc n))) (e ∷ e' ∷ es) = inr (record { values_are = λ g b. refl; plan_is = λ g e s t r. refl; also_is = λ f. refl })
+form zero [] = inr (record { values_are = λ g b. refl; plan_is = λ g e s t r. refl; also_is = λ f. refl })
+form zero (e ∷ []) = inr (record { values_are = λ g b. refl; plan_is = λ g e s t r. refl; also_is = λ f. refl })
+form zero (e ∷ e' ∷ es) = inr (record { values_are = λ g b. refl; plan_is = λ g e s t r. refl; also_is = λ f. refl })
+form (suc zero) [] = inr (record { values_are = λ g b. refl; plan_is = λ g e s t r. refl; also_is = λ f. refl })
+form (suc zero) (e ∷ []) = inr (record { values_are = λ g b. refl; plan_is = λ g e s t r. refl; also_is = λ f. refl })
+form (suc zero) (e ∷ e' ∷ es) = inr (record { values_are = λ g b. refl; plan_is = λ g e s t r. refl; also_is = λ f. refl })
+form (suc (suc zero)) [] = inr (record { values_are = λ g b. refl; plan_is = λ g e s t r. refl; also_is = λ f. refl })
+form (suc (suc zero)) (Receive channel ∷ e' ∷ es) = inr (record { values_are = λ g b. refl; plan_is = λ g e s t r. refl; also_is = λ f. refl })
+form (suc (suc zero)) (e ∷ e' ∷ es) = inr (record { values_are = λ g b. refl; plan_is = λ g e s t r. refl; also_is = λ f. refl })
+form (suc (suc zero)) (Receive channel ∷ []) = inl (channel, refl, refl)
+form (suc (suc zero)) (e ∷ []) = inr (record { values_are = λ g b. refl; plan_is = λ g e s t r. refl; also_is = λ f. refl })
