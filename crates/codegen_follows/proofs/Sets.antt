@@ -32,7 +32,8 @@ use Rattle.codegen_base.proofs.Running.{Compiled, Coded}
 use Rattle.codegen_follows.proofs.Simulated.{Simulated, at, Works, Position, here_blocks, On'}
 use Rattle.meaning.specs.Worked.{Worked}
 use Rattle.codegen_follows.proofs.Channels.{channel_there}
-use Rattle.codegen_follows.proofs.Rights.{IsPlain, IsBoth, form, gives_plain, gives_both}
+use Rattle.codegen_follows.proofs.Rights.{gives_plain, gives_both}
+use Rattle.codegen_base.proofs.Sides.{IsPlain, IsBoth, form}
 use Rattle.std.proofs.lemmas.List.{append-nil, length-map}
 use Rattle.codegen_follows.proofs.Rights.{default_fits}
 

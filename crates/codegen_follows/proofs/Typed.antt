@@ -43,7 +43,8 @@ use Rattle.codegen_base.proofs.Running.{Compiled, Coded}
 use Rattle.codegen_follows.proofs.Simulated.{Simulated, at, Works, works_behind, Position, here_blocks, On', standing}
 use Rattle.meaning.specs.Worked.{Worked}
 use Rattle.meaning.specs.Expressions.{written_kind}
-use Rattle.codegen_follows.proofs.Rights.{IsPlain, IsBoth, form, gives_plain, gives_both, Targets, stored_go}
+use Rattle.codegen_follows.proofs.Rights.{gives_plain, gives_both, Targets, stored_go}
+use Rattle.codegen_base.proofs.Sides.{IsPlain, IsBoth, form}
 use Rattle.codegen_base.proofs.Makes.{type_anywhere}
 
 module _ {globals : Globals} {program : Compiled globals} (coded : Coded program) (ls : Words) (view : View) (fine : Fine coded view) where
