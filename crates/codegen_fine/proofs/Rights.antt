@@ -1,8 +1,7 @@
 -- What right sides with which nothing is wrong push is what is taken of them.
-use Rattle.std.proofs.Common.{◌≡◌, ℕ, suc, zero, ◌+◌, ◌≤◌, List, [], ◌∷◌, ◌++◌, length, Option, Some, None, option_map, refl, sym, ap, ◌∙◌, subst, arith, inl, inr, ◌⊎◌}
+use Rattle.std.proofs.Common.{◌≡◌, ℕ, suc, zero, ◌≤◌, List, [], ◌∷◌, ◌++◌, length, Option, Some, None, option_map, refl, sym, ap, ◌∙◌, subst, arith, inl, inr, ◌⊎◌}
 use Rattle.std.proofs.lemmas.List.{append-nil}
 use Rattle.syntax.specs.Tree.{Expression, expressions, Receive}
-use Rattle.syntax.specs.Measures.{expression_size}
 use Rattle.bytecode.specs.declared.instr.WordKind.{WordKind}
 use Rattle.bytecode.specs.declared.instr.WordKind.TheVariants as kinds
 use Rattle.bytecode.specs.Code.{Function as CodeFunction, Code}
@@ -10,7 +9,7 @@ use Rattle.type_table.specs.Types.{ValueType, BoolType}
 use Rattle.type_table.specs.Scopes.{Globals, Scope}
 use Rattle.typing_rules.specs.Worths.{Typed as TypedWorth, worth}
 use Rattle.typing_rules.specs.Expressions.{nodes_of, NumbersHave, default_type, element_of}
-use Rattle.typing_rules.specs.Operations.{Given, given_values, also_given, given, RightHas}
+use Rattle.typing_rules.specs.Operations.{Given, given_values, given, RightHas}
 use Rattle.meaning.specs.Values.{known}
 use Rattle.codegen_base.specs.declared.element.Element.{Element}
 use Rattle.codegen_base.specs.Elements.{kinds_of}
@@ -18,7 +17,7 @@ use Rattle.codegen_base.specs.Layouts.{carried, given_types}
 use Rattle.codegen_base.specs.Statements.{pushes_received, pushes_right}
 use Rattle.codegen_fine.proofs.Sees.{Sees, worth_sees}
 use Rattle.codegen_base.proofs.Called.{same_count}
-use Rattle.codegen_base.proofs.Sides.{IsPlain, IsBoth, form}
+use Rattle.codegen_base.proofs.Sides.{IsPlain, IsBoth, form, plain_given, given_long}
 use Rattle.codegen_base.proofs.StatementMakes.{ValuesMake}
 use Rattle.codegen_base.proofs.Typing.{Free, nodes_end}
 use Rattle.plan.specs.Plan.{Plan}
@@ -32,14 +31,6 @@ use Rattle.codegen_fine.proofs.Givens.{HasDefault, WellTaken, WantsFail, WantsNo
 pub default_typed : (o : Option ValueType) → default_type (option_map TypedWorth o) ≡ o
 default_typed None = refl
 default_typed (Some t) = refl
-
-values_many : (globals : Globals) (s : Scope) (values : List Expression) (m : ℕ) → length (given_values globals s m values) ≡ length values
-values_many globals s [] m = refl
-values_many globals s (value ∷ rest) m = ap suc (values_many globals s rest (m + expression_size value))
-
--- values alone give what they are worth
-plain_given : (globals : Globals) (s : Scope) (count first : ℕ) (values : List Expression) → also_given count first values ≡ [] → given globals s count first values ≡ given_values globals s first values
-plain_given globals s count first values none = ap (λ (l : List Given). given_values globals s first values ++ l) none ∙ append-nil (given_values globals s first values)
 
 module _ (globals : Globals) (elements : List Element) (code : Code) (f : CodeFunction) (grounds : Grounds globals elements code) where
   module _ (scope : Scope) (housed : Housed globals elements f scope) (s : Scope) (alike : Sees s scope) where
@@ -71,14 +62,14 @@ module _ (globals : Globals) (elements : List Element) (code : Code) (f : CodeFu
 
     plain_taken : (count : ℕ) (right : List Expression) → IsPlain count right → IsTaken Takes count right
     plain_taken count right plain first end wants le long noted free numbers fail makes =
-        let seen = plain_given globals s count first right (plain.also_is first) in
-        let here = plain_given globals scope count 0 right (plain.also_is 0) in
+        let seen = plain_given globals s count first right plain in
+        let here = plain_given globals scope count 0 right plain in
         let many = same_count (length (given globals s count first right)) count end le numbers in
-        let counted = ap length seen ∙ values_many globals s right first in
+        let counted = ap length seen ∙ given_long globals s first right in
         let fit = values_fit globals elements code f grounds scope housed s alike right wants first 0 (omega (arith, many, counted, long)) noted free (λ flaw h. fail flaw (subst (λ (l : List Given). WantsFail wants l flaw) (sym seen) h)) makes in
         let types = taken_all wants (types_in (given_values globals scope 0 right)) in
         record {
-          many = ap length here ∙ values_many globals scope right 0 ∙ sym counted ∙ many;
+          many = ap length here ∙ given_long globals scope 0 right ∙ sym counted ∙ many;
           well = subst (λ (l : List Given). WellTaken elements wants l) (sym here) fit.well;
           pushed = subst (λ (l : List Given). PS (all_kinds globals.structs elements (taken_all wants (types_in l))) (pushes_right globals elements scope count (taken_all wants (types_in l)) right)) (sym here)
               (λ a ks out rest t. subst (λ plan. Typed code f a ks plan out) (sym (plain.plan_is globals elements scope types rest)) (typed_all globals elements code f grounds scope housed s alike (expressions right) types first free makes fit.fit fit.noted a ks out rest t));
@@ -131,10 +122,10 @@ module _ (globals : Globals) (elements : List Element) (code : Code) (f : CodeFu
       Same l = all_kinds globals.structs elements (taken_all wants (types_in l)) ≡ all_kinds globals.structs elements (types_in l)
 
       seen : given globals s count first (e ∷ []) ≡ given_values globals s first (e ∷ [])
-      seen = plain_given globals s count first (e ∷ []) (plain.also_is first)
+      seen = plain_given globals s count first (e ∷ []) plain
 
       here : given globals scope count 0 (e ∷ []) ≡ given_values globals scope 0 (e ∷ [])
-      here = plain_given globals scope count 0 (e ∷ []) (plain.also_is 0)
+      here = plain_given globals scope count 0 (e ∷ []) plain
 
       one : 1 ≡ count
       one = sym (ap length seen) ∙ same_count (length (given globals s count first (e ∷ []))) count end le numbers
