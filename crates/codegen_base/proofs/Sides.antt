@@ -1,13 +1,15 @@
 -- A right side is one receive for two places, or values alone.
-use Rattle.std.proofs.Common.{◌≡◌, ℕ, zero, suc, ◌==◌, true, false, List, [], ◌∷◌, Some, refl, ap, arith, inl, inr, ◌⊎◌}
+use Rattle.std.proofs.Common.{◌≡◌, ℕ, zero, suc, ◌+◌, ◌==◌, length, false, List, [], ◌∷◌, ◌++◌, Some, refl, ap, ◌∙◌, arith, inl, inr, ◌⊎◌}
 use Rattle.std.specs.Prelude.{if◌then◌else◌, ◌&&◌}
 use Rattle.std.proofs.lemmas.Bool.Decides.{nat_tests}
+use Rattle.std.proofs.lemmas.List.{append-nil}
 use Rattle.syntax.specs.Tree.{Expression, expressions, Receive}
+use Rattle.syntax.specs.Measures.{expression_size}
 use Rattle.type_table.specs.Types.{ValueType, BoolType}
 use Rattle.type_table.specs.Scopes.{Globals, Scope}
 use Rattle.typing_rules.specs.Worths.{Typed}
 use Rattle.typing_rules.specs.Expressions.{nodes_of}
-use Rattle.typing_rules.specs.Operations.{is_receive, also_given}
+use Rattle.typing_rules.specs.Operations.{is_receive, Given, given_values, also_given, given}
 use Rattle.meaning.specs.Variables.{Blocks}
 use Rattle.meaning.specs.Expressions.{right_values, values}
 use Rattle.codegen_base.specs.declared.element.Element.{Element}
@@ -41,3 +43,12 @@ form (suc (suc zero)) (Receive channel ∷ e' ∷ es) = inr (record { values_are
 form (suc (suc zero)) (e ∷ e' ∷ es) = inr (record { values_are = λ g b. refl; plan_is = λ g e s t r. refl; also_is = λ f. refl })
 form (suc (suc zero)) (Receive channel ∷ []) = inl (channel, refl, refl)
 form (suc (suc zero)) (e ∷ []) = inr (record { values_are = λ g b. refl; plan_is = λ g e s t r. refl; also_is = λ f. refl })
+
+-- what a right side gives for so many places, where it is its values alone
+pub plain_given : (globals : Globals) (s : Scope) (count first : ℕ) (es : List Expression) → IsPlain count es → given globals s count first es ≡ given_values globals s first es
+plain_given globals s count first es p = ap (λ (l : List Given). given_values globals s first es ++ l) (p.also_is first) ∙ append-nil (given_values globals s first es)
+
+-- values give as many
+pub given_long : (globals : Globals) (s : Scope) (first : ℕ) (es : List Expression) → length (given_values globals s first es) ≡ length es
+given_long globals s first [] = refl
+given_long globals s first (e ∷ es) = ap suc (given_long globals s (first + expression_size e) es)

@@ -1,37 +1,36 @@
 -- Behind each statement in which nothing is wrong, the layout has the variables that the typing rules see.
-use Rattle.std.proofs.Common.{◌≡◌, ℕ, ◌+◌, ◌≤◌, ◌||◌, List, [], ◌∷◌, length, drop, Option, Some, None, IfSome, refl, sym, ap, ◌∙◌, subst, arith, inl, inr}
+use Rattle.std.proofs.Common.{◌≡◌, ℕ, ◌+◌, ◌≤◌, ◌||◌, List, [], ◌∷◌, length, drop, Option, Some, None, IfSome, refl, sym, ap, ◌∙◌, subst, arith, inl, inr, sum_by}
 use Rattle.std.specs.Prelude.{if◌then◌else◌}
 use Rattle.std.specs.Option.{is_some}
 use Rattle.std.specs.List.{list_any}
 use Rattle.go_text.specs.declared.rule.Rule.TheVariants as rules
-use Rattle.syntax.specs.Tree.{TypeExpression, Call, Receive, Make, Length, Capacity, Right, RightOperation, Values, Simple, CallAlone, Close, Print, ReceiveAlone, Send, Increment, Decrement, Assign, Define, Update, Forever, While, ForClauses, Range, Statement, Empty, Alone, VarTyped, VarUntyped, Block, If, For, Select, Go, Return, Break, Continue, Conditional, Clauses, NoClause, Clause, File}
-use Rattle.syntax.specs.Measures.{if_any, type_size, right_size}
-use Rattle.bytecode.specs.Code.{Function as CodeFunction, Code}
+use Rattle.syntax.specs.Tree.{TypeExpression, Expression, Simple, CallAlone, Close, Print, ReceiveAlone, Send, Increment, Decrement, Assign, Define, Update, Forever, While, ForClauses, Range, Statement, Empty, Alone, VarTyped, VarUntyped, Block, If, For, Select, Go, Return, Break, Continue, Conditional, Clauses, NoClause, Clause}
+use Rattle.syntax.specs.Measures.{if_any, type_size, expression_size}
 use Rattle.type_table.specs.Types.{ValueType}
-use Rattle.type_table.specs.Scopes.{Globals, Scope, Yield, Yields, is_blank, is_reserved, last_named, own_variable, nothing_declared, type_in}
-use Rattle.typing_rules.specs.Operations.{given, result_of}
+use Rattle.type_table.specs.Scopes.{Globals, Scope, Yield, is_blank, is_reserved, last_named, own_variable, nothing_declared, type_in}
+use Rattle.typing_rules.specs.Operations.{given}
 use Rattle.typing_rules.specs.Simples.{SimpleHas, TypedVariablesHave, UntypedVariablesHave, has_twice, with_defined, with_variables}
 use Rattle.typing_rules.specs.Statements.{after, after_clauses}
 use Rattle.typing_rules.proofs.Defaults.{untyped_names}
 use Rattle.meaning.specs.Values.{known}
-use Rattle.meaning.specs.Source.{globals}
 use Rattle.codegen_base.specs.declared.element.Element.{Element}
 use Rattle.codegen_base.specs.Layouts.{Layout, declaring_all, declaring_each, given_types}
 use Rattle.codegen_base.specs.Generated.{Site, Made, past, followed, inside, ended, with_way, within_select, made, made_all, made_comm, made_ways, made_default, made_select, comm_kinds}
 use Rattle.codegen_base.proofs.Alike.{Alike, kind_if, alike_sym, type_alike}
-use Rattle.codegen_base.proofs.Fields.{AllWide}
-use Rattle.codegen_base.proofs.Known.{FieldsNoted, VariablesNoted}
+use Rattle.codegen_base.proofs.Running.{Compiled, Coded}
+use Rattle.codegen_base.proofs.Known.{VariablesNoted}
 use Rattle.codegen_base.proofs.Noted.{Noted}
 use Rattle.codegen_base.proofs.Seen.{Rising, rising_up}
 use Rattle.codegen_base.proofs.Static.{AllKnown, Nested, IsPlaced, variables_known}
-use Rattle.codegen_base.proofs.Typing.{Free, FieldsKnown, broken}
-use Rattle.codegen_follows.proofs.Stands.{View, scope_of, variables, Fine, SimpleMakes, RightMakes}
+use Rattle.codegen_base.proofs.Typing.{Free, broken}
+use Rattle.codegen_follows.proofs.Stands.{View, scope_of, variables, Fine, SimpleMakes, ValuesMake}
 use Rattle.codegen_follows.proofs.Grown.{grown}
 use Rattle.codegen_follows.proofs.Begun.{FineBehind}
 use Rattle.codegen_follows.proofs.Defined.{given_same}
 use Rattle.codegen_fine.proofs.Layouts.{own_same}
 use Rattle.codegen_fine.proofs.Variables.{three_false, not_true, new_by, alike_values, all_each, variables_are}
-use Rattle.codegen_equal.proofs.Given.{Well, AllWell, AreMade, written_well, right_well}
+use Rattle.codegen_equal.proofs.Given.{AllWell, right_well}
+use Rattle.codegen_fine.proofs.Makes.{written as type_there, written_noted}
 use Rattle.codegen_equal.proofs.Behind.{Good, good_all}
 
 -- ---- selects keep the variables that are visible
@@ -84,12 +83,15 @@ module _ (globals : Globals) (elements : List Element) (result : Yield) where
   clauses_alike NoClause s t a = a
   clauses_alike (Clause comm body rest) s t a = clauses_alike rest _ t (record { named = a.named; own = a.own; fits = a.fits; fit = a.fit })
 
-module _ (file : File) (elements : List Element) (all : AllWide (globals file).structs) (known_fields : (s : Scope) → FieldsKnown (globals file) s) (code : Code) (fields_noted : FieldsNoted elements (globals file)) (results : (n : ℕ) (kind : Option ValueType) → result_of (globals file) n ≡ Yields kind → Well elements kind) (result : Yield) (f : CodeFunction) where
+module _ {globals : Globals} {program : Compiled globals} (coded : Coded program) where
+  open program use {elements, wide as all}
+  open coded use {result}
+
   abbrev G : Globals
-  G = globals file
+  G = globals
 
   abbrev IsFine : View → Type 0
-  IsFine view = Fine file elements all code result f view
+  IsFine view = Fine coded view
 
   abbrev past_one : View → Statement → View
   past_one view s = record { site = past view.site (made G elements result view.site s); begins = view.begins; checked = after G view.checked s }
@@ -113,43 +115,36 @@ module _ (file : File) (elements : List Element) (all : AllWide (globals file).s
   good_of : (view : View) → IsFine view → Good elements G all view.checked (scope_of view) view.begins
   good_of view fine = record { placed = fine.placed; alike = fine.alike; noted = fine.noted }
 
-  made_right : (right : Right) → RightMakes file elements all code result f right → AreMade elements G.types right
-  made_right (RightOperation (Call a b)) m = tt
-  made_right (RightOperation (Receive a)) m = tt
-  made_right (RightOperation (Make kind size)) m = m
-  made_right (RightOperation (Length a)) m = tt
-  made_right (RightOperation (Capacity a)) m = tt
-  made_right (Values values) m = tt
-
   -- names that are given what a right side gives
-  named_good : (view : View) (names : List (List ℕ)) (right : Right) → IsFine view → AllWell elements view.checked names (given G view.checked (length names) 0 right)
+  named_good : (view : View) (names : List (List ℕ)) (right : List Expression) → IsFine view → AllWell elements view.checked names (given G view.checked (length names) 0 right)
       → Good elements G all (with_defined G view.checked names (given G view.checked (length names) 0 right)) (declaring_all G elements names (given_types G elements (given G (scope_of view) (length names) 0 right)) view.site.layout).scope view.begins
   named_good view names right fine well =
       subst (λ vs. Good elements G all (with_defined G view.checked names (given G view.checked (length names) 0 right)) (declaring_all G elements names (given_types G elements vs) view.site.layout).scope view.begins) (given_same G view.checked (scope_of view) fine.alike right (length names) 0)
       (good_all elements G all names (given G view.checked (length names) 0 right) view.checked view.site.layout view.begins (good_of view fine) well)
 
-  define_fine : (view : View) (names : List (List ℕ)) (right : Right) (first : ℕ) → IsFine view → Free (SimpleHas G view.checked first (Define names right)) → RightMakes file elements all code result f right → IsFine (past_one view (Alone (Define names right)))
+  define_fine : (view : View) (names : List (List ℕ)) (right : List Expression) (first : ℕ) → IsFine view → Free (SimpleHas G view.checked first (Define names right)) → ValuesMake globals elements right → IsFine (past_one view (Alone (Define names right)))
   define_fine view names right first fine free makes =
       let g = named_good view names right fine
-      (right_well elements G fields_noted results view.checked (scope_of view) (known_fields view.checked) (variables_known view.checked (scope_of view) fine.alike fine.placed.known) fine.alike fine.noted names right first (first + right_size right + 1) (omega arith) (made_right right makes) (λ flaw h. free flaw (inl h)) (λ flaw h. free flaw (inr (inl h))) (λ flaw h. free flaw (inr (inr (inr h))))) in
+      (right_well program view.checked (scope_of view) (variables_known view.checked (scope_of view) fine.alike fine.placed.known) fine.alike fine.noted names right first (first + sum_by expression_size right + 1) (omega arith) makes (λ flaw h. free flaw (inl h)) (λ flaw h. free flaw (inr (inl h))) (λ flaw h. free flaw (inr (inr (inr h))))) in
       record { placed = g.placed; alike = g.alike; noted = g.noted }
 
-  untyped_fine : (view : View) (names : List (List ℕ)) (right : Right) (first : ℕ) → IsFine view → Free (UntypedVariablesHave G view.checked first names right) → RightMakes file elements all code result f right → IsFine (past_one view (VarUntyped names right))
+  untyped_fine : (view : View) (names : List (List ℕ)) (right : List Expression) (first : ℕ) → IsFine view → Free (UntypedVariablesHave G view.checked first names right) → ValuesMake globals elements right → IsFine (past_one view (VarUntyped names right))
   untyped_fine view names right first fine free makes =
       let g = named_good view names right fine
-      (right_well elements G fields_noted results view.checked (scope_of view) (known_fields view.checked) (variables_known view.checked (scope_of view) fine.alike fine.placed.known) fine.alike fine.noted names right first (first + right_size right + 1) (omega arith) (made_right right makes) (λ flaw h. free flaw (inl h)) (λ flaw h. free flaw (inr (inl h)))
-      (untyped_names view.checked names (given G view.checked (length names) first right) (first + right_size right + 1) (omega arith) (λ flaw h. free flaw (inr h)))) in
+      (right_well program view.checked (scope_of view) (variables_known view.checked (scope_of view) fine.alike fine.placed.known) fine.alike fine.noted names right first (first + sum_by expression_size right + 1) (omega arith) makes (λ flaw h. free flaw (inl h)) (λ flaw h. free flaw (inr (inl h)))
+      (untyped_names view.checked names (given G view.checked (length names) first right) (first + sum_by expression_size right + 1) (omega arith) (λ flaw h. free flaw (inr h)))) in
       record { placed = g.placed; alike = g.alike; noted = g.noted }
 
   alike_well : (s : Scope) (names : List (List ℕ)) (kind : ValueType) → Noted elements kind → AllWell elements s names (alike_values names kind)
   alike_well s [] kind noted = tt
   alike_well s (name ∷ names) kind noted = (λ d. (refl, noted), alike_well s names kind noted)
 
-  typed_fine : (view : View) (names : List (List ℕ)) (written : TypeExpression) (right : Option Right) (first : ℕ) → IsFine view → Free (TypedVariablesHave G view.checked first names written right) → Noted elements (known (type_in G.types nothing_declared written)) → IsFine (past_one view (VarTyped names written right))
+  typed_fine : (view : View) (names : List (List ℕ)) (written : TypeExpression) (right : Option (List Expression)) (first : ℕ) → IsFine view → Free (TypedVariablesHave G view.checked first names written right) → Noted elements (known (type_in G.types nothing_declared written)) → IsFine (past_one view (VarTyped names written right))
   typed_fine view names written right first fine free noted =
       let s = view.checked in
-      let (kind, is, own) = written_well elements G fields_noted results s (scope_of view) (known_fields s) (variables_known s (scope_of view) fine.alike fine.placed.known) fine.alike fine.noted written first (λ flaw h. free flaw (inl h)) noted in
-      let end = first + type_size written + if_any right_size right + 1 in
+      let (kind, is) = type_there G.types s written first (λ flaw h. free flaw (inl h)) in
+      let own = written_noted G.types elements s written kind noted is in
+      let end = first + type_size written + if_any (sum_by expression_size) right + 1 in
       let b = broken rules.Declared end (omega arith) in
       let parts =
       three_false (list_any is_reserved names) (has_twice names) (list_any (λ name. is_some (own_variable s name)) names)
@@ -170,7 +165,7 @@ module _ (file : File) (elements : List Element) (all : AllWide (globals file).s
     noted = subst (VariablesNoted elements G) (sym scope) fine.noted;
   }
 
-  simple_fine : (view : View) (simple : Simple) (first : ℕ) → IsFine view → Free (SimpleHas G view.checked first simple) → SimpleMakes file elements all code result f simple → IsFine (past_one view (Alone simple))
+  simple_fine : (view : View) (simple : Simple) (first : ℕ) → IsFine view → Free (SimpleHas G view.checked first simple) → SimpleMakes globals elements simple → IsFine (past_one view (Alone simple))
   simple_fine view (Define names right) first fine free makes = define_fine view names right first fine free makes
   simple_fine view (CallAlone a b) first fine free makes = same_fine view (past_one view (Alone (CallAlone a b))) refl refl refl fine
   simple_fine view (Close a) first fine free makes = same_fine view (past_one view (Alone (Close a))) refl refl refl fine
@@ -191,7 +186,7 @@ module _ (file : File) (elements : List Element) (all : AllWide (globals file).s
       let b = alike_kept (scope_of next) view.checked next.checked checked checked-outer (alike_sym view.checked (scope_of next) a) in
       fine_left view next refl same outer ((grown G elements result view.site s).words) (alike_sym (scope_of next) next.checked b) fine
 
-  pub fine_after : FineBehind file elements all code result f
+  pub fine_after : FineBehind coded
   fine_after view Empty first b c fine free makes = same_fine view (past_one view Empty) refl refl refl fine
   fine_after view (Alone simple) first b c fine free makes = simple_fine view simple first fine free makes
   fine_after view (VarTyped names kind right) first b c fine free makes = typed_fine view names kind right first fine free makes.0

@@ -1,5 +1,5 @@
 -- The code of a file that the checker takes does what the file does: events, clocks, output and end are the same at every limit.
-use Rattle.std.proofs.Common.{◌≡◌, ℕ, suc, ◌+◌, Bool, true, false, List, [], ◌∷◌, length, map, Some, option_map, refl, sym, ap, ◌∙◌, subst, arith, slice_get, inl, inr}
+use Rattle.std.proofs.Common.{◌≡◌, ℕ, suc, ◌+◌, Bool, true, false, List, [], ◌∷◌, length, Some, option_map, refl, sym, ap, ◌∙◌, subst, arith, slice_get, inl, inr}
 use Rattle.std.specs.Prelude.{if◌then◌else◌, unwrap_or, codes}
 use Rattle.std.proofs.lemmas.Bool.{and_parts}
 use Rattle.go_text.specs.declared.rule.Rule.TheVariants as rules
@@ -7,28 +7,25 @@ use Rattle.syntax.specs.Tree.{Top, StructTop, FunctionTop, File}
 use Rattle.syntax.specs.Measures.{size as file_size}
 use Rattle.bytecode.specs.Code.{Function as CodeFunction}
 use Rattle.bytecode.specs.Machine.{main_of, code_begin, code_kind}
-use Rattle.word.specs.Values.{Go}
 use Rattle.word.specs.Worlds.{Equal}
 use Rattle.word.proofs.Equal.{equal}
-use Rattle.type_table.specs.Scopes.{Globals, Signature, nothing_declared, function_number}
+use Rattle.type_table.specs.Scopes.{Globals, Signature, function_number}
 use Rattle.typing_rules.specs.Files.{has_no_result, is_plain, has_main, FileHas, IsTyped}
 use Rattle.typing_rules.specs.Declarations.{is_nothing}
 use Rattle.typing_rules.specs.Kinds.{signatures}
-use Rattle.typing_rules.specs.Operations.{parameters_in, parameters_of, result_of}
-use Rattle.meaning.specs.Values.{known}
-use Rattle.meaning.specs.Destinations.{number_of}
+use Rattle.typing_rules.specs.Calls.{parameters_in}
+use Rattle.meaning.specs.Expressions.{number_of}
 use Rattle.meaning.specs.Source.{globals, functions, begun, source_kind}
 use Rattle.meaning.proofs.Ends.{weight, source_falls}
 use Rattle.codegen_base.specs.declared.element.Element.{Element}
 use Rattle.codegen_base.specs.Program.{made_function, functions_code, elements_of, code_of}
-use Rattle.codegen_base.proofs.Assigned.{AreLike}
 use Rattle.codegen_base.proofs.Typing.{Free, broken, not_false}
 use Rattle.plan.specs.Plan.{table_count}
 use Rattle.codegen_base.specs.Grammar.{PostsTops}
 use Rattle.codegen_fine.proofs.Main.{first_place, position_is, named_main, label_same, free_of}
-use Rattle.codegen_fine.proofs.Signatures.{functions_of}
-use Rattle.codegen_equal.proofs.Standing.{Near, near_follows}
-use Rattle.codegen_equal.proofs.Functions.{all, typed, known_fields, grounds, fine_behind, function_at, all_there, starting, all_start}
+use Rattle.codegen_base.proofs.Near.{Near}
+use Rattle.codegen_follows.proofs.Matching.{SitsBehind, near_match}
+use Rattle.codegen_equal.proofs.Functions.{program, fine_behind, all_entered, all_started, starts_near}
 
 -- ---- the main function
 
@@ -66,12 +63,6 @@ code_main file = position_is (λ (f : CodeFunction). named_main f.name) (code_of
 -- ---- the theorem
 
 module _ (file : File) (free : Free (FileHas file)) (still : PostsTops file.tops) where
-  -- a goroutine that runs the function of this number begins alike
-  begins_alike : (n : ℕ) → function_number (globals file).functions (codes "main") ≡ Some n → parameters_of (globals file) n ≡ [] → Near file (elements_of file) (all file free still) (typed file free still) (known_fields file free still) (code_of file) (begun file (slice_get (functions file) n) []) (code_begin (code_of file) n [])
-  begins_alike n is plain =
-      let F = function_at file free still n ((functions_of file free).there (codes "main") n is) in
-      all_start file free still (result_of (globals file) n) F.made (Go n []) (F.made, F.code_there, [], subst (λ ks. AreLike (globals file).structs (all file free still) (map known ks) []) (sym plain) tt, refl)
-
   free_equal : Equal (source_kind file) (code_kind (code_of file))
   free_equal =
       let b = broken rules.Main (file_size file) (omega arith) in
@@ -79,12 +70,12 @@ module _ (file : File) (free : Free (FileHas file)) (still : PostsTops file.tops
       let n = main.number in
       let source : number_of (globals file) (codes "main") ≡ n = ap (λ o. unwrap_or o 0) main.first in
       let target : unwrap_or (main_of (code_of file).functions) 0 ≡ n = ap (λ o. unwrap_or o 0) (code_main file ∙ main.first) in
-      let R = Near file (elements_of file) (all file free still) (typed file free still) (known_fields file free still) (code_of file) in
+      let R = Near file (program file free still) (SitsBehind file (program file free still)) in
       equal (source_kind file) (code_kind (code_of file)) R weight
-      (near_follows file (elements_of file) (all file free still) (typed file free still) (known_fields file free still) (code_of file) (fine_behind file free still) (grounds file free still) (known_fields file free still nothing_declared) (all_there file free still) (starting file free still) (all_start file free still))
+      (near_match file (program file free still) (fine_behind file free still) (all_entered file free still) (all_started file free still))
       (source_falls file)
       (subst (λ k. R (begun file (slice_get (functions file) k) []) (code_begin (code_of file) (unwrap_or (main_of (code_of file).functions) 0) [])) (sym source)
-      (subst (λ k. R (begun file (slice_get (functions file) n) []) (code_begin (code_of file) k [])) (sym target) (begins_alike n main.first main.plain)))
+      (subst (λ k. R (begun file (slice_get (functions file) n) []) (code_begin (code_of file) k [])) (sym target) (starts_near file free still (codes "main") n main.first main.plain)))
 
 -- the code of a file that the checker takes, where no post statement declares anything, is the same kind of goroutine
 pub is_equal : (file : File) → PostsTops file.tops → IsTyped file → Equal (source_kind file) (code_kind (code_of file))

@@ -1,42 +1,36 @@
 -- What is so of the program that a file with which nothing is wrong is: its functions are there and begin alike.
-use Rattle.std.proofs.Common.{◌≡◌, ℕ, ◌<◌, ◌≤◌, List, [], ◌∷◌, length, map, Some, refl, sym, ap, ◌∙◌, subst, arith, slice_get}
+use Rattle.std.proofs.Common.{◌≡◌, ℕ, ◌≤◌, [], ◌∷◌, List, length, map, Some, refl, sym, ap, ◌∙◌, subst, arith, slice_get}
 use Rattle.std.proofs.lemmas.Option.{slice_get_within, same_Some}
-use Rattle.syntax.specs.Tree.{Function, File}
+use Rattle.syntax.specs.Tree.{File}
 use Rattle.bytecode.specs.Code.{Function as CodeFunction, Code}
 use Rattle.bytecode.specs.Effects.{params_in, locals_in}
 use Rattle.bytecode.specs.Machine.{Frames as CodeFrames, begun as code_begun, code_begin}
-use Rattle.word.specs.declared.value.Word.{Word}
-use Rattle.word.specs.Values.{Make, Go, Send, Receive, Close, Select, Len, Cap, Print, End, Exit, Panic, Exhausted}
+use Rattle.word.specs.Related.{here}
 use Rattle.type_table.specs.Types.{ValueType, IntType, BoolType, StructType, ChannelType}
-use Rattle.type_table.specs.Containment.{fields_of}
-use Rattle.type_table.specs.Scopes.{Scope, Yield}
+use Rattle.type_table.specs.Scopes.{function_number}
+use Rattle.typing_rules.specs.Calls.{parameters_in, parameters_of, result_in, result_of}
 use Rattle.typing_rules.specs.Files.{FileHas}
 use Rattle.typing_rules.specs.Kinds.{fields_declared}
-use Rattle.typing_rules.specs.Operations.{parameters_in, parameters_of, result_in, result_of}
 use Rattle.meaning.specs.Values.{Value, known, words_in}
-use Rattle.meaning.specs.Tasks.{Frames}
-use Rattle.meaning.specs.Source.{globals, functions, called, begun}
+use Rattle.meaning.specs.Tasks.{Frame, Frames}
+use Rattle.meaning.specs.Source.{globals, functions, entered_with, begun}
+use Rattle.meaning.proofs.FairTasks.{tasks_fair}
 use Rattle.codegen_base.specs.declared.element.Element.{Element}
-use Rattle.codegen_base.specs.Program.{elements_of, code_of}
-use Rattle.codegen_base.proofs.Assigned.{AreLike, all_words_of}
-use Rattle.codegen_base.proofs.Fields.{AllWide, AllTyped}
-use Rattle.codegen_base.proofs.Likeness.{kinds_long}
-use Rattle.codegen_base.proofs.Typing.{Free, FieldsKnown}
-use Rattle.codegen_follows.proofs.Begun.{FineBehind}
-use Rattle.codegen_follows.proofs.Returned.{AllWait}
-use Rattle.codegen_follows.proofs.Channels.{Grounds}
-use Rattle.codegen_follows.proofs.Calling.{IsFunction, AllThere, Starting}
-use Rattle.codegen_fine.proofs.Operands.{Grounds as FineGrounds}
-use Rattle.codegen_fine.proofs.Operations.{Functions}
 use Rattle.codegen_base.specs.Grammar.{PostsTops}
+use Rattle.codegen_base.specs.Program.{result_of as made_result, elements_of, code_of}
+use Rattle.codegen_base.proofs.Likeness.{AreLike, all_words_of, kinds_long}
+use Rattle.codegen_base.proofs.Near.{Near, AllEntered, AllStarted}
+use Rattle.codegen_base.proofs.Running.{Compiled, Coded}
+use Rattle.codegen_base.proofs.Typing.{Free}
+use Rattle.codegen_follows.proofs.Begun.{FineBehind}
+use Rattle.codegen_follows.proofs.Matching.{SitsBehind}
+use Rattle.codegen_fine.proofs.Operands.{Grounds}
 use Rattle.codegen_fine.proofs.Shapes.{struct_narrow}
 use Rattle.codegen_fine.proofs.Structs.{grounds_of}
-use Rattle.codegen_fine.proofs.Signatures.{functions_of}
 use Rattle.codegen_equal.proofs.After.{fine_after}
 use Rattle.codegen_equal.proofs.Located.{Located, located}
 use Rattle.codegen_equal.proofs.Passed.{kinds_size, split_words}
-use Rattle.codegen_equal.proofs.Began.{yield_known, begins_near}
-use Rattle.codegen_equal.proofs.Standing.{Near, AllStart}
+use Rattle.codegen_equal.proofs.Began.{begins_sits}
 
 module _ (file : File) (free : Free (FileHas file)) (still : PostsTops file.tops) where
   abbrev elements : List Element
@@ -45,99 +39,76 @@ module _ (file : File) (free : Free (FileHas file)) (still : PostsTops file.tops
   abbrev code : Code
   code = code_of file
 
-  abbrev fine_grounds : FineGrounds (globals file) elements code
-  fine_grounds = grounds_of file free
+  abbrev grounds : Grounds (globals file) elements code
+  grounds = grounds_of file free
 
-  abbrev heads : Functions (globals file) elements code
-  heads = functions_of file free
+  -- a function of the file and its code
+  abbrev At : ℕ → Type 0
+  At n = Located (globals file) elements code grounds (slice_get (functions file) n) (slice_get code.functions n) (slice_get (globals file).functions n)
 
-  abbrev pub all : AllWide (globals file).structs
-  all = fine_grounds.wide
+  -- ---- the program
 
-  abbrev pub typed : (n : ℕ) → AllTyped (globals file).structs (fields_of (globals file).structs n)
-  typed = fine_grounds.typed
-
-  abbrev pub known_fields : (s : Scope) → FieldsKnown (globals file) s
-  known_fields = fine_grounds.fields_known
-
-  -- ---- types
-
-  narrow : (kind : ValueType) → words_in (globals file).structs kind ≤ 16
+  pub narrow : (kind : ValueType) → words_in (globals file).structs kind ≤ 16
   narrow IntType = omega arith
   narrow BoolType = omega arith
   narrow (ChannelType d c) = omega arith
-  narrow (StructType n) = let short = struct_narrow file all free n in let long = kinds_long (globals file).structs elements (StructType n) in omega (arith, short, long)
+  narrow (StructType n) = let short = struct_narrow file grounds.wide free n in let long = kinds_long (globals file).structs elements (StructType n) in omega (arith, short, long)
 
-  pub grounds : Grounds file elements code
-  grounds = record {
+  -- a function takes as many words as its arguments have
+  pub params_fit : (n : ℕ) (callee : CodeFunction) → slice_get code.functions n ≡ Some callee → (vs : List Value) → AreLike (globals file).structs (map known (parameters_of (globals file) n)) vs → length (params_in (Some callee)) ≡ length (all_words_of vs)
+  params_fit n callee has vs like = ap (λ o. length (params_in o)) (sym has) ∙ ap length (grounds.functions.params n) ∙ kinds_size (globals file).structs elements (map known (parameters_of (globals file) n)) vs like
+
+  abbrev pub program : Compiled (globals file)
+  program = record {
+    elements = elements;
+    code = code;
+    wide = grounds.wide;
+    typed = grounds.typed;
+    types_known = grounds.types_known;
+    params_known = grounds.functions.known_kinds;
     shapes = refl;
-    fields_noted = fine_grounds.fields_noted;
+    fields_noted = grounds.fields_noted;
+    results_noted = grounds.results_noted;
     narrow = narrow;
-    params_known = heads.known_kinds;
-    results_known = λ n. yield_known (result_of (globals file) n) (heads.result_known n);
+    functions = λ name n is. let L : At n = located file free still n (grounds.functions.there name n is) in (_, L.made_is, λ vs like. params_fit n _ L.made_is vs like);
   }
 
-  pub fine_behind : (result : Yield) (f : CodeFunction) → FineBehind file elements all code result f
-  fine_behind result f = fine_after file elements all known_fields code fine_grounds.fields_noted (λ n kind e. (heads.result_known n kind e, heads.result_noted n kind e)) result f
+  pub fine_behind : (coded : Coded program) → FineBehind coded
+  fine_behind coded = fine_after coded
 
   -- ---- functions
 
-  abbrev At : ℕ → Type 0
-  At n = Located (globals file) elements code fine_grounds heads (slice_get (functions file) n) (slice_get code.functions n) (slice_get (globals file).functions n)
+  abbrev Sat : ℕ → Frame → CodeFrames → CodeFrames → Type 0
+  Sat = SitsBehind file program
 
-  abbrev Near' : Frames → CodeFrames → Type 0
-  Near' a c = Near file elements all typed known_fields code a c
+  -- the code of a function that is entered, or that a goroutine begins with, begins where the function sits
+  enters : (n : ℕ) (L : At n) (vs : List Value) (callee : CodeFunction) → AreLike (globals file).structs (map known (parameters_of (globals file) n)) vs → slice_get code.functions n ≡ Some callee → (callers : CodeFrames)
+      → Sat n (entered_with (globals file) L.function vs) callers (code_begun callee.locals n (all_words_of vs) ∷ callers)
+  enters n L vs callee like has callers =
+      let own = subst (λ o. AreLike (globals file).structs (map known (parameters_in o)) vs) L.head_is like in
+      let declared : result_of (globals file) n ≡ made_result (globals file) elements L.function = ap result_in L.head_is in
+      subst (λ (x : CodeFunction). Sat n (entered_with (globals file) L.function vs) callers (code_begun x.locals n (all_words_of vs) ∷ callers)) (same_Some _ callee (sym L.made_is ∙ has))
+      (begins_sits file program grounds fine_behind n (slice_get (functions file) n) (slice_get (globals file).functions n) L declared vs own callers)
 
-  abbrev words : List Value → List Word
-  words vs = all_words_of (globals file).structs all vs
+  pub all_entered : AllEntered file program (SitsBehind file program)
+  all_entered n vs callee like has =
+      let L : At n = located file free still n (slice_get_within code.functions n callee has) in
+      (L.function, L.source_is, λ callers. enters n L vs callee like has callers)
 
-  pub function_at : (n : ℕ) → n < length code.functions → IsFunction file elements all typed known_fields code n
-  function_at n lt =
-      let L : At n = located file free still n lt in
-      record {
-        function = L.function;
-        made = _;
-        source_there = L.source_is;
-        code_there = L.made_is;
-        params = λ vs like. ap (λ o. length (params_in o)) (sym L.made_is) ∙ ap length (heads.params n) ∙ kinds_size (globals file).structs elements all (map known (parameters_of (globals file) n)) vs like;
-      }
+  pub all_started : AllStarted file program (SitsBehind file program)
+  all_started n vs callee like has =
+      let L : At n = located file free still n (slice_get_within code.functions n callee has) in
+      let own = subst (λ o. AreLike (globals file).structs (map known (parameters_in o)) vs) L.head_is like in
+      let top : Frame = entered_with (globals file) L.function vs in
+      let d : CodeFrames = code_begun callee.locals n (all_words_of vs) ∷ [] in
+      let near : Near file program (SitsBehind file program) (top ∷ []) d = (n, [], record { from = d; sat = enters n L vs callee like has []; gave = here; taken = (tasks_fair (globals file) top.blocks top.tasks).none }, tt) in
+      let same : begun file (slice_get (functions file) n) (all_words_of vs) ≡ top ∷ [] =
+      ap (λ o. begun file o (all_words_of vs)) L.source_is ∙ ap (λ (a : List Value). entered_with (globals file) L.function a ∷ []) (split_words file (fields_declared (globals file).types L.function.parameters) vs own) in
+      subst (λ (x : Frames). Near file program (SitsBehind file program) x (code_begin code n (all_words_of vs))) (sym same)
+      (subst (λ o. Near file program (SitsBehind file program) (top ∷ []) (code_begun (locals_in o) n (all_words_of vs) ∷ [])) (sym has) near)
 
-  pub all_there : AllThere file elements all typed known_fields code
-  all_there name n is = function_at n (heads.there name n is)
-
-  pub starting : Starting file elements all typed known_fields code Near'
-  starting n F vs like cs ds wait =
-      let L : At n = located file free still n (slice_get_within code.functions n F.made F.code_there) in
-      let source : L.function ≡ F.function = same_Some L.function F.function (sym L.source_is ∙ F.source_there) in
-      let near = begins_near file elements all typed known_fields code fine_grounds heads fine_behind (slice_get (functions file) n) (slice_get code.functions n) (slice_get (globals file).functions n) L n L.made_is vs
-      (subst (λ o. AreLike (globals file).structs all (map known (parameters_in o)) vs) L.head_is like) cs ds (subst (λ o. AllWait file elements all typed known_fields code (result_in o) cs ds) L.head_is wait) in
-      let made = same_Some _ F.made (sym L.made_is ∙ F.code_there) in
-      subst (λ (x : Function). Near' (called (globals file) x vs ∷ cs) (code_begun F.made.locals n (words vs) ∷ ds)) source
-      (subst (λ (x : CodeFunction). Near' (called (globals file) L.function vs ∷ cs) (code_begun x.locals n (words vs) ∷ ds)) made near)
-
-  go_near : (n : ℕ) (made : CodeFunction) → slice_get code.functions n ≡ Some made → (vs : List Value) → AreLike (globals file).structs all (map known (parameters_of (globals file) n)) vs → Near' (begun file (slice_get (functions file) n) (words vs)) (code_begin code n (words vs))
-  go_near n made there vs like =
-      let lt = slice_get_within code.functions n made there in
-      let L : At n = located file free still n lt in
-      let own = subst (λ o. AreLike (globals file).structs all (map known (parameters_in o)) vs) L.head_is like in
-      let near = begins_near file elements all typed known_fields code fine_grounds heads fine_behind (slice_get (functions file) n) (slice_get code.functions n) (slice_get (globals file).functions n) L n L.made_is vs own [] [] tt in
-      let same : begun file (slice_get (functions file) n) (words vs) ≡ called (globals file) L.function vs ∷ [] =
-      ap (λ o. begun file o (words vs)) L.source_is
-      ∙ ap (λ (a : List Value). called (globals file) L.function a ∷ []) (split_words file all (fields_declared (globals file).types L.function.parameters) vs own) in
-      subst (λ (x : Frames). Near' x (code_begin code n (words vs))) (sym same)
-      (subst (λ o. Near' (called (globals file) L.function vs ∷ []) (code_begun (locals_in o) n (words vs) ∷ [])) (sym L.made_is) near)
-
-  pub all_start : AllStart file elements all typed known_fields code
-  all_start given f (Go n args) (made, there, vs, like, is) = subst (λ (ws : List Word). Near' (begun file (slice_get (functions file) n) ws) (code_begin code n ws)) (sym is) (go_near n made there vs like)
-  all_start given f (Make size zero) b = tt
-  all_start given f (Send c item) b = tt
-  all_start given f (Receive c) b = tt
-  all_start given f (Close c) b = tt
-  all_start given f (Select cases default) b = tt
-  all_start given f (Len c) b = tt
-  all_start given f (Cap c) b = tt
-  all_start given f (Print bytes) b = tt
-  all_start given f End b = tt
-  all_start given f Exit b = tt
-  all_start given f (Panic p) b = tt
-  all_start given f Exhausted b = tt
+  -- a goroutine that runs a function without parameters begins near its code
+  pub starts_near : (name : List ℕ) (n : ℕ) → function_number (globals file).functions name ≡ Some n → parameters_of (globals file) n ≡ [] → Near file program (SitsBehind file program) (begun file (slice_get (functions file) n) []) (code_begin code n [])
+  starts_near name n is plain =
+      let L : At n = located file free still n (grounds.functions.there name n is) in
+      all_started n [] _ (subst (λ ks. AreLike (globals file).structs (map known ks) []) (sym plain) tt) L.made_is

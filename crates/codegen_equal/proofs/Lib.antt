@@ -1,4 +1,3 @@
-pub mod Standing
 pub mod Given
 pub mod Behind
 pub mod After

@@ -15,7 +15,6 @@ use Rattle.plan.specs.Plan.{tables, table_count}
 use Rattle.plan.proofs.Lists.{behind}
 use Rattle.plan.proofs.Tables.{tables_size}
 use Rattle.codegen_fine.proofs.Operands.{Grounds}
-use Rattle.codegen_fine.proofs.Operations.{Functions}
 use Rattle.codegen_fine.proofs.Simples.{Prints}
 use Rattle.codegen_base.proofs.Noting.{tops_grow}
 use Rattle.codegen_fine.proofs.Bodies.{prints_front, prints_back}
@@ -24,9 +23,8 @@ use Rattle.codegen_fine.proofs.Programs.{AllFine}
 use Rattle.codegen_base.specs.Grammar.{PostsTops}
 use Rattle.codegen_fine.proofs.Heads.{all_fine}
 use Rattle.codegen_fine.proofs.Structs.{grounds_of}
-use Rattle.codegen_fine.proofs.Signatures.{functions_of}
 
-module _ (globals : Globals) (elements : List Element) (code : Code) (grounds : Grounds globals elements code) (functions : Functions globals elements code) where
+module _ (globals : Globals) (elements : List Element) (code : Code) (grounds : Grounds globals elements code) where
   -- a function of the source with which nothing is wrong, its code, and where its tables stand
   pub record Located (source : Option Function) (made : Option CodeFunction) (head : Option Signature) : Type 0 where
     pub function : Function
@@ -38,13 +36,13 @@ module _ (globals : Globals) (elements : List Element) (code : Code) (grounds : 
     pub source_is : source ≡ Some function
     pub made_is : made ≡ Some (function_code globals elements function (made_function globals elements prints selects function))
     pub head_is : head ≡ Some (signature globals.types function)
-    pub fine : IsFine globals elements code grounds functions function
+    pub fine : IsFine globals elements code grounds function
     pub free : Free (BodyHas globals first function)
     pub grows : Grows (noting_statements globals.types function.body some) elements
     pub tables_are : Prints code prints (made_function globals elements prints selects function).prints
     pub selects_are : drop selects code.selects ≡ tables 0 (made_function globals elements prints selects function).plan ++ rest
 
-  all_located : (tops : List Top) (prints selects first : ℕ) → AllFine globals elements code grounds functions tops → Free (BodiesHave globals first tops) → (all : List Element) → Grows (noting_tops globals.types tops all) elements → Prints code prints (all_prints globals elements prints selects tops)
+  all_located : (tops : List Top) (prints selects first : ℕ) → AllFine globals elements code grounds tops → Free (BodiesHave globals first tops) → (all : List Element) → Grows (noting_tops globals.types tops all) elements → Prints code prints (all_prints globals elements prints selects tops)
       → drop selects code.selects ≡ all_selects globals elements prints selects tops → (n : ℕ) → n < length (functions_code globals elements prints selects tops)
       → Located (slice_get (functions_in tops) n) (slice_get (functions_code globals elements prints selects tops) n) (slice_get (signatures globals.types tops) n)
   all_located [] prints selects first fine free all grows tables-of selects-of n lt = absurd (omega (arith, lt))
@@ -79,11 +77,10 @@ module _ (globals : Globals) (elements : List Element) (code : Code) (grounds : 
 
 -- each function of a file that the checker takes
 pub located : (file : File) (free : Free (FileHas file)) → PostsTops file.tops → (n : ℕ) → n < length (code_of file).functions
-    → Located (globals_of file.tops) (elements_of file) (code_of file) (grounds_of file free) (functions_of file free) (slice_get (functions_in file.tops) n) (slice_get (code_of file).functions n) (slice_get (globals_of file.tops).functions n)
+    → Located (globals_of file.tops) (elements_of file) (code_of file) (grounds_of file free) (slice_get (functions_in file.tops) n) (slice_get (code_of file).functions n) (slice_get (globals_of file.tops).functions n)
 located file free still n lt =
     let globals = globals_of file.tops in
     let elements = elements_of file in
     let grounds = grounds_of file free in
-    let functions = functions_of file free in
-    all_located globals elements (code_of file) grounds functions file.tops 0 0 0 (all_fine globals elements (code_of file) grounds functions file.tops (function_names file.tops) 0 0 (λ flaw h. free flaw (inl (inr h))) still [] (grows_no elements)) (λ flaw h. free flaw (inr (inr h))) [] (grows_no elements)
+    all_located globals elements (code_of file) grounds file.tops 0 0 0 (all_fine globals elements (code_of file) grounds file.tops (function_names file.tops) 0 0 (λ flaw h. free flaw (inl (inr h))) still [] (grows_no elements)) (λ flaw h. free flaw (inr (inr h))) [] (grows_no elements)
     (λ n x is. let z : 0 + n ≡ n = omega arith in subst (λ k. slice_get (code_of file).prints k ≡ Some x) (sym z) is) refl n lt

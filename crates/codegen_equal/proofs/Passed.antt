@@ -18,14 +18,13 @@ use Rattle.codegen_base.specs.Elements.{kinds_of}
 use Rattle.codegen_base.specs.Layouts.{Layout, declaring, with_parameters}
 use Rattle.codegen_base.specs.Statements.{Local}
 use Rattle.plan.proofs.Words.{Words}
-use Rattle.codegen_base.proofs.Assigned.{AreLike, all_words_of, counted_words, stores_one}
-use Rattle.codegen_base.proofs.Expressions.{Holding}
+use Rattle.codegen_base.proofs.Assigned.{counted_words, stores_one}
+use Rattle.codegen_base.proofs.Static.{Holding}
 use Rattle.codegen_base.proofs.Fields.{AllWide}
-use Rattle.codegen_base.proofs.Likeness.{like_length, like_long, fitted_like, kinds_zeros, kinds_long}
+use Rattle.codegen_base.proofs.Likeness.{AreLike, all_words_of, like_none, like_length, like_long, fitted_like, kinds_zeros, kinds_long}
 use Rattle.codegen_base.proofs.Seen.{seen}
 use Rattle.codegen_base.proofs.Static.{IsPlaced}
-use Rattle.codegen_follows.proofs.Returned.{like_none}
-use Rattle.codegen_fine.proofs.Emitted.{all_kinds}
+use Rattle.codegen_fine.proofs.Operands.{all_kinds}
 
 -- ---- words
 
@@ -43,15 +42,15 @@ put_same a done v rest ls is e =
     let back : drop (a + length v) ls ≡ rest = ap (λ (l : Words). drop (a + length v) l) (is ∙ sym (append_assoc done v rest)) ∙ ap (λ n. drop n ((done ++ v) ++ rest)) many ∙ drop-append_seam (done ++ v) rest in
     ap (λ (l : Words). l ++ v ++ drop (a + length v) ls) front ∙ ap (λ (l : Words). done ++ v ++ l) back ∙ append_assoc done v rest ∙ sym is
 
-module _ (structs : Structs) (elements : List Element) (all : AllWide structs) where
+module _ (structs : Structs) (elements : List Element) where
   abbrev words : List Value → Words
-  words vs = all_words_of structs all vs
+  words vs = all_words_of vs
 
   like_size : (kind : ValueType) (v : Value) → words_like (zero_words structs kind) v ≡ v → length v ≡ length (zero_words structs kind)
   like_size kind v like = sym (ap length like) ∙ like_length (zero_words structs kind) v
 
   -- values fit the kinds of their words, and what is behind is zero
-  values_fitted : (types : List ValueType) (vs : List Value) (zs : Words) → AreLike structs all types vs → words_like (map zero_of (all_kinds structs elements types) ++ zs) (words vs) ≡ words vs ++ zs
+  values_fitted : (types : List ValueType) (vs : List Value) (zs : Words) → AreLike structs types vs → words_like (map zero_of (all_kinds structs elements types) ++ zs) (words vs) ≡ words vs ++ zs
   values_fitted [] [] zs like = like_none zs
   values_fitted [] (v ∷ vs) zs like = absurd like
   values_fitted (kind ∷ types) [] zs like = absurd like
@@ -64,14 +63,14 @@ module _ (structs : Structs) (elements : List Element) (all : AllWide structs) w
       ap (λ (l : Words). words_like l (v ++ words vs)) parts ∙ like_both z (map zero_of others ++ zs) v (words vs) (like_size kind v like.0)
       ∙ ap (λ (l : Words). l ++ words_like (map zero_of others ++ zs) (words vs)) like.0 ∙ ap (λ (l : Words). v ++ l) (values_fitted types vs zs like.1) ∙ sym (append_assoc v (words vs) zs)
 
-  pub arguments_fitted : (types : List ValueType) (vs : List Value) (more : List WordKind) → AreLike structs all types vs → fitted (all_kinds structs elements types ++ more) (words vs) ≡ words vs ++ map zero_of more
+  pub arguments_fitted : (types : List ValueType) (vs : List Value) (more : List WordKind) → AreLike structs types vs → fitted (all_kinds structs elements types ++ more) (words vs) ≡ words vs ++ map zero_of more
   arguments_fitted types vs more like =
       fitted_like (all_kinds structs elements types ++ more) (words vs) ∙ ap (λ (l : Words). words_like l (words vs)) (map-append zero_of (all_kinds structs elements types) more) ∙ values_fitted types vs (map zero_of more) like
 
   pub fitted_length : (ks : List WordKind) (ws : Words) → length (fitted ks ws) ≡ length ks
   fitted_length ks ws = ap length (fitted_like ks ws) ∙ like_length (map zero_of ks) ws ∙ length-map ks zero_of
 
-  pub kinds_size : (types : List ValueType) (vs : List Value) → AreLike structs all types vs → length (all_kinds structs elements types) ≡ length (words vs)
+  pub kinds_size : (types : List ValueType) (vs : List Value) → AreLike structs types vs → length (all_kinds structs elements types) ≡ length (words vs)
   kinds_size [] [] like = refl
   kinds_size [] (v ∷ vs) like = absurd like
   kinds_size (kind ∷ types) [] like = absurd like
@@ -83,7 +82,7 @@ module _ (structs : Structs) (elements : List Element) (all : AllWide structs) w
 
 module _ (globals : Globals) (elements : List Element) (all : AllWide globals.structs) where
   abbrev words' : List Value → Words
-  words' vs = all_words_of globals.structs all vs
+  words' vs = all_words_of vs
 
   -- arguments in the locals, as the variables of parameters
   pub record ArePassed (fields : List Field) (vs : List Value) (layout : Layout) (ls : Words) : Type 0 where
@@ -91,7 +90,7 @@ module _ (globals : Globals) (elements : List Element) (all : AllWide globals.st
     pub placed : IsPlaced globals.structs (with_parameters globals elements fields layout).scope []
     pub holding : Holding globals.structs ls (with_parameters globals elements fields layout).scope.variables
 
-  pub passed : (fields : List Field) (vs : List Value) (layout : Layout) (done more ls : Words) → ls ≡ done ++ (words' vs ++ more) → layout.scope.words ≡ length done → IsPlaced globals.structs layout.scope [] → Holding globals.structs ls layout.scope.variables → AreLike globals.structs all (map known (kinds_in fields)) vs
+  pub passed : (fields : List Field) (vs : List Value) (layout : Layout) (done more ls : Words) → ls ≡ done ++ (words' vs ++ more) → layout.scope.words ≡ length done → IsPlaced globals.structs layout.scope [] → Holding globals.structs ls layout.scope.variables → AreLike globals.structs (map known (kinds_in fields)) vs
       → ArePassed fields vs layout ls
   passed [] [] layout done more ls is count placed holding like = record { seen_is = refl; placed = placed; holding = holding }
   passed [] (v ∷ vs) layout done more ls is count placed holding like = absurd like
@@ -113,15 +112,15 @@ module _ (globals : Globals) (elements : List Element) (all : AllWide globals.st
       record { seen_is = r.seen_is ∙ ap (bound globals rest vs) seen-is; placed = r.placed; holding = r.holding }
 
 -- the words of values are taken apart into the values
-pub split_words : (file : File) (all : AllWide (globals file).structs) (fields : List Field) (vs : List Value) → AreLike (globals file).structs all (map known (kinds_in fields)) vs → split file fields (all_words_of (globals file).structs all vs) ≡ vs
-split_words file all [] [] like = refl
-split_words file all [] (v ∷ vs) like = absurd like
-split_words file all (field ∷ rest) [] like = absurd like
-split_words file all (field ∷ rest) (v ∷ vs) like =
+pub split_words : (file : File) (fields : List Field) (vs : List Value) → AreLike (globals file).structs (map known (kinds_in fields)) vs → split file fields (all_words_of vs) ≡ vs
+split_words file [] [] like = refl
+split_words file [] (v ∷ vs) like = absurd like
+split_words file (field ∷ rest) [] like = absurd like
+split_words file (field ∷ rest) (v ∷ vs) like =
     let structs = (globals file).structs in
-    let ws = all_words_of structs all vs in
+    let ws = all_words_of vs in
     let e : length (zero_words structs (known field.kind)) ≡ length v = sym (like_length (zero_words structs (known field.kind)) v) ∙ ap length like.0 in
     ap (λ n. take n (v ++ ws) ∷ split file rest (drop n (v ++ ws))) e
     ∙ ap (λ (x : Value). x ∷ split file rest (drop (length v) (v ++ ws))) (take-append_seam v ws)
     ∙ ap (λ (l : Words). v ∷ split file rest l) (drop-append_seam v ws)
-    ∙ ap (λ (l : List Value). v ∷ l) (split_words file all rest vs like.1)
+    ∙ ap (λ (l : List Value). v ∷ l) (split_words file rest vs like.1)

@@ -1,5 +1,5 @@
 -- Assignments and declarations with which nothing is wrong leave the stack as it was.
-use Rattle.std.proofs.Common.{◌≡◌, ℕ, ◌+◌, ◌≤◌, Bool, true, false, not, ◌||◌, List, [], ◌∷◌, ◌++◌, length, map, drop, Option, Some, None, refl, sym, ap, ◌∙◌, subst, arith, inl, inr}
+use Rattle.std.proofs.Common.{◌≡◌, ℕ, ◌+◌, ◌≤◌, Bool, true, false, not, ◌||◌, List, [], ◌∷◌, ◌++◌, length, map, drop, Option, Some, None, refl, sym, ap, ◌∙◌, subst, arith, inl, inr, sum_by}
 use Rattle.std.specs.Prelude.{if◌then◌else◌}
 use Rattle.std.specs.Option.{is_none}
 use Rattle.std.specs.List.{list_any}
@@ -7,8 +7,8 @@ use Rattle.std.proofs.lemmas.Bool.{or_parts}
 use Rattle.std.proofs.lemmas.List.{length-map}
 use Rattle.std.proofs.lemmas.Option.{same_Some}
 use Rattle.go_text.specs.declared.rule.Rule.TheVariants as rules
-use Rattle.syntax.specs.Tree.{Right, Place, Assign, Define}
-use Rattle.syntax.specs.Measures.{right_size, simple_size}
+use Rattle.syntax.specs.Tree.{Expression, Place, Assign, Define}
+use Rattle.syntax.specs.Measures.{expression_size, simple_size}
 use Rattle.bytecode.specs.declared.instr.WordKind.{WordKind}
 use Rattle.bytecode.specs.Code.{Function as CodeFunction, Code}
 use Rattle.type_table.specs.Types.{ValueType}
@@ -31,11 +31,12 @@ use Rattle.plan.specs.Plan.{Plan, Skip}
 use Rattle.plan.proofs.Typed.{Allowed, Typed}
 use Rattle.codegen_fine.proofs.Pushing.{Puts}
 use Rattle.codegen_fine.proofs.Operands.{Grounds}
-use Rattle.codegen_fine.proofs.Emitted.{all_kinds}
+use Rattle.codegen_fine.proofs.Operands.{all_kinds}
 use Rattle.codegen_fine.proofs.Spots.{joined, SpotFits, SpotsFit, assigns_typed}
 use Rattle.codegen_fine.proofs.Places.{IsHoused, AllHoused, found_housed, drop_housed, housed_of, place_leads, place_alike}
 use Rattle.codegen_fine.proofs.Givens.{WantHas, WantsFail, WantsNoted, WellTaken, taken, taken_all, worths, given_alike}
-use Rattle.codegen_fine.proofs.Rights.{RightNoted, Takes, typed_right}
+use Rattle.codegen_fine.proofs.Rights.{Takes, typed_right}
+use Rattle.codegen_base.proofs.StatementMakes.{ValuesMake}
 use Rattle.codegen_fine.proofs.Layouts.{own_same, Begins, Room, AllTaken, NamesFit, names_fit}
 
 pub joined_kinds : (globals : Globals) (elements : List Element) (types : List ValueType) → joined (map (kinds_of globals.structs elements) types) ≡ all_kinds globals.structs elements types
@@ -90,7 +91,7 @@ module _ (globals : Globals) (elements : List Element) where
   by_worths x scope alike (name ∷ names) s [] = by_worths x scope alike names (after_name globals s name None) []
   by_worths x scope alike (name ∷ names) s (value ∷ values) = by_worths x scope alike names (after_name globals s name (default_type value.worth)) values
 
-  pub defined_alike : (s scope : Scope) (alike : Sees s scope) (names : List (List ℕ)) (count m n : ℕ) (right : Right) → with_defined globals s names (given globals s count m right) ≡ with_defined globals s names (given globals scope count n right)
+  pub defined_alike : (s scope : Scope) (alike : Sees s scope) (names : List (List ℕ)) (count m n : ℕ) (right : List Expression) → with_defined globals s names (given globals s count m right) ≡ with_defined globals s names (given globals scope count n right)
   defined_alike s scope alike names count m n right =
       by_worths s scope alike names s (given globals s count m right) ∙ ap (with_worths globals s names) (given_alike globals elements s scope alike count m n right) ∙ sym (by_worths s scope alike names s (given globals scope count n right))
 
@@ -156,7 +157,7 @@ module _ (globals : Globals) (elements : List Element) where
             (subst (λ o. Noted elements (known o)) (sym (ap type_of_field l.is ∙ l.housed.has)) l.housed.noted, rest)
 
       -- an assignment
-      pub typed_sets : (places : List Place) (right : Right) (first : ℕ) → Free (SimpleHas globals s first (Assign places right)) → RightNoted globals elements code f grounds scope (housed_of globals elements f scope all) s alike right
+      pub typed_sets : (places : List Place) (right : List Expression) (first : ℕ) → Free (SimpleHas globals s first (Assign places right)) → ValuesMake globals elements right
           → Leaves (sets globals elements scope places (right_types globals elements scope (length places) right) right)
       typed_sets places right first free noted =
           let count = length places in
@@ -164,7 +165,7 @@ module _ (globals : Globals) (elements : List Element) where
           let fine : Free (PlacesHave globals s first places) = λ flaw h. free flaw (inl h) in
           let wants = places_want globals scope places in
           let types = right_types globals elements scope count right in
-          let t = typed_right globals elements code f grounds scope housed s alike right (first + count) (first + simple_size (Assign places right)) count wants (omega arith) (length-map places (place_want globals scope)) (places_noted places first fine)
+          let t = typed_right globals elements code f grounds scope housed s alike right count (first + count) (first + simple_size (Assign places right)) wants (omega arith) (length-map places (place_want globals scope)) (places_noted places first fine)
           (λ flaw h. free flaw (inr (inl h))) (λ flaw h. free flaw (inr (inr (inl h)))) (λ flaw h. free flaw (inr (inr (inr (places_fail places first (given globals s count (first + count) right) flaw fine h))))) noted in
           let pushed = subst (λ (l : List ValueType). Puts globals.structs elements code f (all_kinds globals.structs elements l) (pushes_right globals elements scope count l right)) (sym (places_taken globals elements scope places types)) t.pushed in
           put_leaves (taken_types globals elements scope places types) (place_spots globals elements scope places types) (pushes_right globals elements scope count (taken_types globals elements scope places types) right) pushed (places_fit places first types fine)
@@ -208,11 +209,11 @@ module _ (globals : Globals) (elements : List Element) where
       all_taken (name ∷ names) (value ∷ values) w = (λ e. w.0 (ap want_of e), all_taken names values w.1)
 
       -- the names of a declaration, and what they take
-      pub record DefineFits (names : List (List ℕ)) (right : Right) : Type 0 where
+      pub record DefineFits (names : List (List ℕ)) (right : List Expression) : Type 0 where
         pub takes : Takes globals elements code f grounds layout.scope (housed_of globals elements f layout.scope room.housed) s alike.named (length names) (names_want layout.scope names) (given globals layout.scope (length names) 0 right) (λ types. pushes_right globals elements layout.scope (length names) types right)
         pub names_fit : NamesFit globals elements code f grounds layout layout s names (given globals layout.scope (length names) 0 right)
 
-      pub defines_fit : (names : List (List ℕ)) (right : Right) → has_twice names ≡ false → Begins f (declaring_all globals elements names (right_types globals elements layout.scope (length names) right) layout)
+      pub defines_fit : (names : List (List ℕ)) (right : List Expression) → has_twice names ≡ false → Begins f (declaring_all globals elements names (right_types globals elements layout.scope (length names) right) layout)
           → Takes globals elements code f grounds layout.scope (housed_of globals elements f layout.scope room.housed) s alike.named (length names) (names_want layout.scope names) (given globals layout.scope (length names) 0 right) (λ types. pushes_right globals elements layout.scope (length names) types right)
           → DefineFits names right
       defines_fit names right twice begins t = record {
@@ -220,8 +221,8 @@ module _ (globals : Globals) (elements : List Element) where
         names_fit = names_fit globals elements code f grounds names (given globals layout.scope (length names) 0 right) layout layout s room begins alike (own_same layout.scope names) twice (all_taken names (given globals layout.scope (length names) 0 right) t.well);
       }
 
-      pub typed_defines : (names : List (List ℕ)) (right : Right) (first end : ℕ) → 1 ≤ end → has_twice names ≡ false → Free (RightHas globals s first right) → Free (NumbersHave (length (given globals s (length names) first right)) (length names) end)
-          → Free (NamesFail s names (given globals s (length names) first right)) → RightNoted globals elements code f grounds layout.scope (housed_of globals elements f layout.scope room.housed) s alike.named right
+      pub typed_defines : (names : List (List ℕ)) (right : List Expression) (first end : ℕ) → 1 ≤ end → has_twice names ≡ false → Free (RightHas globals s first right) → Free (NumbersHave (length (given globals s (length names) first right)) (length names) end)
+          → Free (NamesFail s names (given globals s (length names) first right)) → ValuesMake globals elements right
           → Begins f (declaring_all globals elements names (right_types globals elements layout.scope (length names) right) layout)
           → Declares (defines globals elements layout names (right_types globals elements layout.scope (length names) right) right) (with_defined globals s names (given globals s (length names) 0 right))
           (declaring_all globals elements names (right_types globals elements layout.scope (length names) right) layout)
@@ -230,7 +231,7 @@ module _ (globals : Globals) (elements : List Element) where
           let housed = housed_of globals elements f layout.scope room.housed in
           let wants = names_want layout.scope names in
           let types = right_types globals elements layout.scope count right in
-          let t = typed_right globals elements code f grounds layout.scope housed s alike.named right first end count wants le (length-map names (λ name. want_of (own_variable layout.scope name))) (names_noted names) free numbers (λ flaw h. fail flaw (names_fail names (given globals s count first right) flaw h)) noted in
+          let t = typed_right globals elements code f grounds layout.scope housed s alike.named right count first end wants le (length-map names (λ name. want_of (own_variable layout.scope name))) (names_noted names) free numbers (λ flaw h. fail flaw (names_fail names (given globals s count first right) flaw h)) noted in
           let n = names_fit globals elements code f grounds names (given globals layout.scope count 0 right) layout layout s room begins alike (own_same layout.scope names) twice (all_taken names (given globals layout.scope count 0 right) t.well) in
           let pushed = subst (λ (l : List ValueType). Puts globals.structs elements code f (all_kinds globals.structs elements l) (pushes_right globals elements layout.scope count l right)) (sym (names_taken globals elements layout names types)) t.pushed in
           record {
@@ -244,11 +245,11 @@ module _ (globals : Globals) (elements : List Element) where
       not_true false never = refl
 
       -- a `:=`
-      pub typed_define : (names : List (List ℕ)) (right : Right) (first : ℕ) → Free (SimpleHas globals s first (Define names right)) → RightNoted globals elements code f grounds layout.scope (housed_of globals elements f layout.scope room.housed) s alike.named right
+      pub typed_define : (names : List (List ℕ)) (right : List Expression) (first : ℕ) → Free (SimpleHas globals s first (Define names right)) → ValuesMake globals elements right
           → Begins f (behind_simple globals elements (Define names right) layout)
           → Declares (defines globals elements layout names (right_types globals elements layout.scope (length names) right) right) (after_simple globals s (Define names right)) (behind_simple globals elements (Define names right) layout)
       typed_define names right first free noted begins =
-          let end = first + right_size right + 1 in
+          let end = first + sum_by expression_size right + 1 in
           let b = broken rules.NewName end (omega arith) in
           let twice = not_true (has_twice names || not (list_any (is_declarable s) names)) (λ e. free b.0 (inr (inr (inl (inr (e, b.1)))))) in
           typed_defines names right first end (omega arith) (or_parts (has_twice names) (not (list_any (is_declarable s) names)) twice).0 (λ flaw h. free flaw (inl h)) (λ flaw h. free flaw (inr (inl h))) (λ flaw h. free flaw (inr (inr (inr h)))) noted begins

@@ -1,5 +1,5 @@
 -- What is asked of what is made of statements, and what is so of it; sequences, conditions and loops by their parts.
-use Rattle.std.proofs.Common.{◌≡◌, ℕ, zero, suc, ◌+◌, List, [], ◌∷◌, ◌++◌, length, Option, Some, None, IsTrue, refl, sym, ap, ◌∙◌, subst, arith, slice_get, inl, inr}
+use Rattle.std.proofs.Common.{◌≡◌, ℕ, zero, suc, ◌+◌, List, [], ◌∷◌, ◌++◌, length, Option, Some, None, IsTrue, IfSome, refl, sym, ap, ◌∙◌, subst, arith, slice_get, inl, inr}
 use Rattle.std.proofs.lemmas.Bool.{OnTrue_from, OnTrue_at}
 use Rattle.syntax.specs.Tree.{Expression, Simple, CallAlone, Close, Print, ReceiveAlone, Send, Increment, Decrement, Assign, Define, Update}
 use Rattle.bytecode.specs.declared.instr.WordKind.{WordKind}
@@ -10,11 +10,10 @@ use Rattle.typing_rules.specs.Expressions.{nodes_of, ConditionHas, TestHas}
 use Rattle.typing_rules.specs.Statements.{IfSimpleHas, IfTestHas, after_any}
 use Rattle.codegen_base.specs.declared.element.Element.{Element}
 use Rattle.codegen_base.specs.Layouts.{Layout, entering, leaving, behind_simple}
-use Rattle.codegen_base.specs.Program.{noting_first}
 use Rattle.codegen_base.specs.Generated.{Site, Made, followed, ended, loop, tests, test_plan, made_any, made_post, made_if, made_else}
 use Rattle.codegen_base.specs.Grammar.{IsStill, StillAny}
 use Rattle.codegen_base.proofs.Alike.{Alike}
-use Rattle.codegen_base.proofs.Noted.{Grows}
+use Rattle.codegen_base.proofs.StatementMakes.{OneMakes, SimpleMakes}
 use Rattle.codegen_base.proofs.Typing.{Free, nodes_end, worth_there}
 use Rattle.plan.specs.Plan.{Plan, Skip, Seq, IfElse, IfThen, reaches_end, turns}
 use Rattle.plan.proofs.Tables.{Tabled}
@@ -88,42 +87,42 @@ module _ (globals : Globals) (elements : List Element) (code : Code) (f : CodeFu
   -- ---- conditions
 
   module _ (layout : Layout) (room : Room globals elements code f layout) (s : Scope) (sees : Sees s layout.scope) where
-    pub typed_tests : (condition : Expression) (first : ℕ) → Free (TestHas globals s first condition) → (a : Allowed) (ks out : List WordKind) (rest : Plan) → Typed code f a (ks ++ kinds.Bool ∷ []) rest out → Typed code f a ks (tests globals elements layout condition rest) out
-    typed_tests condition first free a ks out rest t =
+    pub typed_tests : (condition : Expression) (first : ℕ) → Free (TestHas globals s first condition) → OneMakes globals elements condition → (a : Allowed) (ks out : List WordKind) (rest : Plan) → Typed code f a (ks ++ kinds.Bool ∷ []) rest out → Typed code f a ks (tests globals elements layout condition rest) out
+    typed_tests condition first free makes a ks out rest t =
         let w = worth_there globals s grounds.types_known (known_sees s layout.scope sees (housed_of globals elements f layout.scope room.housed).known) condition first (λ flaw h. free flaw (inl h)) in
         let fit = condition_fits w.0 (nodes_of first condition) (nodes_end first condition) (λ flaw h. free flaw (inr (subst (λ o. ConditionHas o (nodes_of first condition) flaw) (sym w.1) h))) in
-        typed_test globals elements code f grounds layout.scope (housed_of globals elements f layout.scope room.housed) s sees condition first (λ flaw h. free flaw (inl h)) w.0 (sym (worth_sees s layout.scope sees globals condition) ∙ w.1) fit a ks out rest t
+        typed_test globals elements code f grounds layout.scope (housed_of globals elements f layout.scope room.housed) s sees condition first (λ flaw h. free flaw (inl h)) makes w.0 (sym (worth_sees s layout.scope sees globals condition) ∙ w.1) fit a ks out rest t
 
-    pub runs_if : (result : Yield) (condition : Expression) (first : ℕ) → Free (TestHas globals s first condition) → (a : Allowed) (so : Made) → IsMade a so → IsMade a (made_if globals elements result layout condition so)
-    runs_if _ condition first free a so p = record {
+    pub runs_if : (result : Yield) (condition : Expression) (first : ℕ) → Free (TestHas globals s first condition) → OneMakes globals elements condition → (a : Allowed) (so : Made) → IsMade a so → IsMade a (made_if globals elements result layout condition so)
+    runs_if _ condition first free makes a so p = record {
       runs = λ place tabled.
           let t = before_tabled code.selects (IfThen so.plan) (tests globals elements layout condition (IfThen so.plan)) place (pushes_before globals elements layout.scope _ condition (IfThen so.plan)) tabled in
-          typed_tests condition first free a [] [] (IfThen so.plan) (refl, p.runs (t.0 + 1) t.1);
+          typed_tests condition first free makes a [] [] (IfThen so.plan) (refl, p.runs (t.0 + 1) t.1);
       room = p.room;
     }
 
-    pub runs_else : (result : Yield) (condition : Expression) (first : ℕ) → Free (TestHas globals s first condition) → (a : Allowed) (so other : Made) → IsMade a so → IsMade a other → IsMade a (made_else globals elements result layout condition so other)
-    runs_else _ condition first free a so other p q = record {
+    pub runs_else : (result : Yield) (condition : Expression) (first : ℕ) → Free (TestHas globals s first condition) → OneMakes globals elements condition → (a : Allowed) (so other : Made) → IsMade a so → IsMade a other → IsMade a (made_else globals elements result layout condition so other)
+    runs_else _ condition first free makes a so other p q = record {
       runs = λ place tabled.
           let t = before_tabled code.selects (IfElse so.plan other.plan) (tests globals elements layout condition (IfElse so.plan other.plan)) place (pushes_before globals elements layout.scope _ condition (IfElse so.plan other.plan)) tabled in
-          typed_tests condition first free a [] [] (IfElse so.plan other.plan) ([], refl, p.runs (t.0 + 1) t.1.0, q.runs _ t.1.1);
+          typed_tests condition first free makes a [] [] (IfElse so.plan other.plan) ([], refl, p.runs (t.0 + 1) t.1.0, q.runs _ t.1.1);
       room = q.room;
     }
 
     -- ---- loops
 
-    pub runs_loop : (condition : Option Expression) (first : ℕ) → Free (IfTestHas globals s first condition) → (a : Allowed) (body post : Plan) → Runs in_loop body → Runs a post → Runs a (loop (test_plan globals elements layout condition) body post)
-    runs_loop None first free a body post x y place tabled = (refl, refl, x place tabled.0, OnTrue_from (turns body) (Typed code f a [] post []) (λ e. y _ (OnTrue_at e tabled.1)))
-    runs_loop (Some condition) first free a body post x y place tabled =
-        ([], refl, refl, typed_tests condition first free a [] (kinds.Bool ∷ []) Skip refl, x _ tabled.1, OnTrue_from (turns body) (Typed code f a [] post []) (λ e. y _ (OnTrue_at e tabled.2)), refl)
+    pub runs_loop : (condition : Option Expression) (first : ℕ) → Free (IfTestHas globals s first condition) → IfSome condition (OneMakes globals elements) → (a : Allowed) (body post : Plan) → Runs in_loop body → Runs a post → Runs a (loop (test_plan globals elements layout condition) body post)
+    runs_loop None first free makes a body post x y place tabled = (refl, refl, x place tabled.0, OnTrue_from (turns body) (Typed code f a [] post []) (λ e. y _ (OnTrue_at e tabled.1)))
+    runs_loop (Some condition) first free makes a body post x y place tabled =
+        ([], refl, refl, typed_tests condition first free makes a [] (kinds.Bool ∷ []) Skip refl, x _ tabled.1, OnTrue_from (turns body) (Typed code f a [] post []) (λ e. y _ (OnTrue_at e tabled.2)), refl)
 
   -- ---- headers
 
   module _ (site : Site) (room : Room globals elements code f site.layout) (s : Scope) where
-    pub typed_any : (simple : Option Simple) (first : ℕ) (a : Allowed) → Alike s site.layout.scope → Free (IfSimpleHas globals s first simple) → (all : List Element) → Grows (noting_first globals.types simple all) elements → Fits site.prints (made_any globals elements site simple) → IsMadeAlike a (made_any globals elements site simple) (after_any globals s simple)
-    typed_any None first a alike free all g fits = (record { runs = λ place tabled. refl; room = room }, alike)
-    typed_any (Some simple) first a alike free all g fits =
-        let d = typed_simple globals elements code f grounds site.layout room s alike site.prints simple first free all g fits.begins fits.prints in
+    pub typed_any : (simple : Option Simple) (first : ℕ) (a : Allowed) → Alike s site.layout.scope → Free (IfSimpleHas globals s first simple) → IfSome simple (SimpleMakes globals elements) → Fits site.prints (made_any globals elements site simple) → IsMadeAlike a (made_any globals elements site simple) (after_any globals s simple)
+    typed_any None first a alike free makes fits = (record { runs = λ place tabled. refl; room = room }, alike)
+    typed_any (Some simple) first a alike free makes fits =
+        let d = typed_simple globals elements code f grounds site.layout room s alike site.prints simple first free makes fits.begins fits.prints in
         (record { runs = λ place tabled. d.leaves a [] [] refl; room = d.room }, d.alike)
 
 module _ (globals : Globals) (elements : List Element) (code : Code) (f : CodeFunction) (grounds : Grounds globals elements code) where
@@ -139,13 +138,13 @@ module _ (globals : Globals) (elements : List Element) (code : Code) (f : CodeFu
   still_behind (Assign a b) layout still = refl
   still_behind (Update a b c) layout still = refl
 
-  pub typed_post : (header : Layout) (site : Site) → Room globals elements code f header → Room globals elements code f site.layout → (s : Scope) → Sees s site.layout.scope → (post : Option Simple) (first : ℕ) (a : Allowed) → StillAny post → Free (IfSimpleHas globals s first post) → (all : List Element) → Grows (noting_first globals.types post all) elements
+  pub typed_post : (header : Layout) (site : Site) → Room globals elements code f header → Room globals elements code f site.layout → (s : Scope) → Sees s site.layout.scope → (post : Option Simple) (first : ℕ) (a : Allowed) → StillAny post → Free (IfSimpleHas globals s first post) → IfSome post (SimpleMakes globals elements)
       → Prints code site.prints (made_post globals elements header site post).prints → IsMade globals elements code f grounds a (made_post globals elements header site post)
-  typed_post header site outer room s sees None first a still free all g prints = record { runs = λ place tabled. refl; room = room }
-  typed_post header site outer room s sees (Some simple) first a still free all g prints =
+  typed_post header site outer room s sees None first a still free makes prints = record { runs = λ place tabled. refl; room = room }
+  typed_post header site outer room s sees (Some simple) first a still free makes prints =
       let within = entering site.layout in
       let inner = room_entering globals elements code f site.layout room in
       record {
-        runs = λ place tabled. typed_still globals elements code f grounds within inner s sees site.prints simple first still free all g prints a [] [] refl;
+        runs = λ place tabled. typed_still globals elements code f grounds within inner s sees site.prints simple first still free makes prints a [] [] refl;
         room = subst (λ (x : Layout). Room globals elements code f (leaving header x)) (sym (still_behind simple within still)) (room_leaving globals elements code f header within outer inner);
       }

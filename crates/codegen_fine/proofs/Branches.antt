@@ -19,11 +19,13 @@ use Rattle.codegen_base.specs.Pushes.{pushes}
 use Rattle.codegen_base.specs.Statements.{pushes_arguments}
 use Rattle.codegen_fine.proofs.Sees.{Sees}
 use Rattle.codegen_base.proofs.Noted.{Noted}
+use Rattle.codegen_base.proofs.StatementMakes.{OneMakes, ValuesMake}
 use Rattle.codegen_base.proofs.Typing.{Free, Fits}
 use Rattle.plan.specs.Plan.{Plan, Skip, Do, IfElse, IfThen, Cycle, Endless, Stop, turns}
 use Rattle.plan.proofs.Typed.{Allowed, in_loop, Typed}
 use Rattle.codegen_fine.proofs.Operands.{Grounds, Housed}
-use Rattle.codegen_fine.proofs.Emitted.{all_kinds, typed_pushes}
+use Rattle.codegen_fine.proofs.Operands.{all_kinds}
+use Rattle.codegen_fine.proofs.Emitted.{typed_pushes}
 use Rattle.codegen_fine.proofs.Operations.{call_there}
 use Rattle.codegen_fine.proofs.Requests.{starts_typed}
 
@@ -33,12 +35,12 @@ module _ (globals : Globals) (elements : List Element) (code : Code) (f : CodeFu
     T = Typed code f
 
     -- a condition with which nothing is wrong, and which may stand where a bool is wanted
-    module _ (condition : Expression) (first : ℕ) (free : Free (ExpressionHas globals s first condition)) (w : Worth) (is : worth globals scope condition ≡ Some w) (fit : Fits w BoolType) where
+    module _ (condition : Expression) (first : ℕ) (free : Free (ExpressionHas globals s first condition)) (makes : OneMakes globals elements condition) (w : Worth) (is : worth globals scope condition ≡ Some w) (fit : Fits w BoolType) where
       abbrev tested : Plan → Plan
       tested rest = pushes globals elements scope BoolType condition rest
 
       pub typed_test : (a : Allowed) (ks out : List WordKind) (rest : Plan) → T a (ks ++ kinds.Bool ∷ []) rest out → T a ks (tested rest) out
-      typed_test a ks out rest t = typed_pushes globals elements code f grounds scope housed s alike condition first free w BoolType is fit tt a ks out rest t
+      typed_test a ks out rest t = typed_pushes globals elements code f grounds scope housed s alike condition first free makes w BoolType is fit tt a ks out rest t
 
       pub typed_if : (a : Allowed) (ks : List WordKind) (so : Plan) → T a ks so ks → T a ks (tested (IfThen so)) ks
       typed_if a ks so t = typed_test a ks ks (IfThen so) (refl, t)
@@ -55,16 +57,16 @@ module _ (globals : Globals) (elements : List Element) (code : Code) (f : CodeFu
 
     -- ---- returns: the results alone are on the stack
 
-    pub typed_return : (value : Expression) (first : ℕ) → Free (ExpressionHas globals s first value) → (w : Worth) (kind : ValueType) → worth globals scope value ≡ Some w → Fits w kind → Noted elements kind → kinds_of globals.structs elements kind ≡ f.results
+    pub typed_return : (value : Expression) (first : ℕ) → Free (ExpressionHas globals s first value) → OneMakes globals elements value → (w : Worth) (kind : ValueType) → worth globals scope value ≡ Some w → Fits w kind → Noted elements kind → kinds_of globals.structs elements kind ≡ f.results
         → (a : Allowed) (out : List WordKind) → T a [] (pushes globals elements scope kind value Stop) out
-    typed_return value first free w kind is fit noted same a out = typed_pushes globals elements code f grounds scope housed s alike value first free w kind is fit noted a [] out Stop same
+    typed_return value first free makes w kind is fit noted same a out = typed_pushes globals elements code f grounds scope housed s alike value first free makes w kind is fit noted a [] out Stop same
 
     -- ---- a goroutine is started
 
-    pub typed_go : Functions globals elements code → (function : List ℕ) (arguments : Arguments) (first : ℕ) → Free (CallHas globals s first function arguments)
+    pub typed_go : (function : List ℕ) (arguments : Arguments) (first : ℕ) → Free (CallHas globals s first function arguments) → ValuesMake globals elements arguments.values
         → (a : Allowed) (ks out : List WordKind) → T a ks Skip out → T a ks (pushes_arguments globals elements scope (number_of globals function) arguments.values (Do (instrs.Go (number_of globals function)) Skip)) out
-    typed_go functions function arguments first free a ks out t =
-        let c = call_there globals elements code f grounds scope housed s alike function arguments first free in
+    typed_go function arguments first free makes a ks out t =
+        let c = call_there globals elements code f grounds scope housed s alike function arguments first free makes in
         subst (λ n. T a ks (pushes_arguments globals elements scope n arguments.values (Do (instrs.Go n) Skip)) out) (sym c.is)
         (c.pushed a ks out (Do (instrs.Go c.number) Skip)
-        (starts_typed globals elements code f grounds c.number (all_kinds globals.structs elements (map known (parameters_of globals c.number))) c.there (functions.params c.number) a ks out Skip t))
+        (starts_typed globals elements code f grounds c.number (all_kinds globals.structs elements (map known (parameters_of globals c.number))) c.there (grounds.functions.params c.number) a ks out Skip t))

@@ -29,6 +29,7 @@ use Rattle.codegen_fine.proofs.Sees.{Sees, worth_sees, known_sees}
 use Rattle.codegen_base.proofs.Known.{worth_noted}
 use Rattle.codegen_base.proofs.Noted.{Noted}
 use Rattle.codegen_base.proofs.Splits.{right_operand}
+use Rattle.codegen_base.proofs.StatementMakes.{OneMakes}
 use Rattle.codegen_base.proofs.Typing.{Free, Fits, fits, broken, made, nodes_end, worth_there}
 use Rattle.plan.specs.Plan.{Plan, Skip, Do}
 use Rattle.plan.proofs.Typed.{Allowed, Typed}
@@ -150,9 +151,9 @@ module _ (globals : Globals) (elements : List Element) (code : Code) (f : CodeFu
     typed_decrement place first free = typed_step Subtract place first refl refl free
 
     -- an assignment with an operator
-    pub typed_assign_with : (place : Place) (operator : BinaryOperator) (value : Expression) (first : ℕ) → Free (SimpleHas globals s first (Update place operator value))
+    pub typed_assign_with : (place : Place) (operator : BinaryOperator) (value : Expression) (first : ℕ) → Free (SimpleHas globals s first (Update place operator value)) → OneMakes globals elements value
         → Leaves (updates globals elements scope place operator (worth globals scope value) (known (default_type (worth globals scope value))) (emits globals elements scope value))
-    typed_assign_with place operator value first free a ks out t =
+    typed_assign_with place operator value first free makes a ks out t =
         let housed = housed_of globals elements f scope all in
         let r = readable place first (λ flaw h. free flaw (inl h)) in
         let p = place_is place r in
@@ -164,7 +165,7 @@ module _ (globals : Globals) (elements : List Element) (code : Code) (f : CodeFu
         (λ flaw h. free flaw (inr (inr (subst (λ o. UpdatedHas operator o (worth globals s value) nodes end flaw) (sym r.typed) (subst (λ o. UpdatedHas operator (Some r.own) o nodes end flaw) (sym has) h))))) in
         let spot = Local r.at.place (length (kinds_of globals.structs elements r.own)) in
         let right = emits globals elements scope value in
-        let emitted : IsEmitted globals elements code f grounds right w = λ k e. (worth_noted elements globals grounds.fields_noted scope housed.noted value k (here-is ∙ ap Some e), typed_emits globals elements code f grounds scope housed s alike value (first + 1) (λ flaw h. free flaw (inr (inl h))) k (here-is ∙ ap Some e)) in
+        let emitted : IsEmitted globals elements code f grounds right w = λ k e. (worth_noted elements globals grounds.fields_noted grounds.results_noted scope housed.noted value makes k (here-is ∙ ap Some e), typed_emits globals elements code f grounds scope housed s alike value (first + 1) (λ flaw h. free flaw (inr (inl h))) makes k (here-is ∙ ap Some e)) in
         subst (λ x. Typed code f a ks (operates elements operator (Some (TypedWorth (known (place_type globals scope place)))) (worth globals scope value) (known (place_type globals scope place)) (known (default_type (worth globals scope value))) (loads_spot globals elements scope x) right (stores x (Do instrs.Tick Skip))) out) (sym p.0)
         (subst (λ k. Typed code f a ks (operates elements operator (Some (TypedWorth k)) (worth globals scope value) k (known (default_type (worth globals scope value))) (loads_spot globals elements scope spot) right (stores spot (Do instrs.Tick Skip))) out) (sym p.1)
         (subst (λ o. Typed code f a ks (operates elements operator (Some (TypedWorth r.own)) o r.own (known (default_type o)) (loads_spot globals elements scope spot) right (stores spot (Do instrs.Tick Skip))) out) (sym here-is)

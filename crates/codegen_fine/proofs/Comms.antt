@@ -1,11 +1,11 @@
 -- What clauses of a select wait for, with which nothing is wrong.
-use Rattle.std.proofs.Common.{◌≡◌, ℕ, ◌+◌, ◌<◌, Bool, true, false, not, ◌||◌, List, [], ◌∷◌, ◌++◌, length, map, Option, Some, None, refl, sym, ap, ◌∙◌, subst, arith, length-append, inl, inr}
+use Rattle.std.proofs.Common.{◌≡◌, ℕ, ◌+◌, ◌<◌, Bool, true, false, not, ◌||◌, List, [], ◌∷◌, ◌++◌, length, map, Option, Some, None, refl, sym, ap, ◌∙◌, subst, arith, length-append, inl, inr, sum_by}
 use Rattle.std.specs.List.{list_any}
 use Rattle.std.proofs.lemmas.Bool.{or_parts}
 use Rattle.std.proofs.lemmas.List.{append-nil, length-map}
 use Rattle.go_text.specs.declared.rule.Rule.TheVariants as rules
-use Rattle.syntax.specs.Tree.{Expression, Place, Receive, RightOperation, Define, Assign, Comm, CommSend, CommReceive, CommDefine, CommAssign}
-use Rattle.syntax.specs.Measures.{expression_size, right_size, simple_size}
+use Rattle.syntax.specs.Tree.{Expression, Place, Receive, Define, Assign, Comm, CommSend, CommReceive, CommDefine, CommAssign}
+use Rattle.syntax.specs.Measures.{expression_size, simple_size}
 use Rattle.bytecode.specs.declared.instr.WordKind.{WordKind}
 use Rattle.bytecode.specs.declared.instr.WordKind.TheVariants as kinds
 use Rattle.bytecode.specs.Code.{Function as CodeFunction, Code}
@@ -25,13 +25,15 @@ use Rattle.codegen_base.specs.Pushes.{pushes, pushes_own}
 use Rattle.codegen_base.specs.Statements.{Spot, assigns, place_spots, taken_types, name_spots, name_types, right_types}
 use Rattle.codegen_base.proofs.Alike.{Alike}
 use Rattle.codegen_base.proofs.Noted.{Noted}
+use Rattle.codegen_base.proofs.StatementMakes.{OneMakes, SimpleMakes}
 use Rattle.codegen_base.proofs.Typing.{Free, broken, fits, nodes_end, worth_there}
 use Rattle.plan.specs.Plan.{Skip}
 use Rattle.plan.proofs.Typed.{Allowed, Typed}
 use Rattle.codegen_fine.proofs.Sees.{Sees, worth_sees, known_sees}
 use Rattle.codegen_fine.proofs.Pushing.{Puts, puts_both}
 use Rattle.codegen_fine.proofs.Operands.{Grounds, shape_within}
-use Rattle.codegen_fine.proofs.Emitted.{all_kinds, typed_pushes}
+use Rattle.codegen_fine.proofs.Operands.{all_kinds}
+use Rattle.codegen_fine.proofs.Emitted.{typed_pushes}
 use Rattle.codegen_fine.proofs.Operations.{IsChannel, channel_there}
 use Rattle.codegen_fine.proofs.Requests.{shape_is}
 use Rattle.codegen_fine.proofs.Simple.{discards_typed}
@@ -74,29 +76,29 @@ module _ (globals : Globals) (elements : List Element) (code : Code) (f : CodeFu
     channel_pushed : (channel : Expression) (c : IsChannel globals elements code f grounds layout.scope (housed_of globals elements f layout.scope room.housed) s sees channel) → Puts globals.structs elements code f (kinds.Chan (shape_of elements (carried globals elements layout.scope channel)) ∷ []) (pushes_own globals elements layout.scope channel)
     channel_pushed channel c = subst (λ j. Puts globals.structs elements code f (kinds.Chan (shape_of elements j) ∷ []) (pushes_own globals elements layout.scope channel)) (sym c.carries) c.pushed
 
-    channel_is : (channel : Expression) (first : ℕ) → Free (ExpressionHas globals s first channel) → Free (ChannelHas (worth globals s channel) (nodes_of first channel)) → IsChannel globals elements code f grounds layout.scope (housed_of globals elements f layout.scope room.housed) s sees channel
-    channel_is channel first free is = channel_there globals elements code f grounds layout.scope (housed_of globals elements f layout.scope room.housed) s sees channel first free is
+    channel_is : (channel : Expression) (first : ℕ) → Free (ExpressionHas globals s first channel) → OneMakes globals elements channel → Free (ChannelHas (worth globals s channel) (nodes_of first channel)) → IsChannel globals elements code f grounds layout.scope (housed_of globals elements f layout.scope room.housed) s sees channel
+    channel_is channel first free makes is = channel_there globals elements code f grounds layout.scope (housed_of globals elements f layout.scope room.housed) s sees channel first free makes is
 
-    pub comm_fine : (comm : Comm) (first : ℕ) → Free (SimpleHas globals s first (comm_simple comm)) → CommFine comm
-    comm_fine (CommReceive channel) first free =
-        let c = channel_is channel first (λ flaw h. free flaw (inl h)) (λ flaw h. free flaw (inr (inl h))) in
+    pub comm_fine : (comm : Comm) (first : ℕ) → Free (SimpleHas globals s first (comm_simple comm)) → SimpleMakes globals elements (comm_simple comm) → CommFine comm
+    comm_fine (CommReceive channel) first free makes =
+        let c = channel_is channel first (λ flaw h. free flaw (inl h)) makes (λ flaw h. free flaw (inr (inl h))) in
         record { pushed = λ to. channel_pushed channel c; gives = λ to. ap (λ (l : List WordKind). l ++ kinds.Bool ∷ []) (shapes_are channel c); there = λ to. shape_is_there channel c }
-    comm_fine (CommDefine item ok channel) first free =
-        let c = channel_is channel first (λ flaw h. free flaw (inl (inl h))) (λ flaw h. free flaw (inl (inr (inl h)))) in
+    comm_fine (CommDefine item ok channel) first free makes =
+        let c = channel_is channel first (λ flaw h. free flaw (inl (inl (inl h)))) makes.0 (λ flaw h. free flaw (inl (inl (inr (inl h))))) in
         record { pushed = λ to. channel_pushed channel c; gives = λ to. ap (λ (l : List WordKind). l ++ kinds.Bool ∷ []) (shapes_are channel c); there = λ to. shape_is_there channel c }
-    comm_fine (CommAssign item ok channel) first free =
-        let c = channel_is channel (first + length (and_also item ok)) (λ flaw h. free flaw (inr (inl (inl h)))) (λ flaw h. free flaw (inr (inl (inr (inl h))))) in
+    comm_fine (CommAssign item ok channel) first free makes =
+        let c = channel_is channel (first + length (and_also item ok)) (λ flaw h. free flaw (inr (inl (inl (inl h))))) makes.0 (λ flaw h. free flaw (inr (inl (inl (inr (inl h)))))) in
         record { pushed = λ to. channel_pushed channel c; gives = λ to. ap (λ (l : List WordKind). l ++ kinds.Bool ∷ []) (shapes_are channel c); there = λ to. shape_is_there channel c }
-    comm_fine (CommSend channel value) first free =
+    comm_fine (CommSend channel value) first free makes =
         let housed = housed_of globals elements f layout.scope room.housed in
-        let c = channel_is channel first (λ flaw h. free flaw (inl h)) (λ flaw h. free flaw (inr (inr (inl h)))) in
+        let c = channel_is channel first (λ flaw h. free flaw (inl h)) makes.0 (λ flaw h. free flaw (inr (inr (inl h)))) in
         let behind = first + expression_size channel in
         let w = worth_there globals s grounds.types_known (known_sees s layout.scope sees housed.known) value behind (λ flaw h. free flaw (inr (inl h))) in
         let kind = carried globals elements layout.scope channel in
         let is-element : element_of (worth globals s channel) ≡ Some kind = ap element_of (worth_sees s layout.scope sees globals channel ∙ c.is) ∙ ap Some (sym c.carries) in
         let fit = fits w.0 kind (nodes_of behind value) (nodes_end behind value)
         (λ flaw h. free flaw (inr (inr (inr (inr (subst (λ o. ValueHas (worth globals s value) o (nodes_of behind value) flaw) (sym is-element) (subst (λ o. ValueHas o (Some kind) (nodes_of behind value) flaw) (sym w.1) h))))))) in
-        let item = typed_pushes globals elements code f grounds layout.scope housed s sees value behind (λ flaw h. free flaw (inr (inl h))) w.0 kind (sym (worth_sees s layout.scope sees globals value) ∙ w.1) fit (subst (Noted elements) (sym c.carries) c.noted.0) in
+        let item = typed_pushes globals elements code f grounds layout.scope housed s sees value behind (λ flaw h. free flaw (inr (inl h))) makes.1 w.0 kind (sym (worth_sees s layout.scope sees globals value) ∙ w.1) fit (subst (Noted elements) (sym c.carries) c.noted.0) in
         let chan = kinds.Chan (shape_of elements kind) ∷ [] in
         record {
           pushed = λ to.
@@ -128,7 +130,7 @@ module _ (globals : Globals) (elements : List Element) (code : Code) (f : CodeFu
   two_kinds None kind = append-nil (kinds_in kind)
   two_kinds (Some other) kind = refl
 
-  given_two : {A : Type 0} (item : A) (ok : Option A) (x : Scope) (channel : Expression) → given_types globals elements (given globals x (length (and_also item ok)) 0 (RightOperation (Receive channel))) ≡ two_types ok (carried globals elements x channel)
+  given_two : {A : Type 0} (item : A) (ok : Option A) (x : Scope) (channel : Expression) → given_types globals elements (given globals x (length (and_also item ok)) 0 (Receive channel ∷ [])) ≡ two_types ok (carried globals elements x channel)
   given_two item None x channel = ap (λ o. known o ∷ []) (default_typed (element_of (worth globals x channel)))
   given_two item (Some other) x channel = ap (λ o. known o ∷ BoolType ∷ []) (default_typed (element_of (worth globals x channel)))
 
@@ -151,27 +153,26 @@ module _ (globals : Globals) (elements : List Element) (code : Code) (f : CodeFu
     two_behind item None kind = refl
     two_behind item (Some other) kind = refl
 
-    pub comm_made : (comm : Comm) (first : ℕ) → Free (SimpleHas globals s first (comm_simple comm)) → Begins f (behind_comm globals elements result comm layout) → CommMade comm
-    comm_made (CommSend channel value) first free begins = record { takes = λ a. refl; behind = room; seen = alike }
-    comm_made (CommReceive channel) first free begins =
+    pub comm_made : (comm : Comm) (first : ℕ) → Free (SimpleHas globals s first (comm_simple comm)) → SimpleMakes globals elements (comm_simple comm) → Begins f (behind_comm globals elements result comm layout) → CommMade comm
+    comm_made (CommSend channel value) first free makes begins = record { takes = λ a. refl; behind = room; seen = alike }
+    comm_made (CommReceive channel) first free makes begins =
         let js = kinds_in (carried globals elements layout.scope channel) in
         record {
           takes = λ a. discards_typed globals elements code f grounds (length js + 1) (js ++ kinds.Bool ∷ []) (sym (length-append js (kinds.Bool ∷ []))) a [] [] Skip refl;
           behind = room;
           seen = alike;
         }
-    comm_made (CommAssign item ok channel) first free begins =
+    comm_made (CommAssign item ok channel) first free makes begins =
         let places = and_also item ok in
         let count = length places in
-        let operation = Receive channel in
-        let right = RightOperation operation in
+        let right = Receive channel ∷ [] in
         let kind = carried globals elements layout.scope channel in
         let housed = housed_of globals elements f layout.scope room.housed in
         let fine : Free (PlacesHave globals s first places) = λ flaw h. free flaw (inl h) in
         let wants = places_want globals layout.scope places in
         let types = right_types globals elements layout.scope count right in
-        let t = typed_given globals elements code f grounds layout.scope housed s alike.named operation (first + count) (first + simple_size (Assign places right)) count wants (omega arith) (length-map places (place_want globals layout.scope)) (places_noted globals elements code f grounds layout.scope room.housed s alike.named places first fine)
-        (λ flaw h. free flaw (inr (inl h))) (λ flaw h. free flaw (inr (inr (inl h)))) (λ flaw h. free flaw (inr (inr (inr (places_fail globals elements code f grounds layout.scope room.housed s alike.named places first (given globals s count (first + count) right) flaw fine h))))) tt in
+        let t = typed_given globals elements code f grounds layout.scope housed s alike.named channel count (first + count) (first + simple_size (Assign places right)) wants (omega arith) (length-map places (place_want globals layout.scope)) (places_noted globals elements code f grounds layout.scope room.housed s alike.named places first fine)
+        (λ flaw h. free flaw (inr (inl h))) (λ flaw h. free flaw (inr (inr (inl h)))) (λ flaw h. free flaw (inr (inr (inr (places_fail globals elements code f grounds layout.scope room.housed s alike.named places first (given globals s count (first + count) right) flaw fine h))))) makes in
         let fit = places_fit globals elements code f grounds layout.scope room.housed s alike.named places first types fine in
         let same : joined (map kinds_in (taken_types globals elements layout.scope places types)) ≡ wanted ok kind =
         joined_kinds globals elements (taken_types globals elements layout.scope places types) ∙ ap (all_kinds globals.structs elements) (places_taken globals elements layout.scope places types) ∙ t.same ∙ ap (all_kinds globals.structs elements) (given_two item ok layout.scope channel) ∙ two_kinds ok kind in
@@ -181,20 +182,19 @@ module _ (globals : Globals) (elements : List Element) (code : Code) (f : CodeFu
           behind = room;
           seen = alike;
         }
-    comm_made (CommDefine item ok channel) first free begins =
+    comm_made (CommDefine item ok channel) first free makes begins =
         let names = and_also item ok in
         let count = length names in
-        let operation = Receive channel in
-        let right = RightOperation operation in
+        let right = Receive channel ∷ [] in
         let kind = carried globals elements layout.scope channel in
         let housed = housed_of globals elements f layout.scope room.housed in
-        let end = first + right_size right + 1 in
+        let end = first + sum_by expression_size right + 1 in
         let wants = names_want layout.scope names in
         let types = right_types globals elements layout.scope count right in
         let b = broken rules.NewName end (omega arith) in
         let twice = not_true (has_twice names || not (list_any (is_declarable s) names)) (λ e. free b.0 (inr (inr (inl (inr (e, b.1)))))) in
-        let t = typed_given globals elements code f grounds layout.scope housed s alike.named operation first end count wants (omega arith) (length-map names (λ name. want_of (own_variable layout.scope name))) (names_noted globals elements code f grounds layout room s alike names)
-        (λ flaw h. free flaw (inl h)) (λ flaw h. free flaw (inr (inl h))) (λ flaw h. free flaw (inr (inr (inr (names_fail globals elements code f grounds layout room s alike names (given globals s count first right) flaw h))))) tt in
+        let t = typed_given globals elements code f grounds layout.scope housed s alike.named channel count first end wants (omega arith) (length-map names (λ name. want_of (own_variable layout.scope name))) (names_noted globals elements code f grounds layout room s alike names)
+        (λ flaw h. free flaw (inl h)) (λ flaw h. free flaw (inr (inl h))) (λ flaw h. free flaw (inr (inr (inr (names_fail globals elements code f grounds layout room s alike names (given globals s count first right) flaw h))))) makes in
         let behind-is : declaring_all globals elements names types layout ≡ behind_comm globals elements result (CommDefine item ok channel) layout = ap (λ (l : List ValueType). declaring_all globals elements names l layout) (given_two item ok layout.scope channel) ∙ two_behind item ok kind in
         let n = (defines_fit globals elements code f grounds layout room s alike names right (or_parts (has_twice names) (not (list_any (is_declarable s) names)) twice).0 (subst (Begins f) (sym behind-is) begins) t.takes).names_fit in
         let same : joined (map kinds_in (name_types globals elements layout names types)) ≡ wanted ok kind =

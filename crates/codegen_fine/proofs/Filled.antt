@@ -25,7 +25,7 @@ use Rattle.codegen_base.specs.Program.{elements_of, code_of}
 use Rattle.codegen_base.specs.Grammar.{AllNamed, NamedTops}
 use Rattle.codegen_base.proofs.Fields.{AllWide}
 use Rattle.codegen_base.proofs.Typing.{Free, broken}
-use Rattle.codegen_fine.proofs.Keeping.{tops_keeps}
+use Rattle.codegen_fine.proofs.Keeping.{tops_keep}
 use Rattle.codegen_fine.proofs.Shapes.{last_or_old, mapped_from}
 
 -- ---- structs that are named have numbers that are there
@@ -140,7 +140,7 @@ shapes_filled file wide named free n ks e =
     let globals = globals_of file.tops in
     let all = elements_of file in
     let many = length globals.types in
-    let bounded : Bounded many all = tops_keeps globals.types (Bounded many) (λ found kind. bounded_type many found (written globals.types kind) (inside_written globals.types kind)) file.tops [] (λ m x h. absurd cc) in
+    let bounded : Bounded many all = tops_keep globals.types (Bounded many) (λ found kind. bounded_type many found (written globals.types kind) (inside_written globals.types kind)) file.tops [] (λ m x h. absurd cc) in
     let (x, is, same) = mapped_from (element_kinds globals.structs all) all n ks e in
     subst (λ (l : List WordKind). 0 < length l) same (go x (bounded n x is)) where
       go : (x : Element) → Carries (length (globals_of file.tops).types) x → 0 < length (element_kinds (globals_of file.tops).structs (elements_of file) x)

@@ -1,6 +1,5 @@
 -- What is so of the heads of functions in a file with which nothing is wrong.
-use Rattle.std.proofs.Common.{◌≡◌, ℕ, ◌+◌, List, [], ◌∷◌, ◌++◌, Option, Some, None, refl, sym, ap, ◌∙◌, subst, arith, inl, inr}
-use Rattle.go_text.specs.declared.rule.Rule.TheVariants as rules
+use Rattle.std.proofs.Common.{◌≡◌, ℕ, ◌+◌, List, [], ◌∷◌, ◌++◌, Option, Some, None, refl, sym, ap, ◌∙◌, subst, inl, inr}
 use Rattle.syntax.specs.Tree.{TypeExpression, Declared, Top, StructTop, FunctionTop, File}
 use Rattle.syntax.specs.Measures.{declared_size, top_size}
 use Rattle.bytecode.specs.Code.{Code}
@@ -12,25 +11,18 @@ use Rattle.typing_rules.specs.declared.role.Role.{Role}
 use Rattle.typing_rules.specs.declared.role.Role.TheVariants as roles
 use Rattle.typing_rules.specs.Declarations.{GroupsHave, IfTypeHas, HeadersHave, counting_function}
 use Rattle.typing_rules.specs.Kinds.{all_fields, fields_declared, yield_of, function_names, globals_of}
-use Rattle.typing_rules.specs.Operations.{TypeHas}
 use Rattle.meaning.specs.Values.{known}
 use Rattle.codegen_base.specs.declared.element.Element.{Element}
 use Rattle.codegen_base.specs.Program.{noting, noting_any, noting_declared, noting_statements, noting_top, noting_tops, elements_of, code_of}
 use Rattle.codegen_base.specs.Grammar.{PostsTops}
 use Rattle.codegen_base.proofs.Noted.{Noted, Grows, grows_no, grows_on}
-use Rattle.codegen_base.proofs.Typing.{Free, broken}
+use Rattle.codegen_base.proofs.Typing.{Free}
 use Rattle.codegen_fine.proofs.Operands.{Grounds}
-use Rattle.codegen_fine.proofs.Makes.{written_noted}
+use Rattle.codegen_fine.proofs.Makes.{written as there, written_noted}
+use Rattle.codegen_base.proofs.Making.{kind_noted}
 use Rattle.codegen_base.proofs.Noting.{declared_grow, any_grows, statements_grow, tops_grow}
 use Rattle.codegen_fine.proofs.Wholes.{ParametersFine}
 use Rattle.codegen_fine.proofs.Programs.{AllFine, AllHold, file_functions}
-
--- a type that is written outside of functions
-there : (types : List (List ℕ)) (kind : TypeExpression) (first : ℕ) → Free (TypeHas (type_in types nothing_declared kind) first) → (t : ValueType) × (type_in types nothing_declared kind ≡ Some t)
-there types kind first free = go (type_in types nothing_declared kind) refl where
-  go : (o : Option ValueType) → type_in types nothing_declared kind ≡ o → (t : ValueType) × (type_in types nothing_declared kind ≡ Some t)
-  go None is = let b = broken rules.Visible (first + 1) (omega arith) in absurd (free b.0 (subst (λ o. TypeHas o first b.0) (sym is) b.1))
-  go (Some t) is = (t, is)
 
 abbrev yielded : Yield → Option ValueType → Option ValueType
 yielded NoResult other = other
@@ -45,18 +37,18 @@ module _ (globals : Globals) (elements : List Element) where
   pub groups_fine : (groups : List Declared) (role : Role) (before : List (List ℕ)) (first : ℕ) → Free (GroupsHave role globals.types before first groups) → (all : List Element) → Grows (noting_declared globals.types groups all) elements → ParametersFine globals elements (fields_declared globals.types groups)
   groups_fine [] role before first free all g = tt
   groups_fine (group ∷ rest) role before first free all g =
-      let (t, is) = there globals.types group.type_expression first (λ flaw h. free flaw (inl (inr h))) in
+      let (t, is) = there globals.types nothing_declared group.type_expression first (λ flaw h. free flaw (inl (inr h))) in
       let one = noting globals.types group.type_expression all in
-      let noted = written_noted globals.types elements all nothing_declared group.type_expression t (grows_on one (noting_declared globals.types rest one) elements (declared_grow globals.types rest one) g) is in
+      let noted = written_noted globals.types elements nothing_declared group.type_expression t (kind_noted globals elements group.type_expression all (grows_on one (noting_declared globals.types rest one) elements (declared_grow globals.types rest one) g)) is in
       names_fine (type_in globals.types nothing_declared group.type_expression) t is noted group.names (fields_declared globals.types rest) (groups_fine rest role (before ++ group.names) (first + declared_size group) (λ flaw h. free flaw (inr h)) one g)
 
   -- a result's type is known and noted
   pub result_fine : (result : Option TypeExpression) (first : ℕ) → Free (IfTypeHas globals.types result first) → (all : List Element) → Grows (noting_any globals.types result all) elements → (kind : Option ValueType) → yield_of globals.types result ≡ Yields kind → (kind ≡ Some (known kind)) × Noted elements (known kind)
   result_fine None first free all g kind e = absurd cc
   result_fine (Some written) first free all g kind e =
-      let (t, is) = there globals.types written first free in
+      let (t, is) = there globals.types nothing_declared written first free in
       let same : Some t ≡ kind = sym is ∙ ap (λ y. yielded y None) e in
-      subst (λ o. (o ≡ Some (known o)) × Noted elements (known o)) same (refl, written_noted globals.types elements all nothing_declared written t g is)
+      subst (λ o. (o ≡ Some (known o)) × Noted elements (known o)) same (refl, written_noted globals.types elements nothing_declared written t (kind_noted globals elements written all g) is)
 
   module _ (code : Code) (grounds : Grounds globals elements code) where
     pub all_fine : (tops : List Top) (names : List (List ℕ)) (number first : ℕ) → Free (HeadersHave globals.types names number first tops) → PostsTops tops → (all : List Element) → Grows (noting_tops globals.types tops all) elements → AllFine globals elements code grounds tops
@@ -80,7 +72,7 @@ module _ (globals : Globals) (elements : List Element) where
         )
 
 -- the functions of the code of a file that the checker takes, no post statement of which declares anything
-pub file_holds : (file : File) → Grounds (globals_of file.tops) (elements_of file) (code_of file) → Functions (globals_of file.tops) (elements_of file) (code_of file) → PostsTops file.tops → Free (FileHas file)
+pub file_holds : (file : File) → Grounds (globals_of file.tops) (elements_of file) (code_of file) → PostsTops file.tops → Free (FileHas file)
     → AllHold (code_of file) (code_of file).functions (code_of file).selects
 file_holds file grounds still free =
     file_functions file grounds

@@ -4,7 +4,7 @@ use Rattle.std.specs.Prelude.{if◌then◌else◌}
 use Rattle.std.proofs.lemmas.Bool.{OnTrue_from}
 use Rattle.std.proofs.lemmas.List.{length-map}
 use Rattle.std.proofs.lemmas.List.Elements.{All-append, All-nil, All-cons}
-use Rattle.syntax.specs.Tree.{Expression, Simple, CallAlone, Close, Print, ReceiveAlone, Send, Increment, Decrement, Assign, Define, Update, IfHead, Bare, Semicolon, First, Target, Forever, While, ForClauses, Range, Returned, NoValue, ReturnedOperation, ReturnedValue, Statement, Empty, Alone, VarTyped, VarUntyped, Block, If, For, Select, Go, Return, Break, Continue, Statements, NoStatement, Then, Branch, Conditional, Otherwise, NoElse, ElseBlock, ElseIf, Clauses, NoClause, Clause, Top, StructTop, FunctionTop}
+use Rattle.syntax.specs.Tree.{Expression, Simple, CallAlone, Close, Print, ReceiveAlone, Send, Increment, Decrement, Assign, Define, Update, IfHead, Bare, Semicolon, First, Target, Forever, While, ForClauses, Range, Returned, NoValue, ReturnedValue, Statement, Empty, Alone, VarTyped, VarUntyped, Block, If, For, Select, Go, Return, Break, Continue, Statements, NoStatement, Then, Branch, Conditional, Otherwise, NoElse, ElseBlock, ElseIf, Clauses, NoClause, Clause, Top, StructTop, FunctionTop}
 use Rattle.syntax.specs.Measures.{Listing, Entries, SelectClauses, highest, if_any, simple_longest, if_head_longest, statement_longest, statements_longest, branch_longest, otherwise_longest, clauses_longest, clauses_count, top_longest}
 use Rattle.bytecode.specs.declared.instr.WordKind.{WordKind}
 use Rattle.bytecode.specs.Effects.{targets}
@@ -23,7 +23,7 @@ use Rattle.codegen_base.specs.Generated.{Site, Made, past, made_of, followed, en
 use Rattle.plan.specs.Plan.{Plan, Skip, Seq, IfElse, IfThen, Cycle, Choose, Stop, jump_size, size, starts, reaches_end, turns, table_count, tables}
 use Rattle.plan.proofs.Tables.{Makes, all_made}
 use Rattle.codegen_base.proofs.Before.{Before, Here, Step, Choice, zeros_before, pushes_before, clauses_before}
-use Rattle.codegen_base.proofs.Plain.{drops_before, then_step, arguments_before, one_before, defines_before, simple_before, variables_before, comm_plain}
+use Rattle.codegen_base.proofs.Plain.{drops_before, then_step, arguments_before, defines_before, simple_before, variables_before, comm_plain}
 use Rattle.codegen_fine.proofs.Numbering.{takes_before}
 use Rattle.codegen_fine.proofs.Selects.{comm_count}
 
@@ -89,7 +89,6 @@ module _ (globals : Globals) (elements : List Element) (result : Yield) where
 
   returned_few : (layout : Layout) (returned : Returned) → Makes IsFew (return_plan globals elements result layout returned)
   returned_few layout NoValue = tt
-  returned_few layout (ReturnedOperation operation) = before_few Stop _ (one_before globals elements layout.scope operation Stop) tt
   returned_few layout (ReturnedValue value) = before_few Stop _ (pushes_before globals elements layout.scope (result_type globals elements result) value Stop) tt
 
   range_few : (site : Site) (target : Target) (channel : Expression) (body : Made) → Makes IsFew body.plan → Makes IsFew (made_range globals elements result site target channel body).plan

@@ -2,7 +2,7 @@
 use Rattle.std.proofs.Common.{◌≡◌, ℕ, ◌+◌, Bool, true, false, List, [], length, Option, Some, None, IfSome, refl, subst, arith}
 use Rattle.std.specs.Prelude.{if◌then◌else◌}
 use Rattle.std.proofs.lemmas.Bool.{OnTrue_from}
-use Rattle.syntax.specs.Tree.{Expression, Simple, Target, NoTarget, DefineTarget, AssignTarget, Forever, While, ForClauses, Range, Returned, NoValue, ReturnedOperation, ReturnedValue, Statement, Empty, Alone, VarTyped, VarUntyped, Block, If, For, Select, Go, Return, Break, Continue, Statements, NoStatement, Then, Branch, Conditional, Otherwise, NoElse, ElseBlock, ElseIf, Clauses, NoClause, Clause}
+use Rattle.syntax.specs.Tree.{Expression, Simple, Target, NoTarget, DefineTarget, AssignTarget, Forever, While, ForClauses, Range, Returned, NoValue, ReturnedValue, Statement, Empty, Alone, VarTyped, VarUntyped, Block, If, For, Select, Go, Return, Break, Continue, Statements, NoStatement, Then, Branch, Conditional, Otherwise, NoElse, ElseBlock, ElseIf, Clauses, NoClause, Clause}
 use Rattle.bytecode.specs.declared.instr.WordKind.{WordKind}
 use Rattle.bytecode.specs.declared.instr.Instr.TheVariants as instrs
 use Rattle.type_table.specs.Types.{ValueType}
@@ -19,7 +19,7 @@ use Rattle.codegen_base.specs.Generated.{Site, Made, past, made_of, followed, en
 use Rattle.plan.specs.Plan.{Plan, Skip, Seq, IfElse, IfThen, Cycle, Choose, Stop, reaches_end, turns, table_count}
 use Rattle.plan.proofs.Tables.{Numbered}
 use Rattle.codegen_base.proofs.Before.{Before, Here, before_count, before_numbered, zeros_before, pushes_before, clauses_before}
-use Rattle.codegen_base.proofs.Plain.{drops_before, stores_before, then_step, arguments_before, one_before, defines_before, simple_before, variables_before, comm_plain}
+use Rattle.codegen_base.proofs.Plain.{drops_before, stores_before, then_step, arguments_before, defines_before, simple_before, variables_before, comm_plain}
 
 -- what stands before nothing
 plain_numbered : (p : Plan) (n : ℕ) → Before Skip p → Numbered n p
@@ -53,7 +53,6 @@ module _ (globals : Globals) (elements : List Element) (result : Yield) where
 
   returned_numbered : (r : Yield) (layout : Layout) (returned : Returned) (n : ℕ) → Numbered n (return_plan globals elements r layout returned)
   returned_numbered r layout NoValue n = tt
-  returned_numbered r layout (ReturnedOperation operation) n = before_numbered Stop (return_plan globals elements r layout (ReturnedOperation operation)) n (one_before globals elements layout.scope operation Stop) tt
   returned_numbered r layout (ReturnedValue value) n = before_numbered Stop (return_plan globals elements r layout (ReturnedValue value)) n (pushes_before globals elements layout.scope (result_type globals elements r) value Stop) tt
 
   pub takes_before : (layout : Layout) (kind : ValueType) (target : Target) → Before Skip (takes globals elements result layout kind target)

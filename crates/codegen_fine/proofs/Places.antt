@@ -87,7 +87,7 @@ module _ (globals : Globals) (elements : List Element) (f : CodeFunction) where
       go : (o : Option Selected) → field_of globals.structs h.kind field ≡ o → ((next : Selected) → IsHoused next.place next.kind → Free (PathHas globals.structs next.kind rest end) → Leads (followed globals.structs (Some next) rest)) → Leads (followed globals.structs (Some at) (field ∷ rest))
       go None is more = let b = broken rules.Assigned end le in absurd (free-of b.0 (inl (is, b.1)))
       go (Some x) is more =
-          let (t, has) = grounds.fields_known s h.kind field x is in
+          let (t, has) = grounds.types_known.fields h.kind field x is in
           let part = field_parted globals.structs elements grounds.wide h.kind field x t is has in
           let place = at.place + x.place in
           let inner = split f.locals at.place part.before (kinds_here t ++ part.after) place (omega (arith, part.place)) (subst (Stand f.locals at.place) part.kinds_are h.stand) in

@@ -23,6 +23,7 @@ use Rattle.codegen_base.specs.Pushes.{pushes}
 use Rattle.codegen_base.specs.Statements.{printed_as, printed_part, pushes_parts, simple_plan}
 use Rattle.codegen_fine.proofs.Sees.{Sees, worth_sees, known_sees}
 use Rattle.codegen_base.proofs.Noted.{Noted}
+use Rattle.codegen_base.proofs.StatementMakes.{PartsMake}
 use Rattle.codegen_base.proofs.Typing.{Free, Fits, broken, nodes_end, worth_there, not_false}
 use Rattle.plan.specs.Plan.{Skip, Do}
 use Rattle.plan.proofs.Typed.{Allowed, Typed}
@@ -52,10 +53,10 @@ module _ (globals : Globals) (elements : List Element) where
   module _ (code : Code) (f : CodeFunction) (grounds : Grounds globals elements code) where
     module _ (scope : Scope) (housed : Housed globals elements f scope) (s : Scope) (alike : Sees s scope) where
       -- the values of a print statement are of the kinds that its table takes
-      pub typed_parts : (parts : List Part) (first : ℕ) → Free (PartsHave globals s first parts) → Puts globals.structs elements code f (part_kinds (map (printed_part globals elements scope) parts)) (pushes_parts globals elements scope parts)
-      typed_parts [] first free a ks out rest t = subst (λ (l : List WordKind). Typed code f a l rest out) (append-nil ks) t
-      typed_parts (Text bytes ∷ others) first free a ks out rest t = typed_parts others (first + part_size (Text bytes)) (λ flaw h. free flaw (inr h)) a ks out rest t
-      typed_parts (ValuePart value ∷ others) first free a ks out rest t =
+      pub typed_parts : (parts : List Part) (first : ℕ) → Free (PartsHave globals s first parts) → PartsMake globals elements parts → Puts globals.structs elements code f (part_kinds (map (printed_part globals elements scope) parts)) (pushes_parts globals elements scope parts)
+      typed_parts [] first free makes a ks out rest t = subst (λ (l : List WordKind). Typed code f a l rest out) (append-nil ks) t
+      typed_parts (Text bytes ∷ others) first free makes a ks out rest t = typed_parts others (first + part_size (Text bytes)) (λ flaw h. free flaw (inr h)) makes a ks out rest t
+      typed_parts (ValuePart value ∷ others) first free makes a ks out rest t =
           let w = worth_there globals s grounds.types_known (known_sees s scope alike housed.known) value first (λ flaw h. free flaw (inl (inl h))) in
           let here-is : worth globals scope value ≡ Some w.0 = sym (worth_sees s scope alike globals value) ∙ w.1 in
           let p = printable w.0 (nodes_of first value) (nodes_end first value) (λ flaw h. free flaw (inl (inr (subst (λ o. PrintedHas o (nodes_of first value) flaw) (sym w.1) h)))) in
@@ -65,15 +66,15 @@ module _ (globals : Globals) (elements : List Element) where
           ap (λ o. part_kinds (printed_as o ∷ map (printed_part globals elements scope) others)) here-is ∙ p.part (map (printed_part globals elements scope) others) in
           subst (λ o. Typed code f a ks (pushes globals elements scope (known (default_type o)) value (pushes_parts globals elements scope others rest)) out) (sym here-is)
           (puts_both globals.structs elements code f (kinds_of globals.structs elements kind) more (pushes globals elements scope kind value) (pushes_parts globals elements scope others)
-          (typed_pushes globals elements code f grounds scope housed s alike value first (λ flaw h. free flaw (inl (inl h))) w.0 kind here-is p.fit p.noted)
-          (typed_parts others (first + part_size (ValuePart value)) (λ flaw h. free flaw (inr h))) a ks out rest
+          (typed_pushes globals elements code f grounds scope housed s alike value first (λ flaw h. free flaw (inl (inl h))) makes.0 w.0 kind here-is p.fit p.noted)
+          (typed_parts others (first + part_size (ValuePart value)) (λ flaw h. free flaw (inr h)) makes.1) a ks out rest
           (subst (λ (l : List WordKind). Typed code f a (ks ++ l) rest out) same t))
 
     -- where the statement's table has its number, the statement leaves the stack as it was
-    pub typed_print : (layout : Layout) (housed : Housed globals elements f layout.scope) (s : Scope) (alike : Sees s layout.scope) (q : ℕ) (line trailing : Bool) (parts : List Part) (first : ℕ) → Free (SimpleHas globals s first (Print line parts trailing))
+    pub typed_print : (layout : Layout) (housed : Housed globals elements f layout.scope) (s : Scope) (alike : Sees s layout.scope) (q : ℕ) (line trailing : Bool) (parts : List Part) (first : ℕ) → Free (SimpleHas globals s first (Print line parts trailing)) → PartsMake globals elements parts
         → (table : PrintTable) → q < length code.prints → slice_get code.prints q ≡ Some table → table.parts ≡ map (printed_part globals elements layout.scope) parts
         → (a : Allowed) (ks out : List WordKind) → Typed code f a ks Skip out → Typed code f a ks (simple_plan globals elements layout q (Print line parts trailing)) out
-    typed_print layout housed s alike q line trailing parts first free table there is same a ks out t =
+    typed_print layout housed s alike q line trailing parts first free makes table there is same a ks out t =
         let js = part_kinds (map (printed_part globals elements layout.scope) parts) in
-        typed_parts layout.scope housed s alike parts first free a ks out (Do (instrs.Print q) Skip)
+        typed_parts layout.scope housed s alike parts first free makes a ks out (Do (instrs.Print q) Skip)
         (prints_typed globals elements code f grounds q js there (ap print_kinds is ∙ ap part_kinds same) a ks out Skip t)

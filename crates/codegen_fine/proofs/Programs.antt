@@ -56,7 +56,7 @@ module _ (globals : Globals) (elements : List Element) (code : Code) (grounds : 
       hold_more code (function_code globals elements function m) (functions_code globals elements (prints + length m.prints) (selects + table_count m.plan) rest) (tables 0 m.plan) next one.0 (all_made (HasShapes code) m.plan 0 one.1) others
 
 -- the functions of the code of a file that the checker takes
-pub file_functions : (file : File) (grounds : Grounds (globals_of file.tops) (elements_of file) (code_of file)) (functions : Functions (globals_of file.tops) (elements_of file) (code_of file)) → AllFine (globals_of file.tops) (elements_of file) (code_of file) grounds file.tops → Free (FileHas file)
+pub file_functions : (file : File) (grounds : Grounds (globals_of file.tops) (elements_of file) (code_of file)) → AllFine (globals_of file.tops) (elements_of file) (code_of file) grounds file.tops → Free (FileHas file)
     → AllHold (code_of file) (code_of file).functions (code_of file).selects
 file_functions file grounds fine free =
     functions_hold (globals_of file.tops) (elements_of file) (code_of file) grounds file.tops 0 0 0 fine (λ flaw h. free flaw (inr (inr h))) [] (grows_no (elements_of file))

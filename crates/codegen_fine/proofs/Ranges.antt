@@ -131,11 +131,11 @@ module _ (globals : Globals) (elements : List Element) (code : Code) (f : CodeFu
 
   module _ (result : Yield) (yields : IsResult globals elements f result) where
     pub typed_ranges : RangesHold globals elements code f grounds result yields
-    typed_ranges target channel body site s a first end le room alike free fits body-made =
+    typed_ranges target channel body site s a first end le room alike free makes fits body-made =
         let layout = site.layout in
         let at = first + target_size target in
         let housed = housed_of globals elements f layout.scope room.housed in
-        let c = channel_there globals elements code f grounds layout.scope housed (entered s) alike.named channel at (λ flaw h. free flaw (inr (inl (inl h)))) (λ flaw h. free flaw (inr (inl (inr (inl h))))) in
+        let c = channel_there globals elements code f grounds layout.scope housed (entered s) alike.named channel at (λ flaw h. free flaw (inr (inl (inl h)))) makes (λ flaw h. free flaw (inr (inl (inr (inl h))))) in
         let kind = carried globals elements layout.scope channel in
         let whole = ChannelType c.direction c.element in
         let own : type_of globals elements layout.scope channel ≡ whole = ap (λ o. known (default_type o)) c.is in

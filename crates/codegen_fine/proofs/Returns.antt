@@ -1,33 +1,28 @@
 -- Returns with which nothing is wrong find the kinds of the function's result.
-use Rattle.std.proofs.Common.{◌≡◌, ℕ, ◌+◌, List, [], Option, Some, option_map, refl, sym, ◌∙◌, subst, arith, inl, inr}
+use Rattle.std.proofs.Common.{◌≡◌, ℕ, ◌+◌, List, [], Option, Some, refl, sym, ◌∙◌, subst, arith, inl, inr}
 use Rattle.go_text.specs.declared.rule.Rule.TheVariants as rules
-use Rattle.syntax.specs.Tree.{Returned, NoValue, ReturnedOperation, ReturnedValue, RightOperation}
+use Rattle.syntax.specs.Tree.{Returned, NoValue, ReturnedValue}
 use Rattle.syntax.specs.Measures.{returned_size}
 use Rattle.bytecode.specs.declared.instr.WordKind.{WordKind}
 use Rattle.bytecode.specs.Code.{Function as CodeFunction, Code}
 use Rattle.type_table.specs.Types.{ValueType}
 use Rattle.type_table.specs.Scopes.{Globals, Scope, Yield, NoResult, Yields}
-use Rattle.typing_rules.specs.Worths.{Typed as TypedWorth, worth}
+use Rattle.typing_rules.specs.Worths.{worth}
 use Rattle.typing_rules.specs.Expressions.{nodes_of, ValueHas}
-use Rattle.typing_rules.specs.Operations.{operation_type, given_by}
 use Rattle.typing_rules.specs.Statements.{ReturnStatementHas}
 use Rattle.meaning.specs.Values.{known}
 use Rattle.codegen_base.specs.declared.element.Element.{Element}
 use Rattle.codegen_base.specs.Generated.{return_plan, result_kinds}
 use Rattle.codegen_base.specs.Layouts.{Layout}
-use Rattle.codegen_base.specs.Program.{noting_returned}
-use Rattle.codegen_base.proofs.Noted.{Noted, Grows}
+use Rattle.codegen_base.proofs.Noted.{Noted}
+use Rattle.codegen_base.proofs.StatementMakes.{ReturnedMakes}
 use Rattle.codegen_base.proofs.Typing.{Free, fits, broken, nodes_end, worth_there}
-use Rattle.plan.specs.Plan.{Stop}
 use Rattle.plan.proofs.Typed.{Allowed, Typed}
 use Rattle.codegen_fine.proofs.Sees.{Sees, worth_sees, known_sees}
-use Rattle.codegen_fine.proofs.WordKinds.{assignable_kinds}
 use Rattle.codegen_fine.proofs.Operands.{Grounds}
 use Rattle.codegen_fine.proofs.Branches.{typed_return}
 use Rattle.codegen_fine.proofs.Places.{housed_of}
-use Rattle.codegen_fine.proofs.Givens.{operation_end, typed_one}
 use Rattle.codegen_fine.proofs.Layouts.{Room}
-use Rattle.codegen_fine.proofs.Makes.{right_noted}
 
 -- a function's result: its kinds, and its type, which is known and noted
 pub record IsResult (globals : Globals) (elements : List Element) (f : CodeFunction) (result : Yield) : Type 0 where
@@ -37,20 +32,12 @@ pub record IsResult (globals : Globals) (elements : List Element) (f : CodeFunct
 
 module _ (globals : Globals) (elements : List Element) (code : Code) (f : CodeFunction) (grounds : Grounds globals elements code) where
   module _ (layout : Layout) (room : Room globals elements code f layout) (s : Scope) (sees : Sees s layout.scope) where
-    pub typed_returned : (result : Yield) → IsResult globals elements f result → (returned : Returned) (first : ℕ) → Free (ReturnStatementHas globals result s first returned) → (all : List Element) → Grows (noting_returned globals.types returned all) elements → (a : Allowed) (out : List WordKind)
+    pub typed_returned : (result : Yield) → IsResult globals elements f result → (returned : Returned) (first : ℕ) → Free (ReturnStatementHas globals result s first returned) → ReturnedMakes globals elements returned → (a : Allowed) (out : List WordKind)
         → Typed code f a [] (return_plan globals elements result layout returned) out
-    typed_returned NoResult r NoValue first free all g a out = sym r.kinds_are
-    typed_returned (Yields kind) r NoValue first free all g a out = let b = broken rules.Returned (first + (returned_size NoValue + 1)) (omega arith) in absurd (free b.0 (inr b.1))
-    typed_returned NoResult r (ReturnedOperation operation) first free all g a out = let b = broken rules.Returned (first + (returned_size (ReturnedOperation operation) + 1)) (omega arith) in absurd (free b.0 (inr b.1))
-    typed_returned NoResult r (ReturnedValue value) first free all g a out = let b = broken rules.Returned (first + (returned_size (ReturnedValue value) + 1)) (omega arith) in absurd (free b.0 (inr b.1))
-    typed_returned (Yields kind) r (ReturnedValue value) first free all g a out =
+    typed_returned NoResult r NoValue first free makes a out = sym r.kinds_are
+    typed_returned (Yields kind) r NoValue first free makes a out = let b = broken rules.Returned (first + (returned_size NoValue + 1)) (omega arith) in absurd (free b.0 (inr b.1))
+    typed_returned NoResult r (ReturnedValue value) first free makes a out = let b = broken rules.Returned (first + (returned_size (ReturnedValue value) + 1)) (omega arith) in absurd (free b.0 (inr b.1))
+    typed_returned (Yields kind) r (ReturnedValue value) first free makes a out =
         let (w, is) = worth_there globals s grounds.types_known (known_sees s layout.scope sees (housed_of globals elements f layout.scope room.housed).known) value first (λ flaw h. free flaw (inl h)) in
         let fit = fits w (known kind) (nodes_of first value) (nodes_end first value) (λ flaw h. free flaw (inr (subst (λ o. ValueHas (worth globals s value) o (nodes_of first value) flaw) (sym (r.known_kind kind refl)) (subst (λ o. ValueHas o (Some (known kind)) (nodes_of first value) flaw) (sym is) h)))) in
-        typed_return globals elements code f grounds layout.scope (housed_of globals elements f layout.scope room.housed) s sees value first (λ flaw h. free flaw (inl h)) w (known kind) (sym (worth_sees s layout.scope sees globals value) ∙ is) fit (r.noted kind refl) (sym r.kinds_are) a out
-    typed_returned (Yields kind) r (ReturnedOperation operation) first free all g a out =
-        let housed = housed_of globals elements f layout.scope room.housed in
-        let one = typed_one globals elements code f grounds layout.scope housed s sees operation first (λ flaw h. free flaw (inl h)) (right_noted globals elements code f grounds layout.scope housed s sees (RightOperation operation) first (λ flaw h. free flaw (inl h)) all g) in
-        let value = given_by first operation (operation_type globals s operation) in
-        let fit = fits (TypedWorth one.kind) (known kind) value.nodes (operation_end first operation)
-        (λ flaw h. free flaw (inr (subst (λ o. ValueHas value.worth o value.nodes flaw) (sym (r.known_kind kind refl)) (subst (λ o. ValueHas (option_map TypedWorth o) (Some (known kind)) value.nodes flaw) (sym one.is) h)))) in
-        one.pushed a [] out Stop (assignable_kinds globals.structs elements one.kind (known kind) fit ∙ sym r.kinds_are)
+        typed_return globals elements code f grounds layout.scope (housed_of globals elements f layout.scope room.housed) s sees value first (λ flaw h. free flaw (inl h)) makes w (known kind) (sym (worth_sees s layout.scope sees globals value) ∙ is) fit (r.noted kind refl) (sym r.kinds_are) a out

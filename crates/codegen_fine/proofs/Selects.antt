@@ -21,6 +21,7 @@ use Rattle.codegen_base.specs.Layouts.{Layout}
 use Rattle.codegen_base.specs.Generated.{Site, Made, made_of, default_at, with_way, pushes_comm, pushes_clauses, table_clause, table_clauses, default_places, select_table, comm_kinds, made_select}
 use Rattle.codegen_base.proofs.Alike.{Alike}
 use Rattle.codegen_base.proofs.Typing.{Free}
+use Rattle.codegen_base.proofs.StatementMakes.{ClausesMake}
 use Rattle.plan.specs.Plan.{Skip, Choose, starts, entries}
 use Rattle.plan.proofs.Steps.{below_of, top_of_is}
 use Rattle.plan.proofs.Tables.{Tabled}
@@ -68,31 +69,31 @@ module _ (globals : Globals) (elements : List Element) (code : Code) (f : CodeFu
   module _ (layout : Layout) (room : Room globals elements code f layout) where
     -- ---- the operands of all clauses
 
-    pub all_puts : (clauses : Clauses) (s : Scope) → Sees s layout.scope → (breaks continues : Bool) (first : ℕ) (places : List ℕ) → comm_count clauses ≤ length places → Free (ClausesHave (setting breaks continues) s first clauses)
+    pub all_puts : (clauses : Clauses) (s : Scope) → Sees s layout.scope → (breaks continues : Bool) (first : ℕ) (places : List ℕ) → comm_count clauses ≤ length places → Free (ClausesHave (setting breaks continues) s first clauses) → ClausesMake globals elements clauses
         → Puts globals.structs elements code f (all_clause_kinds code (clauses_at layout clauses places)) (pushes_clauses globals elements result layout clauses)
-    all_puts NoClause s sees b c first places le free a ks out rest t = subst (λ (l : List WordKind). Typed code f a l rest out) (append-nil ks) t
-    all_puts (Clause None body more) s sees b c first places le free a ks out rest t =
-        all_puts more (left s (after_all globals (entered s) body)) sees b c (first + if_any comm_size None + statements_size body + 1) places le (λ flaw h. free flaw (inr (inr h))) a ks out rest t
-    all_puts (Clause (Some comm) body more) s sees b c first [] le free a ks out rest t = absurd (omega (arith, le))
-    all_puts (Clause (Some comm) body more) s sees b c first (to ∷ places) le free a ks out rest t =
+    all_puts NoClause s sees b c first places le free makes a ks out rest t = subst (λ (l : List WordKind). Typed code f a l rest out) (append-nil ks) t
+    all_puts (Clause None body more) s sees b c first places le free makes a ks out rest t =
+        all_puts more (left s (after_all globals (entered s) body)) sees b c (first + if_any comm_size None + statements_size body + 1) places le (λ flaw h. free flaw (inr (inr h))) makes.2 a ks out rest t
+    all_puts (Clause (Some comm) body more) s sees b c first [] le free makes a ks out rest t = absurd (omega (arith, le))
+    all_puts (Clause (Some comm) body more) s sees b c first (to ∷ places) le free makes a ks out rest t =
         let inner = after_any globals (entered s) (Some (comm_simple comm)) in
-        let one = comm_fine globals elements code f grounds result layout room (entered s) sees comm first (λ flaw h. free flaw (inl h)) in
+        let one = comm_fine globals elements code f grounds result layout room (entered s) sees comm first (λ flaw h. free flaw (inl h)) makes.0 in
         puts_both globals.structs elements code f _ (all_clause_kinds code (clauses_at layout more places)) (pushes_comm globals elements result layout comm) (pushes_clauses globals elements result layout more) (one.pushed to)
-        (all_puts more (left s (after_all globals inner body)) sees b c (first + comm_size comm + statements_size body + 1) places (omega (arith, le)) (λ flaw h. free flaw (inr (inr h)))) a ks out rest t
+        (all_puts more (left s (after_all globals inner body)) sees b c (first + comm_size comm + statements_size body + 1) places (omega (arith, le)) (λ flaw h. free flaw (inr (inr h))) makes.2) a ks out rest t
 
     -- the shapes that they name are there
-    shapes_named : (clauses : Clauses) (s : Scope) → Sees s layout.scope → (breaks continues : Bool) (first : ℕ) (places : List ℕ) → Free (ClausesHave (setting breaks continues) s first clauses)
+    shapes_named : (clauses : Clauses) (s : Scope) → Sees s layout.scope → (breaks continues : Bool) (first : ℕ) (places : List ℕ) → Free (ClausesHave (setting breaks continues) s first clauses) → ClausesMake globals elements clauses
         → (n : ℕ) (x : TableClause) → slice_get (clauses_at layout clauses places) n ≡ Some x → clause_shape x < length code.shapes
-    shapes_named NoClause s sees b c first places free n x e = absurd cc
-    shapes_named (Clause None body more) s sees b c first places free n x e =
-        shapes_named more (left s (after_all globals (entered s) body)) sees b c (first + if_any comm_size None + statements_size body + 1) places (λ flaw h. free flaw (inr (inr h))) n x e
-    shapes_named (Clause (Some comm) body more) s sees b c first [] free n x e = absurd cc
-    shapes_named (Clause (Some comm) body more) s sees b c first (to ∷ places) free zero x e =
-        let one = comm_fine globals elements code f grounds result layout room (entered s) sees comm first (λ flaw h. free flaw (inl h)) in
+    shapes_named NoClause s sees b c first places free makes n x e = absurd cc
+    shapes_named (Clause None body more) s sees b c first places free makes n x e =
+        shapes_named more (left s (after_all globals (entered s) body)) sees b c (first + if_any comm_size None + statements_size body + 1) places (λ flaw h. free flaw (inr (inr h))) makes.2 n x e
+    shapes_named (Clause (Some comm) body more) s sees b c first [] free makes n x e = absurd cc
+    shapes_named (Clause (Some comm) body more) s sees b c first (to ∷ places) free makes zero x e =
+        let one = comm_fine globals elements code f grounds result layout room (entered s) sees comm first (λ flaw h. free flaw (inl h)) makes.0 in
         subst (λ y. clause_shape y < length code.shapes) (same_Some (table_clause globals elements result layout comm to) x e) (one.there to)
-    shapes_named (Clause (Some comm) body more) s sees b c first (to ∷ places) free (suc n) x e =
+    shapes_named (Clause (Some comm) body more) s sees b c first (to ∷ places) free makes (suc n) x e =
         let inner = after_any globals (entered s) (Some (comm_simple comm)) in
-        shapes_named more (left s (after_all globals inner body)) sees b c (first + comm_size comm + statements_size body + 1) places (λ flaw h. free flaw (inr (inr h))) n x e
+        shapes_named more (left s (after_all globals inner body)) sees b c (first + comm_size comm + statements_size body + 1) places (λ flaw h. free flaw (inr (inr h))) makes.2 n x e
 
     -- ---- where the ways begin
 
@@ -211,22 +212,22 @@ module _ (globals : Globals) (elements : List Element) (code : Code) (f : CodeFu
           r.1,
         )
 
-    pub typed_choice : (site : Site) → site.layout ≡ layout → (s : Scope) (sees : Sees s layout.scope) (clauses : Clauses) (breaks continues : Bool) (first : ℕ) (a : Allowed) (o : Option Made) → Free (ClausesHave (setting breaks continues) s first clauses) → Alike s layout.scope → WaysOf s clauses (in_select a) o
+    pub typed_choice : (site : Site) → site.layout ≡ layout → (s : Scope) (sees : Sees s layout.scope) (clauses : Clauses) (breaks continues : Bool) (first : ℕ) (a : Allowed) (o : Option Made) → Free (ClausesHave (setting breaks continues) s first clauses) → ClausesMake globals elements clauses → Alike s layout.scope → WaysOf s clauses (in_select a) o
         → IsMade globals elements code f grounds a (made_select globals elements result (record { layout = layout; prints = site.prints; selects = site.selects }) clauses o) × Alike s (made_select globals elements result (record { layout = layout; prints = site.prints; selects = site.selects }) clauses o).layout.scope
-    typed_choice site same s sees clauses b c first a None free alike none = (record { runs = λ place tabled. go place tabled; room = room }, alike) where
+    typed_choice site same s sees clauses b c first a None free makes alike none = (record { runs = λ place tabled. go place tabled; room = room }, alike) where
       go : (place : ℕ) → Tabled code.selects place (pushes_clauses globals elements result layout clauses (Choose site.selects (select_table globals elements result layout clauses) Skip)) → Typed code f a [] (pushes_clauses globals elements result layout clauses (Choose site.selects (select_table globals elements result layout clauses) Skip)) []
       go place tabled =
           let plan = Choose site.selects (select_table globals elements result layout clauses) Skip in
           let t = before_tabled code.selects plan (pushes_clauses globals elements result layout clauses plan) place (clauses_before globals elements layout result clauses plan) tabled in
-          all_puts clauses s sees b c first [] (omega (arith, none)) free a [] [] plan (chosen s clauses a site.selects t.0 (made_of Skip [] layout) (no_way s clauses (in_select a) none alike) (λ places. shapes_named clauses s sees b c first places free) t.1.0 t.1.1)
-    typed_choice site same s sees clauses b c first a (Some ways) free alike w =
+          all_puts clauses s sees b c first [] (omega (arith, none)) free makes a [] [] plan (chosen s clauses a site.selects t.0 (made_of Skip [] layout) (no_way s clauses (in_select a) none alike) (λ places. shapes_named clauses s sees b c first places free makes) t.1.0 t.1.1)
+    typed_choice site same s sees clauses b c first a (Some ways) free makes alike w =
         let plan = Choose site.selects (select_table globals elements result layout clauses) ways.plan in (
           record {
             runs = λ place tabled.
                 let t = before_tabled code.selects plan (pushes_clauses globals elements result layout clauses plan) place (clauses_before globals elements layout result clauses plan) tabled in
                 let begin = w.begin (t.0 + 1) in
                 let least = w.least in
-                all_puts clauses s sees b c first (starts (t.0 + 1) ways.plan) (omega (arith, begin, least)) free a [] [] plan (chosen s clauses a site.selects t.0 ways w (λ places. shapes_named clauses s sees b c first places free) t.1.0 t.1.1);
+                all_puts clauses s sees b c first (starts (t.0 + 1) ways.plan) (omega (arith, begin, least)) free makes a [] [] plan (chosen s clauses a site.selects t.0 ways w (λ places. shapes_named clauses s sees b c first places free makes) t.1.0 t.1.1);
             room = w.behind;
           },
           w.seen,

@@ -27,7 +27,7 @@ use Rattle.codegen_base.specs.Elements.{word_kind, found_at, element_of, shape_o
 use Rattle.codegen_base.specs.Program.{elements_of, code_of}
 use Rattle.codegen_base.proofs.Noted.{Noted, type_noted, shape_there}
 use Rattle.codegen_fine.proofs.Operands.{Grounds}
-use Rattle.codegen_fine.proofs.Keeping.{tops_keeps}
+use Rattle.codegen_fine.proofs.Keeping.{tops_keep}
 
 -- the shape that an element of a channel type names is one of so many
 abbrev Within : ℕ → Element → Type 0
@@ -81,7 +81,7 @@ pub shapes_there : (file : File) → Grounds (globals_of file.tops) (elements_of
 shapes_there file grounds n ks e =
     let structs = (globals_of file.tops).structs in
     let all = elements_of file in
-    let closed : Closed all = tops_keeps (globals_of file.tops).types Closed (λ found kind. closed_type structs found (known (type_in (globals_of file.tops).types nothing_declared kind))) file.tops [] (λ m x h. absurd cc) in
+    let closed : Closed all = tops_keep (globals_of file.tops).types Closed (λ found kind. closed_type structs found (known (type_in (globals_of file.tops).types nothing_declared kind))) file.tops [] (λ m x h. absurd cc) in
     let (x, is, same) = mapped_from (element_kinds structs all) all n ks e in
     subst (AreThere (code_of file)) same (go x (closed n x is)) where
       single : (k : WordKind) → IsThere (code_of file) k → AreThere (code_of file) (k ∷ [])

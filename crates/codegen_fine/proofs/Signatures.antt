@@ -15,7 +15,7 @@ use Rattle.typing_rules.specs.Files.{FileHas}
 use Rattle.typing_rules.specs.declared.role.Role.TheVariants as roles
 use Rattle.typing_rules.specs.Declarations.{HeadersHave, counting_function}
 use Rattle.typing_rules.specs.Kinds.{fields_declared, kinds_in, signatures, function_names, globals_of}
-use Rattle.typing_rules.specs.Operations.{parameters_in, result_in}
+use Rattle.typing_rules.specs.Calls.{parameters_in, result_in}
 use Rattle.meaning.specs.Values.{known}
 use Rattle.codegen_base.specs.declared.element.Element.{Element}
 use Rattle.codegen_base.specs.Elements.{kinds_of}
@@ -28,8 +28,7 @@ use Rattle.codegen_base.proofs.Called.{KindsKnown}
 use Rattle.codegen_base.proofs.Noted.{Noted, Grows, grows_no, grows_on}
 use Rattle.codegen_base.proofs.Typing.{Free}
 use Rattle.plan.specs.Plan.{Stop, table_count}
-use Rattle.codegen_fine.proofs.Operands.{Grounds}
-use Rattle.codegen_fine.proofs.Emitted.{all_kinds, AllNoted}
+use Rattle.codegen_fine.proofs.Operands.{all_kinds, AllNoted, Functions, Grounds}
 use Rattle.codegen_fine.proofs.Layouts.{longer_no}
 use Rattle.codegen_fine.proofs.Growing.{longer_statements, longer_unless}
 use Rattle.codegen_base.proofs.Noting.{any_grows, statements_grow, tops_grow}
@@ -125,4 +124,4 @@ functions_of file free =
 
 -- the functions of the code of a file that the checker takes, no post statement of which declares anything
 pub file_keeps : (file : File) → Grounds (globals_of file.tops) (elements_of file) (code_of file) → PostsTops file.tops → Free (FileHas file) → AllHold (code_of file) (code_of file).functions (code_of file).selects
-file_keeps file grounds still free = file_holds file grounds (functions_of file free) still free
+file_keeps file grounds still free = file_holds file grounds still free

@@ -21,6 +21,7 @@ use Rattle.codegen_base.specs.Layouts.{Layout, carried}
 use Rattle.codegen_base.specs.Pushes.{pushes, pushes_own, drops}
 use Rattle.codegen_base.specs.Statements.{result_words, simple_plan}
 use Rattle.codegen_fine.proofs.Sees.{Sees, worth_sees, known_sees}
+use Rattle.codegen_base.proofs.StatementMakes.{OneMakes, ValuesMake}
 use Rattle.codegen_base.proofs.Typing.{Free, fits, nodes_end, worth_there}
 use Rattle.plan.specs.Plan.{Plan, Skip, Do}
 use Rattle.plan.proofs.Typed.{Allowed, Typed, typed_step}
@@ -46,25 +47,25 @@ module _ (globals : Globals) (elements : List Element) (code : Code) (f : CodeFu
     Leaves q simple = (a : Allowed) (ks out : List WordKind) → Typed code f a ks Skip out → Typed code f a ks (simple_plan globals elements layout q simple) out
 
     module _ (q : ℕ) (s : Scope) (alike : Sees s layout.scope) where
-      pub typed_call_alone : (function : List ℕ) (arguments : Arguments) (first : ℕ) → Free (SimpleHas globals s first (CallAlone function arguments)) → Leaves q (CallAlone function arguments)
-      typed_call_alone function arguments first free a ks out t =
+      pub typed_call_alone : (function : List ℕ) (arguments : Arguments) (first : ℕ) → Free (SimpleHas globals s first (CallAlone function arguments)) → ValuesMake globals elements arguments.values → Leaves q (CallAlone function arguments)
+      typed_call_alone function arguments first free makes a ks out t =
           let result = result_of globals (number_of globals function) in
-          typed_call globals elements code f grounds layout.scope housed s alike function arguments first free a ks out (drops (result_words globals elements layout.scope result) Skip) (result_dropped result a ks out Skip t)
+          typed_call globals elements code f grounds layout.scope housed s alike function arguments first free makes a ks out (drops (result_words globals elements layout.scope result) Skip) (result_dropped result a ks out Skip t)
 
-      pub typed_close : (channel : Expression) (first : ℕ) → Free (SimpleHas globals s first (Close channel)) → Leaves q (Close channel)
-      typed_close channel first free a ks out t =
-          let c = channel_there globals elements code f grounds layout.scope housed s alike channel first (λ flaw h. free flaw (inl (inl h))) (λ flaw h. free flaw (inl (inr h))) in
+      pub typed_close : (channel : Expression) (first : ℕ) → Free (SimpleHas globals s first (Close channel)) → OneMakes globals elements channel → Leaves q (Close channel)
+      typed_close channel first free makes a ks out t =
+          let c = channel_there globals elements code f grounds layout.scope housed s alike channel first (λ flaw h. free flaw (inl (inl h))) makes (λ flaw h. free flaw (inl (inr h))) in
           c.pushed a ks out (Do instrs.Close Skip) (closes_typed globals elements code f grounds c.direction c.element a ks out Skip t)
 
-      pub typed_receive_alone : (channel : Expression) (first : ℕ) → Free (SimpleHas globals s first (ReceiveAlone channel)) → Leaves q (ReceiveAlone channel)
-      typed_receive_alone channel first free a ks out t =
+      pub typed_receive_alone : (channel : Expression) (first : ℕ) → Free (SimpleHas globals s first (ReceiveAlone channel)) → OneMakes globals elements channel → Leaves q (ReceiveAlone channel)
+      typed_receive_alone channel first free makes a ks out t =
           let js = kinds_of globals.structs elements (carried globals elements layout.scope channel) in
           let many : length js + 1 ≡ length (js ++ kinds.Bool ∷ []) = sym (length-append js (kinds.Bool ∷ [])) in
-          typed_received globals elements code f grounds layout.scope housed s alike channel first free a ks out (Do (instrs.Discard (length js + 1)) Skip) (discards_typed (length js + 1) (js ++ kinds.Bool ∷ []) many a ks out Skip t)
+          typed_received globals elements code f grounds layout.scope housed s alike channel first free makes a ks out (Do (instrs.Discard (length js + 1)) Skip) (discards_typed (length js + 1) (js ++ kinds.Bool ∷ []) many a ks out Skip t)
 
-      pub typed_send : (channel value : Expression) (first : ℕ) → Free (SimpleHas globals s first (Send channel value)) → Leaves q (Send channel value)
-      typed_send channel value first free a ks out t =
-          let c = channel_there globals elements code f grounds layout.scope housed s alike channel first (λ flaw h. free flaw (inl h)) (λ flaw h. free flaw (inr (inr (inl h)))) in
+      pub typed_send : (channel value : Expression) (first : ℕ) → Free (SimpleHas globals s first (Send channel value)) → OneMakes globals elements channel → OneMakes globals elements value → Leaves q (Send channel value)
+      typed_send channel value first free channel-makes value-makes a ks out t =
+          let c = channel_there globals elements code f grounds layout.scope housed s alike channel first (λ flaw h. free flaw (inl h)) channel-makes (λ flaw h. free flaw (inr (inr (inl h)))) in
           let behind = first + expression_size channel in
           let w = worth_there globals s grounds.types_known (known_sees s layout.scope alike housed.known) value behind (λ flaw h. free flaw (inr (inl h))) in
           let is-element : element_of (worth globals s channel) ≡ Some c.element = ap element_of (worth_sees s layout.scope alike globals channel ∙ c.is) in
@@ -72,6 +73,6 @@ module _ (globals : Globals) (elements : List Element) (code : Code) (f : CodeFu
           (λ flaw h. free flaw (inr (inr (inr (inr (subst (λ o. ValueHas (worth globals s value) o (nodes_of behind value) flaw) (sym is-element) (subst (λ o. ValueHas o (Some c.element) (nodes_of behind value) flaw) (sym w.1) h))))))) in
           subst (λ j. Typed code f a ks (pushes_own globals elements layout.scope channel (pushes globals elements layout.scope j value (Do (instrs.Send (shape_of elements j)) Skip))) out) (sym c.carries)
           (c.pushed a ks out (pushes globals elements layout.scope c.element value (Do (instrs.Send (shape_of elements c.element)) Skip))
-          (typed_pushes globals elements code f grounds layout.scope housed s alike value behind (λ flaw h. free flaw (inr (inl h))) w.0 c.element (sym (worth_sees s layout.scope alike globals value) ∙ w.1) fit c.noted.0 a (ks ++ kinds.Chan (shape_of elements c.element) ∷ []) out (Do (instrs.Send (shape_of elements c.element)) Skip)
+          (typed_pushes globals elements code f grounds layout.scope housed s alike value behind (λ flaw h. free flaw (inr (inl h))) value-makes w.0 c.element (sym (worth_sees s layout.scope alike globals value) ∙ w.1) fit c.noted.0 a (ks ++ kinds.Chan (shape_of elements c.element) ∷ []) out (Do (instrs.Send (shape_of elements c.element)) Skip)
           (subst (λ (l : List WordKind). Typed code f a l (Do (instrs.Send (shape_of elements c.element)) Skip) out) (sym (append_assoc ks (kinds.Chan (shape_of elements c.element) ∷ []) (kinds_of globals.structs elements c.element)))
           (sends_typed globals elements code f grounds c.direction c.element c.noted a ks out Skip t))))

@@ -33,7 +33,7 @@ use Rattle.codegen_fine.proofs.Wholes.{ParametersFine}
 use Rattle.codegen_fine.proofs.Heads.{groups_fine}
 use Rattle.codegen_fine.proofs.Wide.{wide_all, none_endless}
 use Rattle.codegen_fine.proofs.Programs.{AllHold}
-use Rattle.codegen_fine.proofs.Signatures.{file_keeps}
+use Rattle.codegen_fine.proofs.Signatures.{functions_of, file_keeps}
 
 module _ (globals : Globals) (elements : List Element) where
   -- the fields of each struct have types that are known and noted
@@ -115,14 +115,17 @@ grounds_of file free =
     let globals = globals_of file.tops in
     let elements = elements_of file in
     let fine = fields_fine file free in
+    let functions = functions_of file free in
     record {
       wide = wide_of file free;
       typed = fields_typed file free;
-      fields_known = λ s. fields_known globals s (fields_typed file free);
+      types_known = record { fields = fields_known globals.structs (fields_typed file free); results = λ n kind e. (known kind, functions.result_known n kind e) };
       fields_noted = noted_of globals elements fine;
+      results_noted = λ n t e. functions.result_noted n (Some t) e;
       literals_noted = λ n m field e. noted_field globals elements (fields_of globals.structs n) (fine n) m field e;
       shapes = refl;
       structs_there = λ n. parts_there globals elements (code_of file) refl fine (suc (length globals.structs)) n;
+      functions = functions;
     }
 
 -- the functions of the code of a file that the checker takes, where no post statement declares anything

@@ -11,7 +11,7 @@ use Rattle.codegen_base.specs.declared.element.Element.{Element}
 use Rattle.codegen_base.specs.Elements.{kinds_of}
 use Rattle.codegen_base.specs.Pushes.{operates}
 use Rattle.codegen_base.specs.Statements.{Local, stores, loads_spot}
-use Rattle.codegen_base.proofs.Expressions.{typed_same}
+use Rattle.codegen_base.proofs.Typing.{typed_same}
 use Rattle.codegen_base.proofs.Noted.{Noted}
 use Rattle.plan.specs.Plan.{Plan, Skip, Do}
 use Rattle.plan.proofs.Typed.{Allowed, Typed}

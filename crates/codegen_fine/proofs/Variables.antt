@@ -1,13 +1,13 @@
 -- Declarations of variables, with which nothing is wrong, leave the stack as it was.
-use Rattle.std.proofs.Common.{◌≡◌, ℕ, suc, ◌+◌, ◌≤◌, Bool, true, false, not, ◌&&◌, ◌||◌, List, [], ◌∷◌, length, map, Option, Some, None, refl, sym, ap, ◌∙◌, subst, arith, inl, inr, length-append}
+use Rattle.std.proofs.Common.{◌≡◌, ℕ, suc, ◌+◌, ◌≤◌, Bool, true, false, not, ◌&&◌, ◌||◌, List, [], ◌∷◌, length, map, Option, Some, None, refl, sym, ap, ◌∙◌, subst, arith, inl, inr, length-append, sum_by, IfSome}
 use Rattle.std.specs.Prelude.{if◌then◌else◌}
 use Rattle.std.specs.Option.{is_none, is_some}
 use Rattle.std.specs.List.{list_any}
 use Rattle.std.proofs.lemmas.Bool.{or_parts}
 use Rattle.std.proofs.lemmas.List.{length-map, append-nil}
 use Rattle.go_text.specs.declared.rule.Rule.TheVariants as rules
-use Rattle.syntax.specs.Tree.{TypeExpression, Right}
-use Rattle.syntax.specs.Measures.{if_any, type_size, right_size}
+use Rattle.syntax.specs.Tree.{TypeExpression, Expression}
+use Rattle.syntax.specs.Measures.{if_any, type_size, expression_size}
 use Rattle.bytecode.specs.declared.instr.WordKind.{WordKind}
 use Rattle.bytecode.specs.Code.{Function as CodeFunction, Code}
 use Rattle.type_table.specs.Types.{ValueType}
@@ -30,11 +30,12 @@ use Rattle.codegen_base.proofs.Typing.{Free, broken}
 use Rattle.plan.proofs.Typed.{Typed}
 use Rattle.codegen_fine.proofs.Pushing.{Puts, puts_both, puts_zeros}
 use Rattle.codegen_fine.proofs.Operands.{Grounds}
-use Rattle.codegen_fine.proofs.Emitted.{all_kinds}
+use Rattle.codegen_fine.proofs.Operands.{all_kinds}
 use Rattle.codegen_fine.proofs.Spots.{SpotsFit}
 use Rattle.codegen_fine.proofs.Places.{housed_of}
 use Rattle.codegen_fine.proofs.Givens.{WantsFail, WantsNoted, taken_all}
-use Rattle.codegen_fine.proofs.Rights.{RightNoted, typed_right}
+use Rattle.codegen_fine.proofs.Rights.{typed_right}
+use Rattle.codegen_base.proofs.StatementMakes.{ValuesMake}
 use Rattle.codegen_fine.proofs.Layouts.{OwnSame, own_same, own_declared, AllOthers, twice_parts, Begins, Room, AllTaken, names_fit}
 use Rattle.codegen_fine.proofs.Makes.{noted_there}
 use Rattle.codegen_fine.proofs.Assigns.{Leaves, Declares, put_leaves, typed_defines}
@@ -137,24 +138,24 @@ module _ (globals : Globals) (elements : List Element) where
 
     module _ (layout : Layout) (room : Room globals elements code f layout) (s : Scope) (alike : Alike s layout.scope) where
       -- a `var` without a type
-      pub typed_untyped : (names : List (List ℕ)) (right : Right) (first : ℕ) → Free (UntypedVariablesHave globals s first names right) → RightNoted globals elements code f grounds layout.scope (housed_of globals elements f layout.scope room.housed) s alike.named right
+      pub typed_untyped : (names : List (List ℕ)) (right : List Expression) (first : ℕ) → Free (UntypedVariablesHave globals s first names right) → ValuesMake globals elements right
           → Begins f (declaring_all globals elements names (right_types globals elements layout.scope (length names) right) layout)
           → Declares globals elements code f grounds (defines globals elements layout names (right_types globals elements layout.scope (length names) right) right) (with_defined globals s names (given globals s (length names) 0 right))
           (declaring_all globals elements names (right_types globals elements layout.scope (length names) right) layout)
       typed_untyped names right first free noted begins =
-          let end = first + right_size right + 1 in
+          let end = first + sum_by expression_size right + 1 in
           let b = broken rules.Declared end (omega arith) in
           let none = not_true (list_any is_reserved names || has_twice names || list_any (λ name. is_some (own_variable s name)) names) (λ e. free b.0 (inr (inr (inl (e, b.1))))) in
           typed_defines globals elements code f grounds layout room s alike names right first end (omega arith) (three_false (list_any is_reserved names) (has_twice names) (list_any (λ name. is_some (own_variable s name)) names) none).0
           (λ flaw h. free flaw (inl h)) (λ flaw h. free flaw (inr (inl h))) (untyped_names s names (given globals s (length names) first right) end (omega arith) (λ flaw h. free flaw (inr h))) noted begins
 
       -- a `var` with a type
-      pub typed_typed : (names : List (List ℕ)) (written : TypeExpression) (right : Option Right) (first : ℕ) (kind : ValueType) → type_in globals.types s written ≡ Some kind → Noted elements kind → Free (TypedVariablesHave globals s first names written right)
-          → ((r : Right) → right ≡ Some r → RightNoted globals elements code f grounds layout.scope (housed_of globals elements f layout.scope room.housed) s alike.named r)
+      pub typed_typed : (names : List (List ℕ)) (written : TypeExpression) (right : Option (List Expression)) (first : ℕ) (kind : ValueType) → type_in globals.types s written ≡ Some kind → Noted elements kind → Free (TypedVariablesHave globals s first names written right)
+          → IfSome right (ValuesMake globals elements)
           → Begins f (declaring_each globals elements kind names layout)
           → Declares globals elements code f grounds (variables_plan globals elements layout names kind right) (with_variables globals s (type_in globals.types s written) names) (declaring_each globals elements kind names layout)
       typed_typed names written right first kind is noted free makes begins =
-          let end = first + type_size written + if_any right_size right + 1 in
+          let end = first + type_size written + if_any (sum_by expression_size) right + 1 in
           let b = broken rules.Declared end (omega arith) in
           let parts =
           three_false (list_any is_reserved names) (has_twice names) (list_any (λ name. is_some (own_variable s name)) names)
@@ -171,8 +172,8 @@ module _ (globals : Globals) (elements : List Element) where
             alike = subst (λ o. Alike (with_variables globals s o names) (declaring_each globals elements kind names layout).scope) (sym is)
                 (subst (λ x. Alike x (declaring_each globals elements kind names layout).scope) (variables_are names kind s s alike.fits (own_same s names) fresh parts.0) (subst (λ (x : Layout). Alike (with_defined globals s names (alike_values names kind)) x.scope) (all_each names kind layout) n.alike));
           } where
-            go : (right : Option Right) → Free (IfRightHas globals s (length names) (type_in globals.types s written) (first + type_size written) right)
-                → ((r : Right) → right ≡ Some r → RightNoted globals elements code f grounds layout.scope (housed_of globals elements f layout.scope room.housed) s alike.named r)
+            go : (right : Option (List Expression)) → Free (IfRightHas globals s (length names) (type_in globals.types s written) (first + type_size written) right)
+                → IfSome right (ValuesMake globals elements)
                 → name_types globals elements layout names (same_types globals elements names kind) ≡ same_types globals elements names kind
                 → SpotsFit globals.structs elements code f (name_spots globals elements layout names (same_types globals elements names kind)) (map (kinds_of globals.structs elements) (name_types globals elements layout names (same_types globals elements names kind)))
                 → Leaves globals elements code f grounds (variables_plan globals elements layout names kind right)
@@ -183,7 +184,7 @@ module _ (globals : Globals) (elements : List Element) where
                 let count = length names in
                 let at = first + type_size written in
                 let values = given globals layout.scope count 0 r in
-                let t = typed_right globals elements code f grounds layout.scope (housed_of globals elements f layout.scope room.housed) s alike.named r at (at + right_size r + 1) count (all_want names kind) (omega arith) (length-map names (λ name. Some kind)) (want_noted names kind noted)
-                (λ flaw h. free flaw (inl h)) (λ flaw h. free flaw (inr (inl h))) (λ flaw h. free flaw (inr (inr (want_fails names kind (type_in globals.types s written) (given globals s count at r) flaw is h)))) (makes r refl) in
+                let t = typed_right globals elements code f grounds layout.scope (housed_of globals elements f layout.scope room.housed) s alike.named r count at (at + sum_by expression_size r + 1) (all_want names kind) (omega arith) (length-map names (λ name. Some kind)) (want_noted names kind noted)
+                (λ flaw h. free flaw (inl h)) (λ flaw h. free flaw (inr (inl h))) (λ flaw h. free flaw (inr (inr (want_fails names kind (type_in globals.types s written) (given globals s count at r) flaw is h)))) makes in
                 let pushed = subst (λ (l : List ValueType). Puts globals.structs elements code f (all_kinds globals.structs elements l) (pushes_right globals elements layout.scope count l r)) (want_same names kind values t.many ∙ sym same) t.pushed in
                 put_leaves globals elements code f grounds (name_types globals elements layout names (same_types globals elements names kind)) (name_spots globals elements layout names (same_types globals elements names kind)) (pushes_right globals elements layout.scope count (name_types globals elements layout names (same_types globals elements names kind)) r) pushed fit

@@ -32,12 +32,13 @@ use Rattle.codegen_base.proofs.Static.{seen_alike, variables_known}
 use Rattle.codegen_base.proofs.Typing.{Free, Fits, fits, broken, nodes_end, worth_there}
 use Rattle.codegen_follows.proofs.Stands.{View, scope_of, variables, Fine, OneMakes, ValuesMake}
 use Rattle.codegen_follows.proofs.Places.{known_named}
-use Rattle.codegen_follows.proofs.Rights.{default_fits, IsPlain, IsBoth, form, gives_plain, gives_both}
+use Rattle.codegen_follows.proofs.Rights.{default_fits, gives_plain, gives_both}
+use Rattle.codegen_base.proofs.Sides.{IsPlain, IsBoth, form, plain_given, given_long}
 use Rattle.codegen_follows.proofs.Names.{own_found, NameSuits, AllNamesSuit, names_are}
 use Rattle.codegen_base.proofs.Running.{Compiled, Coded}
 use Rattle.codegen_follows.proofs.Simulated.{Simulated, at, Works, Position, here_blocks, On'}
 use Rattle.meaning.specs.Worked.{Worked}
-use Rattle.codegen_follows.proofs.Sets.{AreTyped, given_long, plain_given, both_types, both_typed}
+use Rattle.codegen_follows.proofs.Sets.{AreTyped, both_types, both_typed}
 
 -- ---- what right sides give where the same is seen
 

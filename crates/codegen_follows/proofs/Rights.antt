@@ -1,8 +1,7 @@
 -- What right sides give to destinations.
 use Rattle.word.specs.Values as requests
 use Rattle.bytecode.specs.declared.instr.WordKind.TheVariants as kinds
-use Rattle.std.proofs.Common.{◌≡◌, ℕ, ◌+◌, ◌==◌, ◌≤◌, true, false, List, [], ◌∷◌, ◌++◌, length, map, Some, refl, sym, ap, ◌∙◌, subst, arith, suc, zero, ◌&&◌, inl, inr, ◌⊎◌}
-use Rattle.std.specs.Prelude.{if◌then◌else◌, ◌&&◌}
+use Rattle.std.proofs.Common.{◌≡◌, ℕ, ◌+◌, ◌==◌, ◌≤◌, true, false, List, [], ◌∷◌, ◌++◌, length, map, Some, refl, sym, ap, ◌∙◌, subst, arith, suc, zero, inl, inr}
 use Rattle.std.proofs.lemmas.Bool.Decides.{nat_tests}
 use Rattle.std.proofs.lemmas.List.{map-append}
 use Rattle.go_text.specs.declared.rule.Rule.TheVariants as rules
@@ -17,13 +16,11 @@ use Rattle.type_table.specs.Zeros.{zero_words}
 use Rattle.type_table.specs.Scopes.{Scope, Globals}
 use Rattle.typing_rules.specs.Flaws.{Nodes}
 use Rattle.typing_rules.specs.Worths.{Worth, Typed, Constant, Nil, is_int}
-use Rattle.typing_rules.specs.Expressions.{DefaultHas, ExpressionsHave, default_type, nodes_of, ExpressionHas}
-use Rattle.typing_rules.specs.Operations.{is_receive, also_given}
+use Rattle.typing_rules.specs.Expressions.{DefaultHas, ExpressionsHave, default_type, ExpressionHas}
 use Rattle.meaning.specs.Values.{Value, known, parted}
 use Rattle.meaning.specs.Variables.{Blocks, Destination}
 use Rattle.meaning.specs.Tasks.{Course}
 use Rattle.meaning.specs.Source.{gives, stores}
-use Rattle.codegen_base.specs.declared.element.Element.{Element}
 use Rattle.codegen_base.specs.Pushes.{pushes_all}
 use Rattle.codegen_base.specs.Statements.{Spot, assigns, pushes_right, pushes_received}
 use Rattle.plan.specs.Plan.{Plan, Skip, Do}
@@ -31,7 +28,7 @@ use Rattle.plan.proofs.Words.{Words}
 use Rattle.plan.proofs.Steps.{receives}
 use Rattle.codegen_base.proofs.Assigned.{behind_all, AreSpots}
 use Rattle.codegen_base.proofs.Typing.{Free, Fits, broken, not_false}
-use Rattle.codegen_base.proofs.Sides.{IsPlain, IsBoth, form}
+use Rattle.codegen_base.proofs.Sides.{IsPlain}
 use Rattle.codegen_follows.proofs.Stands.{scope_of, variables, OneMakes, ValuesMake}
 use Rattle.codegen_follows.proofs.Calling.{all_go}
 use Rattle.codegen_base.proofs.Running.{Compiled, Coded}

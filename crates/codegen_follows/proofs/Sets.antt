@@ -1,5 +1,5 @@
 -- Assignments to places.
-use Rattle.std.proofs.Common.{◌≡◌, ℕ, suc, ◌+◌, ◌≤◌, Bool, true, false, List, [], ◌∷◌, length, map, Option, Some, None, option_map, refl, sym, ap, ◌∙◌, subst, arith, inl, inr, zero, ◌⊎◌, ◌++◌}
+use Rattle.std.proofs.Common.{◌≡◌, ℕ, suc, ◌+◌, ◌≤◌, Bool, true, false, List, [], ◌∷◌, length, map, Option, Some, None, option_map, refl, sym, ap, ◌∙◌, subst, arith, inl, inr, zero, ◌⊎◌}
 use Rattle.std.specs.Prelude.{if◌then◌else◌}
 use Rattle.syntax.specs.Tree.{Expression, expressions, Place, Assign, Receive}
 use Rattle.syntax.specs.Measures.{expression_size, simple_size}
@@ -32,8 +32,9 @@ use Rattle.codegen_base.proofs.Running.{Compiled, Coded}
 use Rattle.codegen_follows.proofs.Simulated.{Simulated, at, Works, Position, here_blocks, On'}
 use Rattle.meaning.specs.Worked.{Worked}
 use Rattle.codegen_follows.proofs.Channels.{channel_there}
-use Rattle.codegen_follows.proofs.Rights.{IsPlain, IsBoth, form, gives_plain, gives_both}
-use Rattle.std.proofs.lemmas.List.{append-nil, length-map}
+use Rattle.codegen_follows.proofs.Rights.{gives_plain, gives_both}
+use Rattle.codegen_base.proofs.Sides.{IsPlain, IsBoth, form, plain_given, given_long}
+use Rattle.std.proofs.lemmas.List.{length-map}
 use Rattle.codegen_follows.proofs.Rights.{default_fits}
 
 -- values of these types, whose nodes are there
@@ -45,10 +46,6 @@ AreTyped vs kinds = ⊥
 pub typed_default : (o : Option ValueType) → known (default_type (option_map Typed o)) ≡ known o
 typed_default None = refl
 typed_default (Some kind) = refl
-
-pub given_long : (globals' : Globals) (s : Scope) (first : ℕ) (es : List Expression) → length (given_values globals' s first es) ≡ length es
-given_long globals' s first [] = refl
-given_long globals' s first (e ∷ es) = ap suc (given_long globals' s (first + expression_size e) es)
 
 module _ {globals : Globals} {program : Compiled globals} (coded : Coded program) (ls : Words) (view : View) (fine : Fine coded view) where
   open program use {elements, wide as all}
@@ -107,10 +104,6 @@ module _ {globals : Globals} {program : Compiled globals} (coded : Coded program
       let one = place_fits place first v (Typed kind) (λ flaw x. free flaw (inl x)) is positive (λ flaw x. goes flaw (inl x)) in
       let left : suc (length vs) ≡ suc (length places) = many in
       (assignable_zeros globals.structs kind (takes place kind) one.0 ∙ one.1, typed_suit places vs kinds (first + 1) typed (omega (arith, left)) (λ flaw x. free flaw (inr x)) (λ flaw x. goes flaw (inr x)))
-
--- what a right side gives for so many places, where it is its values alone
-pub plain_given : (globals : Globals) (s : Scope) (count first : ℕ) (es : List Expression) → IsPlain count es → given globals s count first es ≡ given_values globals s first es
-plain_given globals s count first es p = ap (λ (l : List Given). given_values globals s first es ++ l) (p.also_is first) ∙ append-nil (given_values globals s first es)
 
 module _ {globals : Globals} {program : Compiled globals} {coded : Coded program} {simulated : Simulated coded} (position : Position simulated) where
   open program use {elements, code, wide as all}

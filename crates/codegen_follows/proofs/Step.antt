@@ -1,7 +1,6 @@
 -- A step: whatever the source does next, the code does.
 use Rattle.std.proofs.Common.{◌≡◌, ℕ, List, [], ◌∷◌, Some, None, map, length, refl, sym, ◌∙◌, ap}
 use Rattle.bytecode.specs.Machine.{Frames as CodeFrames, zero_of, returned}
-use Rattle.word.specs.declared.value.Word.{Word}
 use Rattle.type_table.specs.Scopes.{Globals, Yield, NoResult, Yields}
 use Rattle.typing_rules.specs.Calls.{result_of}
 use Rattle.meaning.specs.Values.{known, words_like}
@@ -15,7 +14,7 @@ use Rattle.plan.specs.Plan.{Stop}
 use Rattle.plan.proofs.Words.{Words}
 use Rattle.plan.proofs.Steps.{returns}
 use Rattle.std.proofs.lemmas.List.{length-map}
-use Rattle.codegen_base.proofs.Likeness.{kinds_zeros}
+use Rattle.codegen_base.proofs.Likeness.{like_none, kinds_zeros}
 use Rattle.codegen_base.proofs.Gave.{stays}
 use Rattle.codegen_base.proofs.Storing.{zeros_push}
 use Rattle.codegen_base.proofs.Running.{Compiled, Coded}
@@ -24,10 +23,6 @@ use Rattle.codegen_follows.proofs.Simulated.{Simulated, Held, blocks_of, at, Wor
 use Rattle.codegen_follows.proofs.Statements.{statement_goes}
 use Rattle.codegen_follows.proofs.Follows.{end_block_goes, decide_goes, head_goes, turn_goes, again_goes, end_select_goes}
 use Rattle.codegen_follows.proofs.Ranged.{next_goes, round_goes, item_ends}
-
-like_none : (zs : List Word) → words_like zs [] ≡ zs
-like_none [] = refl
-like_none (z ∷ zs) = ap (λ (l : List Word). z ∷ l) (like_none zs)
 
 module _ {globals : Globals} {program : Compiled globals} {coded : Coded program} (simulated : Simulated coded) where
   open program use {elements, code}

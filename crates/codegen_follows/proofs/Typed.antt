@@ -36,14 +36,15 @@ use Rattle.codegen_base.proofs.Seen.{seen}
 use Rattle.codegen_base.proofs.Typing.{Free, fits, broken, nodes_end, worth_there}
 use Rattle.codegen_base.proofs.Static.{variables_known}
 use Rattle.codegen_follows.proofs.Stands.{View, scope_of, variables, Fine, ValuesMake}
-use Rattle.codegen_follows.proofs.Sets.{AreTyped, given_long, plain_given, both_typed}
+use Rattle.codegen_follows.proofs.Sets.{AreTyped, both_typed}
 use Rattle.codegen_follows.proofs.Names.{neither, AllNamesSuit, NameSuits, names_are, AreNew, new_names}
 use Rattle.codegen_follows.proofs.Untyped.{declared_there}
 use Rattle.codegen_base.proofs.Running.{Compiled, Coded}
 use Rattle.codegen_follows.proofs.Simulated.{Simulated, at, Works, works_behind, Position, here_blocks, On', standing}
 use Rattle.meaning.specs.Worked.{Worked}
 use Rattle.meaning.specs.Expressions.{written_kind}
-use Rattle.codegen_follows.proofs.Rights.{IsPlain, IsBoth, form, gives_plain, gives_both, Targets, stored_go}
+use Rattle.codegen_follows.proofs.Rights.{gives_plain, gives_both, Targets, stored_go}
+use Rattle.codegen_base.proofs.Sides.{IsPlain, IsBoth, form, plain_given, given_long}
 use Rattle.codegen_base.proofs.Makes.{type_anywhere}
 
 module _ {globals : Globals} {program : Compiled globals} (coded : Coded program) (ls : Words) (view : View) (fine : Fine coded view) where
