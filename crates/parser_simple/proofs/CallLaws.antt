@@ -1,25 +1,24 @@
 -- Calls and receives that stand alone, or begin an expression that goes on: what is spelt is read, and what is read is
 -- spelt so.
-use Rattle.std.proofs.Common.{◌≡◌, ℕ, suc, ◌<◌, ◌≤◌, Bool, true, false, cond, ◌||◌, Option, None, max, min, List, [], ◌∷◌, length, Ok, Err, nat_le, ◌⊎◌, inl, inr, refl, sym, ap, ◌∙◌, subst, arith}
+use Rattle.std.proofs.Common.{◌≡◌, ℕ, suc, ◌<◌, ◌≤◌, Bool, true, false, cond, max, min, List, [], ◌∷◌, Err, nat_le, inl, inr, refl, sym, ap, ◌∙◌, subst, arith}
 use Rattle.std.proofs.lemmas.Bool.{lt-leb, leb-true}
 use Rattle.scanner.specs.declared.kind.TokenKind.TheVariants as kinds
-use Rattle.syntax.specs.declared.node.BinaryOperator.{BinaryOperator}
 use Rattle.syntax.specs.declared.node.UnaryOperator.TheVariants as unaries
-use Rattle.syntax.specs.Tree.{Expression, Integer, Named, Parenthesized, Selection, Composite, Unary, Binary, Call, Receive, Make, MakeSized, Length, Capacity, Expressions, expressions, expressions_in, Arguments, Simple, CallAlone, Send}
-use Rattle.syntax.specs.Measures.{Listing, entries, highest, expression_height, expressions_height, expression_longest, expressions_longest, expressions_count, arguments_height, arguments_longest, simple_height, simple_longest}
+use Rattle.syntax.specs.Tree.{Expression, Integer, Named, Parenthesized, Selection, Composite, Unary, Binary, Call, Receive, Make, MakeSized, Length, Capacity, Expressions, expressions_in, Arguments, Simple, CallAlone, Send}
+use Rattle.syntax.specs.Measures.{Listing, expression_height, expression_longest, arguments_height, arguments_longest, simple_height, simple_longest}
 use Rattle.syntax.proofs.Lists.{expressions-expressions_in, expressions_height-of, expressions_longest-of, expressions_count-of}
 use Rattle.parser_base.specs.declared.operator.Infix.{Infix}
 use Rattle.parser_base.specs.declared.operator.Infix.TheVariants.{Operator, Period}
 use Rattle.parser_base.specs.Lexemes.{Lexeme, Literal, Name, Text, Mark}
-use Rattle.parser_base.specs.Spelling.{is_builtin, behind, separated, before, outer_precedence, IsGrouped}
-use Rattle.parser_base.specs.Reading.{Refusal, TooDeep, Reading, ◌>>=◌, as_one, needing, expect, plain_name, is_kind, values, named, called as called_operand, operand, strength, step_at, expression, resumed}
+use Rattle.parser_base.specs.Spelling.{is_builtin, before, outer_precedence, IsGrouped}
+use Rattle.parser_base.specs.Reading.{TooDeep, Reading, ◌>>=◌, as_one, needing, expect, plain_name, values, named, called as called_operand, operand, strength, expression, resumed}
 use Rattle.parser_base.proofs.Marks.{bind_ok, when_ok, ok_is, expect_is, plain_name_is, plain_name_again}
 use Rattle.parser_base.proofs.ListLaws.{AreFew, ReadBack, Found, High}
 use Rattle.parser_base.proofs.ExpressionAgain.{step_kind, Shut, EndsExpression, IsLone, precedence-lt, closed_words, grouped_in, last_in}
 use Rattle.parser_base.proofs.ExpressionSound.{IsOperand, operand_sound, expression_sound}
-use Rattle.parser_base.proofs.Resumed.{IsFirst, Begun, begun, FromFirst, Again, Alone, from_first, resumed_sound}
-use Rattle.parser_base.proofs.Steps.{then_again, made_again, read_as, needing_again, gave, Sound, made_is, either}
-use Rattle.parser_simple.specs.Spelling.{name_words, IsName, place_words, IsPrimary, arguments_words, AreArguments, simple_words, IsSimple}
+use Rattle.parser_base.proofs.Resumed.{IsFirst, Begun, FromFirst, Again, Alone, from_first, resumed_sound}
+use Rattle.parser_base.proofs.Steps.{then_again, needing_again, gave, Sound, made_is, either}
+use Rattle.parser_simple.specs.Spelling.{IsName, IsPrimary, arguments_words, AreArguments, simple_words, IsSimple}
 use Rattle.parser_simple.specs.Reading.{behind_mark, begins_with, begins_call, begins_primary, passed, arguments, received, call_of, sends_on, sent_on, alone_or_sent, called}
 use Rattle.parser_simple.proofs.RightLaws.{EndsAt, value_again, arguments_again, primary_is, value_sound, arguments_sound}
 
