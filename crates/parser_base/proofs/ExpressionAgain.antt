@@ -14,7 +14,7 @@ use Rattle.parser_base.specs.declared.operator.Infix.{Infix}
 use Rattle.parser_base.specs.declared.operator.Infix.TheVariants.{Operator, Period}
 use Rattle.parser_base.specs.declared.list.Next.TheVariants.{More, End}
 use Rattle.parser_base.specs.Lexemes.{Lexeme, Literal, Name, Text, Mark}
-use Rattle.parser_base.specs.Spelling.{is_builtin, behind, joined, separated, closing, before, AreAll, IsTrailing, HasLast, type_words, IsType, builtin_value_words, expression_words, expressions_words, more_words, outer_precedence, precedence, IsGrouped, AreGrouped, unary_kind, binary_kind}
+use Rattle.parser_base.specs.Spelling.{is_builtin, behind, joined, separated, closing, before, AreAll, IsTrailing, HasLast, type_words, IsType, expression_words, expressions_words, more_words, outer_precedence, precedence, IsGrouped, AreGrouped, unary_kind, binary_kind}
 use Rattle.parser_base.specs.Reading.{Reading, TooDeep, TooMany, ◌>>=◌, as_one, needing, is_kind, expect, begins, entry_next, value_next, values, composite, called, named, to_parenthesis, argument, sized, made, builtin, infix_of, strength, binding, step_at, negated, operand, applied, operation, operations, expression, type_at}
 use Rattle.parser_base.proofs.Marks.{is_kind_same, expect_again, plain_name_again}
 use Rattle.parser_base.proofs.ListLaws.{AreFew, ReadBack, Found, High, Many, Found as AllFound, High as AllHigh, Many as AllMany, Full, entries-le, Entries as Listed, IsReadAgain, Separates, listed_again, all_again}

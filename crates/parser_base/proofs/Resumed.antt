@@ -1,17 +1,17 @@
 -- Reading that goes on from an operand which was read before: a call or a receive at the front of a statement or of a
 -- condition, that may be one level too high until it is known what follows it.
-use Rattle.std.proofs.Common.{◌≡◌, ℕ, zero, suc, ◌<◌, ◌≤◌, min, List, [], ◌∷◌, ◌++◌, Option, Some, None, Ok, Err, Bool, true, false, ◌⊎◌, inl, inr, refl, ap, ◌∙◌, sym, subst, arith, append_assoc}
+use Rattle.std.proofs.Common.{◌≡◌, ℕ, zero, suc, ◌<◌, ◌≤◌, min, List, [], ◌∷◌, None, Ok, Err, Bool, ◌⊎◌, inl, inr, refl, ap, ◌∙◌, sym, subst, arith, append_assoc}
 use Rattle.std.proofs.lemmas.Bool.{cases_lt}
 use Rattle.scanner.specs.declared.kind.TokenKind.TheVariants as kinds
-use Rattle.syntax.specs.Tree.{Expression, Integer, Named, Parenthesized, Selection, Composite, Unary, Binary, Call, Receive, Make, MakeSized, Length, Capacity}
+use Rattle.syntax.specs.Tree.{Expression, Selection, Binary}
 use Rattle.syntax.specs.Measures.{Listing, expression_height, expression_longest}
 use Rattle.parser_base.specs.declared.operator.Infix.{Infix}
 use Rattle.parser_base.specs.declared.operator.Infix.TheVariants.{Operator, Period}
 use Rattle.parser_base.specs.Lexemes.{Lexeme, Name, Mark}
 use Rattle.parser_base.specs.Spelling.{before, expression_words, outer_precedence, IsGrouped, binary_kind}
-use Rattle.parser_base.specs.Reading.{Reading, TooDeep, ◌>>=◌, step_at, strength, operand, operations, expression, resumed}
+use Rattle.parser_base.specs.Reading.{TooDeep, step_at, strength, operand, operations, expression, resumed}
 use Rattle.parser_base.proofs.ListLaws.{AreFew, ReadBack, Found, High, Many}
-use Rattle.parser_base.proofs.ExpressionAgain.{step_kind, Shut, shut, operator_shut, no_brace, past_step, height_positive, IsOperandRead, behind_operand, IsLone, lone_read, IsRead, reads, stops, no_room}
+use Rattle.parser_base.proofs.ExpressionAgain.{step_kind, Shut, shut, operator_shut, no_brace, past_step, height_positive, behind_operand, IsLone, lone_read, reads, stops, no_room}
 use Rattle.parser_base.proofs.Steps.{read_as}
 use Rattle.parser_base.proofs.ExpressionSound.{IsSound, expression_sound, operations_sound}
 

@@ -170,7 +170,7 @@ abbrev mutual
   more_words NoMore = []
   more_words (Behind first rest) = Mark kinds.Comma ∷ (expression_words first ++ more_words rest)
 
--- A comma stands only behind a value of a literal or a call.
+-- A comma stands only after a value of a literal or a call.
 abbrev pub HasLast : Expressions → (trailing : Bool) → Type 0
 HasLast NoMore trailing = trailing ≡ false
 HasLast (Behind first rest) trailing = Unit {0}

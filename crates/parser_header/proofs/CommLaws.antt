@@ -19,7 +19,7 @@ use Rattle.parser_simple.specs.Reading.{place_form, begins_with, defines, form_o
 use Rattle.parser_simple.proofs.BeginLaws.{primary_not_arrow}
 use Rattle.parser_header.specs.Reading.{second, received_behind, comm_defined, comm_assigned, comm_formed, comm}
 use Rattle.parser_simple.proofs.PlaceLaws.{place_again, place_sound}
-use Rattle.parser_simple.proofs.FormLaws.{name_form, form_behind, no_place_form, fields_form, no_defines, no_form}
+use Rattle.parser_simple.proofs.FormLaws.{name_form, form_behind, no_place_form, no_defines, no_form}
 use Rattle.parser_simple.proofs.RightLaws.{EndsAt, ends_at, begins_primary_again, received_again, received_sound}
 use Rattle.parser_simple.proofs.SimpleLaws.{sent_again, sent_sound}
 

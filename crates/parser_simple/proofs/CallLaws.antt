@@ -1,26 +1,25 @@
 -- Calls and receives that stand alone, or begin an expression that goes on: what is spelt is read, and what is read is
 -- spelt so.
-use Rattle.std.proofs.Common.{◌≡◌, ℕ, suc, ◌<◌, ◌≤◌, Bool, true, false, cond, ◌||◌, Option, None, max, min, List, [], ◌∷◌, length, Ok, Err, nat_le, ◌⊎◌, inl, inr, refl, sym, ap, ◌∙◌, subst, arith}
+use Rattle.std.proofs.Common.{◌≡◌, ℕ, suc, ◌<◌, ◌≤◌, Bool, true, false, cond, max, min, List, [], ◌∷◌, Err, nat_le, inl, inr, refl, sym, ap, ◌∙◌, subst, arith}
 use Rattle.std.proofs.lemmas.Bool.{lt-leb, leb-true}
 use Rattle.scanner.specs.declared.kind.TokenKind.TheVariants as kinds
-use Rattle.syntax.specs.declared.node.BinaryOperator.{BinaryOperator}
 use Rattle.syntax.specs.declared.node.UnaryOperator.TheVariants as unaries
-use Rattle.syntax.specs.Tree.{Expression, Integer, Named, Parenthesized, Selection, Composite, Unary, Binary, Call, Receive, Make, MakeSized, Length, Capacity, Expressions, expressions, expressions_in, Arguments, Simple, CallAlone, Send}
-use Rattle.syntax.specs.Measures.{Listing, entries, highest, expression_height, expressions_height, expression_longest, expressions_longest, expressions_count, arguments_height, arguments_longest, simple_height, simple_longest}
+use Rattle.syntax.specs.Tree.{Expression, Integer, Named, Parenthesized, Selection, Composite, Unary, Binary, Call, Receive, Make, MakeSized, Length, Capacity, Expressions, expressions_in, Arguments, Simple, CallAlone, Send}
+use Rattle.syntax.specs.Measures.{Listing, expression_height, expression_longest, arguments_height, arguments_longest, simple_height, simple_longest}
 use Rattle.syntax.proofs.Lists.{expressions-expressions_in, expressions_height-of, expressions_longest-of, expressions_count-of}
 use Rattle.parser_base.specs.declared.operator.Infix.{Infix}
 use Rattle.parser_base.specs.declared.operator.Infix.TheVariants.{Operator, Period}
 use Rattle.parser_base.specs.Lexemes.{Lexeme, Literal, Name, Text, Mark}
-use Rattle.parser_base.specs.Spelling.{is_builtin, behind, separated, before, outer_precedence, IsGrouped}
-use Rattle.parser_base.specs.Reading.{Refusal, TooDeep, Reading, ◌>>=◌, as_one, needing, expect, plain_name, is_kind, values, named, called as called_operand, operand, strength, step_at, expression, resumed}
+use Rattle.parser_base.specs.Spelling.{is_builtin, before, outer_precedence, IsGrouped}
+use Rattle.parser_base.specs.Reading.{TooDeep, Reading, ◌>>=◌, as_one, needing, expect, plain_name, values, named, called as called_operand, operand, strength, expression, resumed}
 use Rattle.parser_base.proofs.Marks.{bind_ok, when_ok, ok_is, expect_is, plain_name_is, plain_name_again}
 use Rattle.parser_base.proofs.ListLaws.{AreFew, ReadBack, Found, High}
 use Rattle.parser_base.proofs.ExpressionAgain.{step_kind, Shut, EndsExpression, IsLone, precedence-lt, closed_words, grouped_in, last_in}
 use Rattle.parser_base.proofs.ExpressionSound.{IsOperand, operand_sound, expression_sound}
-use Rattle.parser_base.proofs.Resumed.{IsFirst, Begun, begun, FromFirst, Again, Alone, from_first, resumed_sound}
-use Rattle.parser_base.proofs.Steps.{then_again, made_again, read_as, needing_again, gave, Sound, made_is, either}
-use Rattle.parser_simple.specs.Spelling.{name_words, IsName, place_words, IsPrimary, arguments_words, AreArguments, simple_words, IsSimple}
-use Rattle.parser_simple.specs.Reading.{behind_mark, begins_with, begins_call, begins_primary, passed, arguments, received, call_of, sent_on, alone_or_sent, called}
+use Rattle.parser_base.proofs.Resumed.{IsFirst, Begun, FromFirst, Again, Alone, from_first, resumed_sound}
+use Rattle.parser_base.proofs.Steps.{then_again, needing_again, gave, Sound, made_is, either}
+use Rattle.parser_simple.specs.Spelling.{IsName, IsPrimary, arguments_words, AreArguments, simple_words, IsSimple}
+use Rattle.parser_simple.specs.Reading.{behind_mark, begins_with, begins_call, begins_primary, passed, arguments, received, call_of, sends_on, sent_on, alone_or_sent, called}
 use Rattle.parser_simple.proofs.RightLaws.{EndsAt, value_again, arguments_again, primary_is, value_sound, arguments_sound}
 
 -- ---- with what an expression begins
@@ -102,24 +101,20 @@ period_is : (s : Infix) → 7 ≤ strength s → step_kind s ≡ kinds.Period
 period_is (Operator o) strong = absurd (omega (arith, strong, precedence-lt o))
 period_is Period strong = refl
 
--- what follows the first operand of a channel
-abbrev pub goes_on : List Lexeme → Bool
-goes_on ws = begins_with kinds.Period ws || begins_with kinds.Arrow ws
-
-selects : (s : Infix) (ws : List Lexeme) → step_kind s ≡ kinds.Period → goes_on (Mark (step_kind s) ∷ ws) ≡ true
+selects : (s : Infix) (ws : List Lexeme) → step_kind s ≡ kinds.Period → sends_on (Mark (step_kind s) ∷ ws) ≡ true
 unfolding begins_with
 selects s ws is = rw is refl
 
-pub channel_goes_on : (literals : Bool) (c : Expression) (ws : List Lexeme) (b : Begun literals c (Mark kinds.Arrow ∷ ws)) → outer_precedence c ≡ 7 → goes_on b.tail ≡ true
+pub channel_goes_on : (literals : Bool) (c : Expression) (ws : List Lexeme) (b : Begun literals c (Mark kinds.Arrow ∷ ws)) → outer_precedence c ≡ 7 → sends_on b.tail ≡ true
 unfolding begins_with
 channel_goes_on literals c ws b strong =
     elim b.goes [
-      | inl all ↦ ap goes_on all.1
-      | inr more ↦ ap goes_on more.2 ∙ selects more.0 more.1 (period_is more.0 (omega (arith, strong, more.3)))
+      | inl all ↦ ap sends_on all.1
+      | inr more ↦ ap sends_on more.2 ∙ selects more.0 more.1 (period_is more.0 (omega (arith, strong, more.3)))
     ]
 
 -- a send whose channel begins with a call
-call_sends : (literals : Bool) (most room : ℕ) (c v : Expression) (rest : List Lexeme) (function : List ℕ) (all : Arguments) (tail : List Lexeme) → IsName function → AreArguments literals all → goes_on tail ≡ true
+call_sends : (literals : Bool) (most room : ℕ) (c v : Expression) (rest : List Lexeme) (function : List ℕ) (all : Arguments) (tail : List Lexeme) → IsName function → AreArguments literals all → sends_on tail ≡ true
     → arguments_height all < expression_height c → ((listing : Listing) → arguments_longest listing all ≤ expression_longest listing c)
     → (AreFew (λ listing. arguments_longest listing all) most → FromFirst literals most room 7 c (Mark kinds.Arrow ∷ before v rest) (call_of function all) tail) → IsGrouped literals v → EndsExpression literals rest
     → ReadBack (called literals most room (Name function ∷ arguments_words all tail)) (Send c v) rest (max (expression_height c) (expression_height v)) room (λ listing. max (expression_longest listing c) (expression_longest listing v)) most
@@ -247,7 +242,7 @@ called_sound literals defining most room ws s rest e =
     let b = bind_ok (arguments literals most room a.0.1) (alone_or_sent literals most room a.0.0) (s, rest) a.2 in
     let n = plain_name_is ws a.0.0 a.0.1 a.1 in
     let name = a.0.0 in
-    let on : sound (Name name ∷ a.0.1) s rest = elim (either (goes_on b.0.1) (sent_on literals most room (call_of name b.0.0) b.0.1) (gave (calls name b.0.0) b.0.1) (s, rest) b.2) [
+    let on : sound (Name name ∷ a.0.1) s rest = elim (either (sends_on b.0.1) (sent_on literals most room (call_of name b.0.0) b.0.1) (gave (calls name b.0.0) b.0.1) (s, rest) b.2) [
       | inl x ↦ sent_on_sound literals defining most room (Name name ∷ a.0.1) (call_of name b.0.0) b.0.1 s rest (begins_named name a.0.1 n.1) (call_operand_sound literals most room name a.0.1 b.0.0 b.0.1 n.1 b.1) x.1
       | inr x ↦ subst (λ (y : Simple × List Lexeme). sound (Name name ∷ a.0.1) y.0 y.1) (ok_is (calls name b.0.0, b.0.1) (s, rest) x.1) (call_alone_sound literals defining most room name a.0.1 b.0.0 b.0.1 n.1 b.1)
     ] in

@@ -1,13 +1,12 @@
 -- Right sides: what is spelt is read, and what is read is spelt so.
-use Rattle.std.proofs.Common.{◌≡◌, ℕ, zero, suc, ◌≤◌, Bool, true, false, Option, None, max, List, [], ◌∷◌, ◌++◌, length, Ok, refl, sym, ap, ◌∙◌, subst, arith, append_assoc}
-use Rattle.scanner.specs.declared.kind.TokenKind.{TokenKind}
+use Rattle.std.proofs.Common.{◌≡◌, ℕ, zero, suc, ◌≤◌, Bool, true, false, None, max, List, [], ◌∷◌, length, refl, sym, ap, ◌∙◌, subst, arith, append_assoc}
 use Rattle.scanner.specs.declared.kind.TokenKind.TheVariants as kinds
 use Rattle.syntax.specs.declared.node.UnaryOperator.TheVariants as unaries
 use Rattle.syntax.specs.Tree.{Expression, Integer, Named, Parenthesized, Selection, Composite, Unary, Binary, Call, Receive, Make, MakeSized, Length, Capacity, Arguments}
-use Rattle.syntax.specs.Measures.{Listing, Entries as EntriesLimit, entries, highest, expression_height, expression_longest, arguments_height, arguments_longest, list_longest}
-use Rattle.parser_base.specs.Lexemes.{Lexeme, Literal, Name, Text, Mark}
-use Rattle.parser_base.specs.Spelling.{is_builtin, behind, separated, joined, before, AreAll, expression_words, outer_precedence, IsGrouped, binary_kind}
-use Rattle.parser_base.specs.Reading.{Syntax, TooMany, Reading, ◌>>=◌, is_kind, expect, step_at, begins, expression, values, argument}
+use Rattle.syntax.specs.Measures.{Entries as EntriesLimit, entries, highest, expression_height, expression_longest, arguments_height, arguments_longest, list_longest}
+use Rattle.parser_base.specs.Lexemes.{Lexeme, Name, Mark}
+use Rattle.parser_base.specs.Spelling.{behind, joined, before, AreAll, expression_words, outer_precedence, IsGrouped}
+use Rattle.parser_base.specs.Reading.{Syntax, TooMany, Reading, ◌>>=◌, expect, step_at, begins, expression, values, argument}
 use Rattle.parser_base.proofs.Marks.{bind_ok, when_ok, expect_is}
 use Rattle.parser_base.proofs.ListLaws.{ReadBack, High, entries-le, Entries, IsReadAgain, Separates, listed_again, all_again, ReadsSoundly, listed_sound}
 use Rattle.parser_base.proofs.ExpressionAgain.{reads, Shut, EndsExpression, height_positive, precedence-lt, none_above, parenthesis_closes, comma_ends, begins_again, values_again, argument_again as parenthesized_again}

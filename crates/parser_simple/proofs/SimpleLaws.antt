@@ -4,7 +4,7 @@ use Rattle.scanner.specs.declared.kind.TokenKind.{TokenKind}
 use Rattle.scanner.specs.declared.kind.TokenKind.TheVariants as kinds
 use Rattle.syntax.specs.declared.node.BinaryOperator.{BinaryOperator}
 use Rattle.syntax.specs.Tree.{Expression, Arguments, Place, Part, Value, Text as TextPart, Simple, CallAlone, Close, Print, ReceiveAlone, Send, Increment, Decrement, Assign, Define, Update}
-use Rattle.syntax.specs.Measures.{Listing, Entries as EntriesLimit, entries, highest, expression_height, expression_longest, list_longest, part_height, part_longest, simple_height, simple_longest}
+use Rattle.syntax.specs.Measures.{Listing, Entries as EntriesLimit, entries, highest, expression_height, expression_longest, part_height, part_longest, simple_height, simple_longest}
 use Rattle.parser_base.specs.Lexemes.{Lexeme, Literal, Name, Text, Mark}
 use Rattle.parser_base.specs.Spelling.{makes_value, is_builtin, behind, separated, joined, closing, before, AreAll, AreSome, IsTrailing, outer_precedence, precedence, IsGrouped}
 use Rattle.parser_base.specs.Reading.{Syntax, TooDeep, TooMany, Reading, ◌>>=◌, as_one, needing, is_kind, expect, begins, step_at, entry_next, expression, argument, listed}
@@ -17,12 +17,12 @@ use Rattle.parser_base.proofs.Resumed.{Begun, begun}
 use Rattle.parser_simple.specs.declared.form.Form.{Form}
 use Rattle.parser_simple.specs.declared.form.Form.TheVariants as forms
 use Rattle.parser_simple.specs.Spelling.{name_words, IsName, place_words, IsPlace, IsPrimary, IsUnary, arguments_words, right_words, IsRight, part_words, IsPart, print_name, update_kind, simple_words, IsSimple}
-use Rattle.parser_simple.specs.Reading.{behind_mark, before_mark, begins_with, begins_call, defines, form_of, names, place, places, behind_place, received, primary, arguments, right, begins_part, part, parts, print, builtin_call, assigned, defined, stepped, updated, formed, led, send_operand, sent, led_or_sent, called, simple, fits}
+use Rattle.parser_simple.specs.Reading.{behind_mark, before_mark, begins_with, begins_call, defines, form_of, names, place, places, behind_place, received, primary, right, begins_part, part, parts, print, builtin_call, assigned, defined, stepped, updated, formed, led, send_operand, sent, led_or_sent, called, simple, fits}
 use Rattle.parser_simple.proofs.PlaceLaws.{names_again, names_sound, place_again, place_sound, places_again, places_sound}
 use Rattle.parser_simple.proofs.FormLaws.{update_again, update_shut, update_no_field, form_strong, plain_makes_none, fields_shut, led_formed, defines_names, no_defines, no_form, led_none}
 use Rattle.parser_simple.proofs.FitLaws.{fits_again, operand_fits}
 use Rattle.parser_simple.proofs.RightLaws.{Stops, ends_at, ExpressionOutcome, PrimarySound, value_again, primary_again, received_again, arguments_again, argument_again, right_again, right_positive, value_sound, primary_sound, received_sound, argument_sound, right_sound}
-use Rattle.parser_simple.proofs.CallLaws.{no_call, no_parenthesis, Starts, WithCall, WithReceive, WithNeither, starts, sends_by_call, called_sound}
+use Rattle.parser_simple.proofs.CallLaws.{no_call, Starts, WithCall, WithReceive, WithNeither, starts, sends_by_call, called_sound}
 
 -- ---- arguments of print and println
 

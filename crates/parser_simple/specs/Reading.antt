@@ -295,10 +295,14 @@ sent_on literals most room left words =
     resumed literals most room 7 left words >>= λ channel.
     needing (expression_height channel.0) room (as_one (Send channel.0) (behind_mark kinds.Arrow (expression literals most room 0) channel.1))
 
+-- whether a call goes on as the channel of a send
+abbrev pub sends_on : List Lexeme → Bool
+sends_on words = begins_with kinds.Period words || begins_with kinds.Arrow words
+
 -- a call alone, or a send whose channel begins with it
 abbrev pub alone_or_sent : Bool → ℕ → ℕ → List ℕ → Arguments × List Lexeme → Reading Simple
 alone_or_sent literals most room function (all, words) =
-    if begins_with kinds.Period words || begins_with kinds.Arrow words then sent_on literals most room (call_of function all) words
+    if sends_on words then sent_on literals most room (call_of function all) words
     else Ok (CallAlone function all, words)
 
 -- a statement that begins with a call

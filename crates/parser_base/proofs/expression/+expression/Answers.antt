@@ -8,7 +8,7 @@ use Rattle.parser_base.specs.Cursor.{ahead}
 use Rattle.parser_base.specs.Reading.{TooMany, value_next, composite, expression, operations}
 use Rattle.parser_base.proofs.Results.{step_fails}
 use Rattle.parser_base.proofs.Lists.{more, ends, one_fails, next_fails, is_full, highest-pushed}
-use Rattle.parser_base.proofs.Operations.{opens, opens_fails, resumes, turn_stops, turn_too_high, turn_done, turn_fails}
+use Rattle.parser_base.proofs.Operations.{opens, resumes, turn_stops, turn_too_high, turn_done, turn_fails}
 use Rattle.parser_base.proofs.TypeLaws.{type_sound}
 use Rattle.parser_base.proofs.expression.+expression.Goals as goal
 
