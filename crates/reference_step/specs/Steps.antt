@@ -22,7 +22,7 @@ use Rattle.reference_step.specs.Tasks.{position_of, tasks_of}
 abbrev pub Work : Type 0
 Work = Globals → Blocks → List Task → Worked OneCourse
 
--- the same at a position, with what was given within the task so far
+-- what it comes to at a position, with what was given within the task so far
 abbrev pub reached_at : Work → TypeTable → List Given → Position → Reached OneCourse
 reached_at work table given at = work (globals_in table) (blocks_of (types_of table) at.scope) (tasks_of (types_of table) at.tasks.items) (all_given given)
 

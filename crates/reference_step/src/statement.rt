@@ -46,8 +46,8 @@ fn start<'t>(
     Ok(Course::Goes)
 }
 
-/// A return of these words.
-fn returned<'t>(
+/// The words that a return gives back.
+fn back<'t>(
     alloc: Global,
     program: &Program<'t>,
     at: &Position<'t>,
@@ -107,9 +107,7 @@ pub(crate) fn statement<'t>(
         StatementNode::Go(name, arguments) => Ok(Outcome::Leads(start(
             alloc, program, top, name, arguments, given,
         )?)),
-        StatementNode::Return(one) => {
-            Ok(Outcome::Returns(returned(alloc, program, top, one, given)?))
-        }
+        StatementNode::Return(one) => Ok(Outcome::Returns(back(alloc, program, top, one, given)?)),
         StatementNode::Break => {
             leave(top);
             Ok(Outcome::Leads(Course::Goes))
