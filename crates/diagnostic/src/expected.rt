@@ -21,14 +21,14 @@ struct Wanted(&'static str, &'static str);
 
 /// The best names stand first. A name is printed if all of its tokens can stand there and the first of them has no name yet. A token
 /// that has none is printed as it is.
-static WANTED: [Wanted; 40] = [
+static WANTED: [Wanted; 37] = [
     Wanted(
         "a statement",
-        "if x 1 ( { ; <- return for go var select break continue print println close",
+        "if x 1 ( { ; <- return for go var select break continue print println close make len cap",
     ),
-    Wanted("an expression", "+ - ! ^ x 1 ("),
+    Wanted("an expression", "+ - ! ^ x 1 ( <- make len cap"),
     Wanted("a type", "chan x <- ("),
-    Wanted("an operand", "1 x ("),
+    Wanted("an operand", "1 x ( make len cap"),
     Wanted("a name", "x"),
     Wanted("a string", "\"\""),
     Wanted("a declaration", "func type"),
@@ -39,9 +39,6 @@ static WANTED: [Wanted; 40] = [
     Wanted("chan", "chan"),
     Wanted("if", "if"),
     Wanted("range", "range"),
-    Wanted("make", "make"),
-    Wanted("len", "len"),
-    Wanted("cap", "cap"),
     Wanted("print", "print"),
     Wanted("println", "println"),
     Wanted("close", "close"),

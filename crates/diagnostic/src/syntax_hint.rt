@@ -9,6 +9,8 @@ use crate::site::{NEWLINE, Site};
 use diagnostic_words::spelling::is_near;
 use diagnostic_words::words::Words;
 
+const VALUE: &str = "a value is no statement: assign it, or print it";
+
 /// What to write.
 #[derive(Clone, Copy)]
 pub(crate) enum Hint<'t> {
@@ -90,6 +92,16 @@ impl<'s, 't> Trouble<'s, 't> {
     /// Whether the fault lies right after the first name of a statement.
     fn follows_first_name(&self) -> bool {
         self.site.statement_start().saturating_add(1) == self.site.at && self.site.is_name_before(1)
+    }
+
+    /// Whether the fault lies outside of brackets, after a value with which a statement begins.
+    fn follows_value(&self) -> bool {
+        let first = self.first_word();
+        let begins_value = self.site.is_name(self.site.statement_start())
+            || is_digit_first(first)
+            || matches!(first, "(" | "<-");
+        let is_after = self.site.statement_start() < self.site.at && !self.is_within();
+        begins_value && is_after && !self.statement_has("++", "--")
     }
 
     /// Whether this is the word of a type that is built in, or of one that the program declares.
@@ -308,6 +320,9 @@ impl<'s, 't> Trouble<'s, 't> {
         }
         let site = &self.site;
         let word = site.before(1);
+        if is_built_in(word) && matches!(site.found(), ":=" | "=" | ",") {
+            return Some(Hint::Naming("", word, " is built in: choose another name"));
+        }
         if let Some(hint) = stand_in(&STATEMENTS, word) {
             return Some(Hint::Plain(hint));
         }
@@ -351,6 +366,8 @@ impl<'s, 't> Trouble<'s, 't> {
             "[" => Some(self.bracket_of_type_hint()),
             "*" | "&" => self.pointer_hint(),
             "\n" => self.line_hint(),
+            "}" => self.value_hint(),
+            "<-" => self.arrow_hint(),
             "{" => self.brace_hint(),
             "++" | "--" => self.step_hint(),
             ")" if self.first_word() == "func" && self.wants_type() => {
@@ -458,12 +475,6 @@ impl<'s, 't> Trouble<'s, 't> {
                 "each parameter has a name and a type: n int",
             )),
             "func" => Some(Hint::Plain("a function has at most one result: return a struct")),
-            _ if self.is_within() => None,
-            _ if self.statement_has(":=", "=") => {
-                Some(Hint::Plain(
-                    "each call, receive and make has a statement of its own: x := f(1), and then y := f(2)",
-                ))
-            }
             _ => None,
         }
     }
@@ -519,6 +530,19 @@ impl<'s, 't> Trouble<'s, 't> {
         if self.expected.has("==") && !self.expected.has(":=") {
             return Some(Hint::Plain("== compares; = assigns, and is a statement"));
         }
+        if self.follows_value() {
+            return Some(Hint::Plain("= assigns to a variable or to a field of one"));
+        }
+        None
+    }
+
+    /// A hint for a `<-`.
+    fn arrow_hint(&self) -> Option<Hint<'t>> {
+        if self.first_word() == "<-" && self.expected.has(";") && self.follows_value() {
+            return Some(Hint::Plain(
+                "to send to a channel that is received, write (<-c) <- 3",
+            ));
+        }
         None
     }
 
@@ -557,6 +581,15 @@ impl<'s, 't> Trouble<'s, 't> {
         if site.before(2) == "go" {
             return Some(Hint::Naming("go calls a function: go ", site.before(1), "()"));
         }
+        self.value_hint()
+    }
+
+    /// A hint for the end of a statement that is a value.
+    fn value_hint(&self) -> Option<Hint<'t>> {
+        let only_sends = self.expected.has("<-") && !self.expected.has("1") && !self.expected.has(";");
+        if self.follows_value() && only_sends {
+            return Some(Hint::Plain(VALUE));
+        }
         None
     }
 
@@ -591,13 +624,13 @@ impl<'s, 't> Trouble<'s, 't> {
                 Hint::Plain("<- sends: c <- 3")
             });
         }
-        if !self.expected.has(":=") || !self.expected.has("++") {
+        if !self.follows_value() {
             return None;
         }
         match found {
             "==" => Some(Hint::Plain("= assigns; a comparison is no statement")),
             "+" | "-" | "/" | "%" | "<" | ">" | "<=" | ">=" | "!=" | "&&" | "||" => {
-                Some(Hint::Plain("a value is no statement: assign it, or print it"))
+                Some(Hint::Plain(VALUE))
             }
             _ => None,
         }
@@ -638,9 +671,6 @@ impl<'s, 't> Trouble<'s, 't> {
             }
             "struct" if self.wants_type() => {
                 Some(Hint::Plain("a struct type has a name: type T struct { .. }"))
-            }
-            "make" if self.is_open("{") && matches!(self.site.before(1), "{" | ",") => {
-                Some(Hint::Plain("give the channel a name first: c := make(chan int)"))
             }
             "type" if self.wants_statement() => {
                 Some(Hint::Plain("types are declared outside of functions"))
@@ -729,6 +759,14 @@ impl<'s, 't> Trouble<'s, 't> {
         }
         None
     }
+}
+
+/// Whether this is the name of a built-in function.
+fn is_built_in(word: &str) -> bool {
+    matches!(
+        word,
+        "print" | "println" | "close" | "make" | "len" | "cap"
+    )
 }
 
 /// Whether a token is a number.
