@@ -3,6 +3,9 @@
 use go_text::Place;
 use scanner::{Token, TokenKind};
 
+/// How many bytes of a piece of the text a sentence shows at most.
+const MOST_SHOWN: usize = 60;
+
 /// The word of the semicolon that the end of a line stands for.
 pub(crate) const NEWLINE: &str = "\n";
 
@@ -16,9 +19,29 @@ pub(crate) struct Site<'t> {
 }
 
 /// What stands before an offset on its line.
-pub(crate) fn line_before(text: &str, offset: u32) -> &str {
+pub fn line_before(text: &str, offset: u32) -> &str {
     let before = text.get(..offset as usize).unwrap_or("");
     before.rsplit('\n').next().unwrap_or("")
+}
+
+/// The text of a place up to the end of its line, but not more than `MOST_SHOWN` bytes.
+pub fn piece_at(text: &str, place: Place) -> &str {
+    let from = place.span.from as usize;
+    let to = (place.span.to as usize).min(text.len());
+    let piece = text.get(from..to).unwrap_or("");
+    let line = piece.split('\n').next().unwrap_or("");
+    shortened(line)
+}
+
+/// The longest beginning of a line that has whole characters and at most `MOST_SHOWN` bytes.
+pub fn shortened(line: &str) -> &str {
+    let most = line.len().min(MOST_SHOWN);
+    for cut in 0..4 {
+        if let Some(piece) = line.get(..most.saturating_sub(cut)) {
+            return piece;
+        }
+    }
+    ""
 }
 
 impl<'t> Site<'t> {

@@ -2,10 +2,10 @@
 
 /// A word, and what to write in its place.
 #[derive(Clone, Copy)]
-pub(crate) struct Known(&'static str, &'static str);
+pub struct Known(&'static str, &'static str);
 
 /// What stands in for a word of this table, if it has the word.
-pub(crate) fn stand_in(table: &[Known], word: &str) -> Option<&'static str> {
+pub fn stand_in(table: &[Known], word: &str) -> Option<&'static str> {
     for one in table {
         if one.0 == word {
             return Some(one.1);
@@ -27,7 +27,7 @@ const LOCKS: &str =
     "there is no sync.Mutex: make(chan bool, 1) is a lock; send to it to lock, receive from it to unlock";
 
 /// Packages, and what stands in for them.
-pub(crate) static PACKAGES: [Known; 20] = [
+pub static PACKAGES: [Known; 20] = [
     Known("fmt", PRINTS),
     Known("log", PRINTS),
     Known(
@@ -121,7 +121,7 @@ const FAILS: &str = "there is no panic: print a message and return, and let call
 const NULL: &str = "write nil; only channels can be nil";
 
 /// Names that Go declares, or that programs of other languages use, and what stands in for them.
-pub(crate) static NAMES: [Known; 46] = [
+pub static NAMES: [Known; 46] = [
     Known("panic", FAILS),
     Known("recover", "there is no recover: a panic ends the run"),
     Known("append", NO_SLICE),
@@ -197,8 +197,8 @@ const ELSE_IF: &str = "write else if: } else if n > 0 { .. }";
 
 const DECLARES: &str = "write := to declare a variable: n := 3";
 
-/// Words with which statements begin in other languages.
-pub(crate) static STATEMENTS: [Known; 18] = [
+/// Words with which statements begin in other languages, and names of built-in functions, whose arguments stand in parentheses.
+pub(crate) static STATEMENTS: [Known; 21] = [
     Known("while", WHILE),
     Known(
         "until",
@@ -223,6 +223,12 @@ pub(crate) static STATEMENTS: [Known; 18] = [
     Known("print", "the arguments stand in parentheses: print(n)"),
     Known("println", "the arguments stand in parentheses: println(n)"),
     Known("close", "the channel stands in parentheses: close(c)"),
+    Known("len", "the channel stands in parentheses: len(c)"),
+    Known("cap", "the channel stands in parentheses: cap(c)"),
+    Known(
+        "make",
+        "the type stands in parentheses: make(chan int)",
+    ),
     Known("match", "there is no switch: write if and else"),
     Known(
         "try",

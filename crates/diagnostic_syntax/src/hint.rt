@@ -70,6 +70,9 @@ impl<'s, 't> Trouble<'s, 't> {
         if let Some(hint) = self.string_hint() {
             return Some(hint);
         }
+        if let Some(hint) = self.built_in_hint() {
+            return Some(hint);
+        }
         if let Some(hint) = self.statement_hint() {
             return Some(hint);
         }
@@ -313,6 +316,22 @@ impl<'s, 't> Trouble<'s, 't> {
         None
     }
 
+    /// A hint for a token after the name of a built-in function that is no `(`.
+    fn built_in_hint(&self) -> Option<Hint<'t>> {
+        let word = self.site.before(1);
+        let found = self.site.found();
+        if !is_built_in(word) || found == "(" || !self.expected.has("(") {
+            return None;
+        }
+        if self.follows_first_name() && matches!(found, ":=" | "=" | ",") {
+            return Some(Hint::Naming("", word, " is built in: choose another name"));
+        }
+        match stand_in(&STATEMENTS, word) {
+            Some(hint) => Some(Hint::Plain(hint)),
+            None => None,
+        }
+    }
+
     /// A hint for the token after the first name of a statement, or for a name that no statement begins with.
     fn statement_hint(&self) -> Option<Hint<'t>> {
         if !self.follows_first_name() || self.expected.has("func") {
@@ -320,9 +339,6 @@ impl<'s, 't> Trouble<'s, 't> {
         }
         let site = &self.site;
         let word = site.before(1);
-        if is_built_in(word) && matches!(site.found(), ":=" | "=" | ",") {
-            return Some(Hint::Naming("", word, " is built in: choose another name"));
-        }
         if let Some(hint) = stand_in(&STATEMENTS, word) {
             return Some(Hint::Plain(hint));
         }

@@ -1,10 +1,9 @@
 //! A fault of the syntax in words.
 
 use crate::expected::{Expected, push_expected};
+use crate::hint::Trouble;
 use crate::nesting::Nesting;
-use crate::sentence::piece_at;
-use crate::site::Site;
-use crate::syntax_hint::Trouble;
+use crate::site::{Site, piece_at};
 use diagnostic_words::excerpt::push_excerpt;
 use diagnostic_words::words::Words;
 use go_text::{Fault, Memory, Place, Source};
@@ -47,7 +46,7 @@ fn found_at(text: &str, place: Place) -> &str {
 }
 
 /// Puts what was found where no tree goes on, what could stand there, its line, and a hint, after what is there.
-pub(crate) fn push_syntax(
+pub fn push_syntax(
     alloc: Global,
     said: &mut Words,
     text: &str,
