@@ -5,8 +5,8 @@ use crate::number::{after, places_end, type_end};
 use crate::unit::{Found, Unit};
 use std::alloc::Global;
 use syntax::{
-    BinaryOperator, ClauseNode, CommNode, ExpressionNode, NodeId, PartNode, RangeTarget, ReturnNode,
-    SimpleNode, StatementNode, TypeNode,
+    BinaryOperator, ClauseNode, CommNode, ExpressionNode, NodeId, PartNode, RangeTarget,
+    ReturnNode, SimpleNode, StatementNode, TypeNode,
 };
 
 /// A part of an expression at which a goroutine can stand: a call, a receive, a `make`, a `len` or a `cap`, or a division or a
@@ -228,7 +228,9 @@ fn is_operation(expression: &ExpressionNode) -> bool {
 fn is_constant(expression: &ExpressionNode) -> bool {
     match expression {
         ExpressionNode::Integer(_) => true,
-        ExpressionNode::Parenthesized(inner) | ExpressionNode::Unary(_, inner) => is_constant(inner),
+        ExpressionNode::Parenthesized(inner) | ExpressionNode::Unary(_, inner) => is_constant(
+            inner,
+        ),
         ExpressionNode::Binary(_, left, right) => is_constant(left) && is_constant(right),
         _ => false,
     }

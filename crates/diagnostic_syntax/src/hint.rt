@@ -555,9 +555,7 @@ impl<'s, 't> Trouble<'s, 't> {
     /// A hint for a `<-`.
     fn arrow_hint(&self) -> Option<Hint<'t>> {
         if self.first_word() == "<-" && self.expected.has(";") && self.follows_value() {
-            return Some(Hint::Plain(
-                "to send to a channel that is received, write (<-c) <- 3",
-            ));
+            return Some(Hint::Plain("to send to a channel that is received, write (<-c) <- 3"));
         }
         None
     }
@@ -602,7 +600,9 @@ impl<'s, 't> Trouble<'s, 't> {
 
     /// A hint for the end of a statement that is a value.
     fn value_hint(&self) -> Option<Hint<'t>> {
-        let only_sends = self.expected.has("<-") && !self.expected.has("1") && !self.expected.has(";");
+        let only_sends = self.expected.has("<-")
+            && !self.expected.has("1")
+            && !self.expected.has(";");
         if self.follows_value() && only_sends {
             return Some(Hint::Plain(VALUE));
         }
@@ -779,10 +779,7 @@ impl<'s, 't> Trouble<'s, 't> {
 
 /// Whether this is the name of a built-in function.
 fn is_built_in(word: &str) -> bool {
-    matches!(
-        word,
-        "print" | "println" | "close" | "make" | "len" | "cap"
-    )
+    matches!(word, "print" | "println" | "close" | "make" | "len" | "cap")
 }
 
 /// Whether a token is a number.

@@ -225,10 +225,7 @@ pub(crate) static STATEMENTS: [Known; 21] = [
     Known("close", "the channel stands in parentheses: close(c)"),
     Known("len", "the channel stands in parentheses: len(c)"),
     Known("cap", "the channel stands in parentheses: cap(c)"),
-    Known(
-        "make",
-        "the type stands in parentheses: make(chan int)",
-    ),
+    Known("make", "the type stands in parentheses: make(chan int)"),
     Known("match", "there is no switch: write if and else"),
     Known(
         "try",

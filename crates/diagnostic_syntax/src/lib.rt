@@ -11,10 +11,9 @@ mod nesting;
 mod site;
 mod unexpected;
 
+use go_text::{Fault, Place};
 pub use site::{line_before, piece_at, shortened};
 pub use unexpected::push_syntax;
-
-use go_text::{Fault, Place};
 
 /// Where a fault lies, if it has a place.
 pub fn place_of(fault: &Fault) -> Option<Place>

@@ -64,12 +64,7 @@ fn push_clause(said: &mut Words, report: Report<'_>, case: &Case, clause: Option
 }
 
 /// Appends the channel that a goroutine sends to or receives from.
-fn push_asked(
-    said: &mut Words,
-    report: Report<'_>,
-    goroutine: &Goroutine,
-    channel: Option<u32>,
-) {
+fn push_asked(said: &mut Words, report: Report<'_>, goroutine: &Goroutine, channel: Option<u32>) {
     let Some(call) = goroutine.last() else {
         push_channel(said, report, None, channel);
         return;

@@ -110,12 +110,7 @@ impl<'m> Walk<'m> {
     }
 
     /// Notes the operations of the unit that a part does itself. The first of its nodes is `first`.
-    fn note(
-        &mut self,
-        part: Option<usize>,
-        first: NodeId,
-        unit: Unit<'_>,
-    ) -> Result<(), Memory> {
+    fn note(&mut self, part: Option<usize>, first: NodeId, unit: Unit<'_>) -> Result<(), Memory> {
         let Some(index) = part else {
             return Ok(());
         };

@@ -2,6 +2,5 @@ package main
 
 func main() {
 	c := make(chan int, 1)
-	c <- 1
-	println(<-c)
+	if true { len(c) }
 }

@@ -1,8 +1,7 @@
 package main
 
 func main() {
-	x, y := f(1), f(2)
-	println(x, y)
+	f(1) + f(2)
 }
 
 func f(n int) int {
