@@ -1,7 +1,7 @@
 //! What to write in place of common Go that is not in the language, but for faults of the syntax.
 
-use crate::known::{NAMES, PACKAGES, stand_in};
-use crate::site::line_before;
+use diagnostic_syntax::known::{NAMES, PACKAGES, stand_in};
+use diagnostic_syntax::line_before;
 use diagnostic_typing::push_near;
 use diagnostic_words::words::Words;
 use go_text::{Fault, Place, Rule};

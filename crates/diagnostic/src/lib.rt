@@ -2,22 +2,17 @@
 #![tactic(auto)]
 
 ghost use Rattle.std.specs.Prelude.{◌≡◌, ◌++◌, IfOk, codes, decimal, string_bytes};
-ghost use Rattle.diagnostic.specs.Diagnostics.{IsDiagnostic, heading_at, place_of, position_of};
+ghost use Rattle.diagnostic.specs.Diagnostics.{IsDiagnostic, heading_at, position_of};
+ghost use Rattle.diagnostic_syntax.specs.Places.{place_of};
 
 mod declaration;
-mod expected;
 mod hint;
-mod known;
-mod nesting;
 mod phrase;
 mod sentence;
-mod site;
-mod syntax_hint;
-mod unexpected;
 
 use crate::hint::push_hint;
 use crate::sentence::push_sentence;
-use crate::unexpected::push_syntax;
+use diagnostic_syntax::{place_of, push_syntax};
 use diagnostic_typing::others;
 use diagnostic_words::excerpt::push_excerpt;
 use diagnostic_words::words::Words;
@@ -141,22 +136,5 @@ fn position_of(place: Option<Place>) -> Option<Position>
     match place {
         Some(place) => place.position,
         None => None,
-    }
-}
-
-/// Where a fault lies, if it has a place.
-fn place_of(fault: &Fault) -> Option<Place>
-    ensures { result ≡ place_of fault.now }
-{
-    match *fault {
-        Fault::BadCharacter(place)
-        | Fault::BadNumber(place)
-        | Fault::OpenString(place)
-        | Fault::OpenComment(place)
-        | Fault::Syntax(place)
-        | Fault::TooDeep(place)
-        | Fault::Typing { place, .. }
-        | Fault::Limit { place, .. } => Some(place),
-        _ => None,
     }
 }

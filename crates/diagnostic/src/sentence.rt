@@ -2,15 +2,13 @@
 
 use crate::declaration::push_within;
 use crate::phrase::{phrase_of_limit, phrase_of_rule};
+use diagnostic_syntax::{piece_at, shortened};
 use diagnostic_typing::push_flaw;
 use diagnostic_words::excerpt::push_shown;
 use diagnostic_words::words::Words;
 use go_text::{Fault, LimitKind, Place, Rule};
 use std::alloc::Global;
 use typing_rules::flaw::Flaw;
-
-/// How many bytes of a piece of the text a sentence shows at most.
-const MOST_SHOWN: usize = 60;
 
 /// Puts what is wrong after what is there, which is nothing.
 pub(crate) fn push_sentence(alloc: Global, said: &mut Words, text: &str, fault: &Fault) {
@@ -98,26 +96,6 @@ fn push_phrase(said: &mut Words, phrase: &str, piece: &str) {
         }
         None => said.text(phrase),
     }
-}
-
-/// The text of a place up to the end of its line, but not more than `MOST_SHOWN` bytes.
-pub(crate) fn piece_at(text: &str, place: Place) -> &str {
-    let from = place.span.from as usize;
-    let to = (place.span.to as usize).min(text.len());
-    let piece = text.get(from..to).unwrap_or("");
-    let line = piece.split('\n').next().unwrap_or("");
-    shortened(line)
-}
-
-/// The longest beginning of a line that has whole characters and at most `MOST_SHOWN` bytes.
-fn shortened(line: &str) -> &str {
-    let most = line.len().min(MOST_SHOWN);
-    for cut in 0..4 {
-        if let Some(piece) = line.get(..most.saturating_sub(cut)) {
-            return piece;
-        }
-    }
-    ""
 }
 
 /// Reports a character that begins no token, or one that a string or a comment can't have.

@@ -5,6 +5,7 @@
 pub mod ends;
 pub mod given;
 mod number;
+pub mod operations;
 pub mod scene;
 pub mod search;
 pub mod unit;

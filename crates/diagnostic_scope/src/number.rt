@@ -79,7 +79,7 @@ fn parts_end(first: NodeId, parts: &[PartNode]) -> NodeId {
 }
 
 /// The number after so many places, each of which is a node.
-fn places_end(first: NodeId, places: usize) -> NodeId {
+pub(crate) fn places_end(first: NodeId, places: usize) -> NodeId {
     first.saturating_add(u32::try_from(places).unwrap_or(u32::MAX))
 }
 

@@ -54,13 +54,13 @@ pub fn end_explanation(
     explained(scene, &moment, limit, cause)
 }
 
-/// The verified code of a checked program, and the statements that its instructions come from.
+/// The verified code of a checked program, and what its instructions come from.
 fn compiled(alloc: Global, typed: &Typed) -> Result<(Arc<Verified>, StatementMap), Fault>
     requires grammatical { IsGrammatical (tree_of (tree_in typed.now)) }
     requires limited { IsLimited (tree_of (tree_in typed.now)) }
 {
     let (code, marks) = compile_marked(alloc, typed)?;
-    let map = StatementMap::new(alloc, typed.tree(), &marks)?;
+    let map = StatementMap::new(alloc, typed.tree(), &code, &marks)?;
     let verified = verify(alloc, code)?;
     let program = Arc::new(alloc, verified)?;
     Ok((program, map))

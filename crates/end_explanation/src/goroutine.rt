@@ -11,7 +11,7 @@ use verifier::Verified;
 use word::request::Request;
 use word::value::Word;
 
-/// A function that runs, and the statement at which it stands.
+/// A function that runs, and the node of the operation or the statement at which it stands.
 #[derive(Clone, Copy)]
 pub(crate) struct Call {
     pub function: usize,
@@ -19,7 +19,7 @@ pub(crate) struct Call {
 }
 
 impl Call {
-    /// The function and the statement that an instruction comes from.
+    /// The function that an instruction belongs to, and the node that it comes from.
     pub(crate) fn at(map: &StatementMap, site: Site) -> Call {
         Call {
             function: site.function,
@@ -83,7 +83,7 @@ impl Goroutine {
     }
 }
 
-/// The functions that run, and their statements. Each but the last one waits after its call.
+/// The functions that run, and where they stand. Each but the last one waits after its call.
 fn calls_of(alloc: Global, map: &StatementMap, frames: &[Frame]) -> Result<Vec<Call>, Memory> {
     let mut calls = Vec::new(alloc);
     let callers = frames.len().saturating_sub(1);

@@ -17,7 +17,7 @@ pub(crate) struct Scene<'a> {
     pub path: &'a str,
     pub source: &'a Source,
     pub tree: &'a Tree,
-    /// The statements that the code's instructions come from.
+    /// What the code's instructions come from.
     pub map: &'a StatementMap,
     pub code: &'a Code,
 }
@@ -30,19 +30,19 @@ pub(crate) struct Report<'a> {
 }
 
 impl Scene<'_> {
-    /// The statement that an instruction comes from.
+    /// The function that an instruction belongs to, and the node that it comes from.
     pub(crate) fn call(self, site: Site) -> Call {
         Call::at(self.map, site)
     }
 
-    /// Appends `FILE:LINE:COLUMN` of a statement.
+    /// Appends `FILE:LINE:COLUMN` of a node.
     pub(crate) fn push_location(self, said: &mut Words, node: NodeId) {
         said.text(self.path);
         said.text(":");
         self.push_position(said, node);
     }
 
-    /// Appends `LINE:COLUMN` of a statement.
+    /// Appends `LINE:COLUMN` of a node.
     pub(crate) fn push_position(self, said: &mut Words, node: NodeId) {
         let Position { line, column } = self.source.line_column(self.span(node).from);
         said.number(i128::from(line));
@@ -50,7 +50,7 @@ impl Scene<'_> {
         said.number(i128::from(column));
     }
 
-    /// Appends the line of the source in which a statement begins, with marks under it.
+    /// Appends the line of the source in which a node begins, with marks under it.
     pub(crate) fn push_line(self, said: &mut Words, node: NodeId) {
         push_excerpt(said, self.source.as_str(), self.span(node));
     }

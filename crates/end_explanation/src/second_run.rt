@@ -41,7 +41,7 @@ pub(crate) struct Moment {
 }
 
 impl Moment {
-    /// The last moment of the run of a program up to the clock limit (1 to 2^62). `map` has the statements of its instructions.
+    /// The last moment of the run of a program up to the clock limit (1 to 2^62). `map` has what its instructions come from.
     ///
     /// Errors: out of memory, or 2^64 rounds that come to no end.
     pub(crate) fn last(

@@ -151,7 +151,7 @@ fn push_goroutine(said: &mut Words, report: Report<'_>, goroutine: &Goroutine) {
     said.text(")");
 }
 
-/// Appends `FILE:LINE:COLUMN` of the statement at which a goroutine stands.
+/// Appends `FILE:LINE:COLUMN` of the operation or the statement at which a goroutine stands.
 fn push_location(said: &mut Words, scene: Scene<'_>, goroutine: &Goroutine) {
     if let Some(call) = goroutine.last() {
         scene.push_location(said, call.node);

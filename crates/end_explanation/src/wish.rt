@@ -1,7 +1,7 @@
 //! What goroutines wait for.
 
 use crate::goroutine::Goroutine;
-use crate::named::{Way, clauses_of, named_by};
+use crate::named::{clauses_of, named_at};
 use crate::scene::Report;
 use diagnostic_scope::unit::units_at;
 use diagnostic_words::words::{Words, push_expression};
@@ -13,11 +13,11 @@ pub(crate) fn push_wish(said: &mut Words, report: Report<'_>, goroutine: &Gorout
     match &goroutine.wish {
         Some(Request::Send(channel, _)) => {
             said.text("sends to ");
-            push_asked(said, report, goroutine, Way::Sends, *channel);
+            push_asked(said, report, goroutine, *channel);
         }
         Some(Request::Receive(channel)) => {
             said.text("receives from ");
-            push_asked(said, report, goroutine, Way::Receives, *channel);
+            push_asked(said, report, goroutine, *channel);
         }
         Some(Request::Select(cases, _)) => {
             said.text("select of ");
@@ -63,21 +63,15 @@ fn push_clause(said: &mut Words, report: Report<'_>, case: &Case, clause: Option
     said.text("\n");
 }
 
-/// Appends the channel that a goroutine's statement sends to or receives from.
-fn push_asked(
-    said: &mut Words,
-    report: Report<'_>,
-    goroutine: &Goroutine,
-    way: Way,
-    channel: Option<u32>,
-) {
+/// Appends the channel that a goroutine sends to or receives from.
+fn push_asked(said: &mut Words, report: Report<'_>, goroutine: &Goroutine, channel: Option<u32>) {
     let Some(call) = goroutine.last() else {
         push_channel(said, report, None, channel);
         return;
     };
     let found = units_at(report.scene.alloc, report.scene.tree.file(), call.node);
     let name = match found.found.first() {
-        Some(unit) => named_by(unit.unit, way),
+        Some(unit) => named_at(report.scene.alloc, *unit, call.node),
         None => None,
     };
     push_channel(said, report, name, channel);

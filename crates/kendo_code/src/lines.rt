@@ -7,7 +7,8 @@ use statement_map::StatementMap;
 use std::alloc::Global;
 use syntax::{NodeId, Tree};
 
-/// For each function of the code, the line of each instruction, counted from 1: that on which its statement begins.
+/// For each function of the code, the line of each instruction, counted from 1: that on which the operation or the statement
+/// that it comes from begins.
 ///
 /// Errors: out of memory.
 pub(crate) fn lines_of(
@@ -17,7 +18,7 @@ pub(crate) fn lines_of(
     code: &Code,
     marks: &Marks,
 ) -> Result<Vec<Vec<u32>>, Memory> {
-    let map = StatementMap::new(alloc, tree, marks)?;
+    let map = StatementMap::new(alloc, tree, code, marks)?;
     let text = Text {
         tree,
         ends: ends_of(alloc, source)?,

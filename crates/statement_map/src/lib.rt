@@ -1,4 +1,4 @@
-//! Which statement of a program each instruction of its code comes from.
+//! Which statement of a program, and which operation in it, each instruction of its code comes from.
 #![tactic(auto)]
 
 mod map;

@@ -1,41 +1,70 @@
 //! The nodes of instructions, from marks and the nodes of parts.
 
 use crate::map::FunctionMap;
+use crate::walk::PartNodes;
+use bytecode::{Code, Instr};
 use codegen::Mark;
 use go_text::Memory;
 use std::alloc::Global;
-use std::mem;
 use syntax::NodeId;
+use word::apply::Op;
+
+/// A part that has begun and not ended.
+#[derive(Clone, Copy)]
+struct OpenPart<'p> {
+    own: NodeId,
+    /// The nodes of the operations whose instructions come next.
+    operations: &'p [NodeId],
+}
+
+impl OpenPart<'_> {
+    /// The node that the next instruction of the part comes from.
+    fn next_node(&mut self, instr: Option<&Instr>) -> NodeId {
+        if does_operation(instr) {
+            if let Some((node, rest)) = self.operations.split_first() {
+                self.operations = rest;
+                return *node;
+            }
+        }
+        self.own
+    }
+}
 
 /// The functions of a program, up to a mark.
 #[derive(Drop)]
-pub(crate) struct Filling {
+pub(crate) struct Filling<'p> {
     alloc: Global,
+    code: &'p Code,
     /// The functions that are complete.
     functions: Vec<FunctionMap>,
     /// The function that the mark belongs to, if there is one.
     current: Option<FunctionMap>,
-    /// The nodes of the parts that have begun and not ended, the innermost last.
-    open: Vec<NodeId>,
+    /// Its instructions.
+    instrs: &'p [Instr],
+    /// The parts that have begun and not ended, the innermost last.
+    open: Vec<OpenPart<'p>>,
 }
 
-impl Filling {
-    /// The functions of a program with these marks: `nodes` has the node of each function and part in the order of the marks
-    /// at which they begin.
+impl<'p> Filling<'p> {
+    /// The functions of a program with this code and these marks: `parts` has the nodes of each function and part in the order of
+    /// the marks at which they begin.
     ///
     /// Errors: out of memory.
     pub(crate) fn functions_of(
         alloc: Global,
+        code: &'p Code,
         marks: &[Mark],
-        nodes: &[NodeId],
+        parts: &'p [PartNodes],
     ) -> Result<Vec<FunctionMap>, Memory> {
         let mut filling = Filling {
             alloc,
+            code,
             functions: Vec::new(alloc),
             current: None,
+            instrs: &[],
             open: Vec::new(alloc),
         };
-        let mut left = nodes.iter();
+        let mut left = parts.iter();
         for mark in marks {
             match mark {
                 Mark::Function => filling.begin_function(left.next())?,
@@ -47,20 +76,36 @@ impl Filling {
     }
 
     /// The next function begins.
-    fn begin_function(&mut self, node: Option<&NodeId>) -> Result<(), Memory> {
-        let own = node.copied().unwrap_or(0);
+    fn begin_function(&mut self, part: Option<&'p PartNodes>) -> Result<(), Memory> {
+        let own = match part {
+            Some(part) => part.own,
+            None => 0,
+        };
         let nodes = Vec::new(self.alloc);
         if let Some(before) = self.current.replace(FunctionMap { own, nodes }) {
             self.functions.push(before)?;
         }
+        self.instrs = match self.code.functions().get(self.functions.len()) {
+            Some(function) => function.instrs(),
+            None => &[],
+        };
         self.open.clear();
         Ok(())
     }
 
     /// A part begins.
-    fn begin(&mut self, at: u32, node: Option<&NodeId>) -> Result<(), Memory> {
+    fn begin(&mut self, at: u32, part: Option<&'p PartNodes>) -> Result<(), Memory> {
         self.fill(at)?;
-        self.open.push(node.copied().unwrap_or(0))?;
+        self.open.push(match part {
+            Some(part) => OpenPart {
+                own: part.own,
+                operations: part.operations.as_slice(),
+            },
+            None => OpenPart {
+                own: 0,
+                operations: &[],
+            },
+        })?;
         Ok(())
     }
 
@@ -76,10 +121,13 @@ impl Filling {
         let Some(current) = &mut self.current else {
             return Ok(());
         };
-        let node = self.open.last().copied().unwrap_or(current.own);
         let nodes = &mut current.nodes;
         nodes.truncate(at as usize);
-        for _ in nodes.len()..at as usize {
+        for index in nodes.len()..at as usize {
+            let node = match self.open.last_mut() {
+                Some(part) => part.next_node(self.instrs.get(index)),
+                None => current.own,
+            };
             nodes.push(node)?;
         }
         Ok(())
@@ -89,8 +137,10 @@ impl Filling {
     fn finish(self) -> Result<Vec<FunctionMap>, Memory> {
         let Filling {
             alloc: _,
+            code: _,
             mut functions,
             current,
+            instrs: _,
             open: _,
         } = self;
         if let Some(last) = current {
@@ -98,4 +148,19 @@ impl Filling {
         }
         Ok(functions)
     }
+}
+
+/// Whether an instruction does what an operation within an expression does.
+fn does_operation(instr: Option<&Instr>) -> bool {
+    matches!(
+        instr,
+        Some(
+            Instr::Call(_)
+                | Instr::Receive(_)
+                | Instr::Make(_)
+                | Instr::Len
+                | Instr::Cap
+                | Instr::Apply(Op::Div | Op::Rem | Op::Shl | Op::Shr)
+        )
+    )
 }

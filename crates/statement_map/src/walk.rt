@@ -2,15 +2,26 @@
 
 use codegen::{Mark, Part};
 use diagnostic_scope::ends::{
-    clause_end, clause_first, function_first, loop_first, simple_statement_end, statement_end,
-    then_first, top_end,
+    clause_end, clause_first, function_first, loop_first, post_first, simple_statement_end,
+    statement_end, then_first, top_end,
 };
+use diagnostic_scope::operations::Operations;
+use diagnostic_scope::unit::{Found, Unit};
 use go_text::Memory;
 use std::alloc::Global;
 use syntax::{
     ClauseNode, ElseNode, FileNode, ForHeader, FunctionNode, IfHeader, IfNode, NodeId, SimpleNode,
     StatementNode, TopNode,
 };
+
+/// The nodes that the own instructions of a function or a part come from.
+#[derive(Drop)]
+pub(crate) struct PartNodes {
+    /// Its own node.
+    pub own: NodeId,
+    /// The nodes of the operations in its expressions, in the order in which they are done.
+    pub operations: Vec<NodeId>,
+}
 
 /// A walk over a tree in the order in which its code is emitted, past the marks of that code.
 #[derive(Drop)]
@@ -19,8 +30,8 @@ pub(crate) struct Walk<'m> {
     marks: &'m [Mark],
     /// The index of the next mark.
     next: usize,
-    /// The own nodes of the functions and parts that have begun, in order.
-    nodes: Vec<NodeId>,
+    /// The functions and parts that have begun, in order.
+    parts: Vec<PartNodes>,
 }
 
 /// The number after a node.
@@ -34,19 +45,19 @@ fn before(end: NodeId) -> NodeId {
 }
 
 impl<'m> Walk<'m> {
-    /// The own node of each function and part of a file, in the order of the marks at which they begin.
+    /// The functions and parts of a file, in the order of the marks at which they begin.
     ///
     /// Errors: out of memory.
-    pub(crate) fn nodes_of(
+    pub(crate) fn parts_of(
         alloc: Global,
         file: &FileNode,
         marks: &'m [Mark],
-    ) -> Result<Vec<NodeId>, Memory> {
+    ) -> Result<Vec<PartNodes>, Memory> {
         let mut walk = Walk {
             alloc,
             marks,
             next: 0,
-            nodes: Vec::new(alloc),
+            parts: Vec::new(alloc),
         };
         let mut end = 0;
         for top in file.tops.as_slice() {
@@ -56,7 +67,7 @@ impl<'m> Walk<'m> {
                 walk.function(first, end, function)?;
             }
         }
-        Ok(walk.nodes)
+        Ok(walk.parts)
     }
 
     /// Passes a function, whose nodes have the numbers from `first` to before `end`.
@@ -66,10 +77,18 @@ impl<'m> Walk<'m> {
         end: NodeId,
         function: &FunctionNode,
     ) -> Result<(), Memory> {
-        self.nodes.push(before(end))?;
+        let _function = self.push(before(end))?;
         self.skip();
         self.list(function_first(first, function), function.body.as_slice())?;
         Ok(())
+    }
+
+    /// Adds a function or a part with this own node, and returns its index.
+    fn push(&mut self, own: NodeId) -> Result<usize, Memory> {
+        let index = self.parts.len();
+        let operations = Vec::new(self.alloc);
+        self.parts.push(PartNodes { own, operations })?;
+        Ok(index)
     }
 
     /// Passes the next mark.
@@ -77,7 +96,7 @@ impl<'m> Walk<'m> {
         self.next = self.next.saturating_add(1);
     }
 
-    /// Passes the mark at which a part begins, if that comes next, and returns the part's index among the nodes.
+    /// Passes the mark at which a part begins, if that comes next, and returns the part's index.
     fn begin(&mut self, wanted: Part) -> Result<Option<usize>, Memory> {
         let begins = match self.marks.get(self.next) {
             Some(Mark::Begin { part, .. }) => *part == wanted,
@@ -87,9 +106,25 @@ impl<'m> Walk<'m> {
             return Ok(None);
         }
         self.skip();
-        let index = self.nodes.len();
-        self.nodes.push(0)?;
-        Ok(Some(index))
+        Ok(Some(self.push(0)?))
+    }
+
+    /// Notes the operations of the unit that a part does itself. The first of its nodes is `first`.
+    fn note(&mut self, part: Option<usize>, first: NodeId, unit: Unit<'_>) -> Result<(), Memory> {
+        let Some(index) = part else {
+            return Ok(());
+        };
+        let Some(noted) = self.parts.get_mut(index) else {
+            return Ok(());
+        };
+        let found = Operations::of(self.alloc, Found { first, unit });
+        if found.is_cut {
+            return Err(Memory);
+        }
+        for operation in found.list.as_slice() {
+            noted.operations.push(operation.node)?;
+        }
+        Ok(())
     }
 
     /// Passes the mark at which a part ends that has begun, and notes its own node.
@@ -98,8 +133,8 @@ impl<'m> Walk<'m> {
             return;
         };
         self.skip();
-        if let Some(place) = self.nodes.get_mut(index) {
-            *place = node;
+        if let Some(part) = self.parts.get_mut(index) {
+            part.own = node;
         }
     }
 
@@ -120,20 +155,31 @@ impl<'m> Walk<'m> {
         if part.is_none() {
             return Ok(statement_end(self.alloc, first, statement));
         }
-        let end = self.statement(first, statement)?;
+        let end = self.statement(part, first, statement)?;
         self.end(part, before(end));
         Ok(end)
     }
 
-    /// Passes a statement.
+    /// Passes a statement that is a part.
     #[cycle(statement)]
-    fn statement(&mut self, first: NodeId, statement: &StatementNode) -> Result<NodeId, Memory> {
+    fn statement(
+        &mut self,
+        part: Option<usize>,
+        first: NodeId,
+        statement: &StatementNode,
+    ) -> Result<NodeId, Memory> {
         match statement {
             StatementNode::Block(body) => Ok(after(self.block(first, body.as_slice())?)),
-            StatementNode::If(branch) => self.branch(first, branch),
-            StatementNode::For(header, body) => self.turns(first, header, body.as_slice()),
-            StatementNode::Select(clauses) => self.clauses(first, clauses.as_slice()),
-            _ => Ok(statement_end(self.alloc, first, statement)),
+            StatementNode::If(branch) => self.branch(part, first, branch),
+            StatementNode::For(header, body) => self.turns(part, first, header, body.as_slice()),
+            StatementNode::Select(clauses) => {
+                self.note(part, first, Unit::Select(clauses.as_slice()))?;
+                self.clauses(first, clauses.as_slice())
+            }
+            _ => {
+                self.note(part, first, Unit::Leaf(statement))?;
+                Ok(statement_end(self.alloc, first, statement))
+            }
         }
     }
 
@@ -144,19 +190,28 @@ impl<'m> Walk<'m> {
         Ok(after(end))
     }
 
-    /// Passes the simple statement at the beginning of a header.
-    fn head(&mut self, first: NodeId, simple: &SimpleNode) -> Result<(), Memory> {
+    /// Passes the simple statement at the beginning of a header, and returns the number after its nodes.
+    fn head(&mut self, first: NodeId, simple: &SimpleNode) -> Result<NodeId, Memory> {
         let part = self.begin(Part::Head)?;
-        self.end(part, before(simple_statement_end(first, simple)));
-        Ok(())
+        let end = simple_statement_end(first, simple);
+        self.note(part, first, Unit::Simple(simple))?;
+        self.end(part, before(end));
+        Ok(end)
     }
 
-    /// Passes an `if`.
+    /// Passes an `if`, whose condition is the part's own.
     #[cycle(statement)]
-    fn branch(&mut self, first: NodeId, branch: &IfNode) -> Result<NodeId, Memory> {
-        if let IfHeader::Simple(simple) = &branch.header {
-            self.head(first, simple)?;
-        }
+    fn branch(
+        &mut self,
+        part: Option<usize>,
+        first: NodeId,
+        branch: &IfNode,
+    ) -> Result<NodeId, Memory> {
+        let start = match &branch.header {
+            IfHeader::Bare | IfHeader::Semicolon => first,
+            IfHeader::Simple(simple) => self.head(first, simple)?,
+        };
+        self.note(part, start, Unit::Condition(false, &branch.condition))?;
         let end = self.block(then_first(first, branch), branch.body.as_slice())?;
         let end = self.other(end, &branch.otherwise)?;
         Ok(after(end))
@@ -169,28 +224,60 @@ impl<'m> Walk<'m> {
         let end = match otherwise {
             ElseNode::Nothing => first,
             ElseNode::Block(body) => self.block(first, body.as_slice())?,
-            ElseNode::If(branch) => self.branch(first, branch)?,
+            ElseNode::If(branch) => self.branch(part, first, branch)?,
         };
         self.end(part, before(end));
         Ok(end)
     }
 
-    /// Passes a `for`.
+    /// Passes what stands between a `for` and its block, except the statement after each turn.
+    fn header(
+        &mut self,
+        part: Option<usize>,
+        first: NodeId,
+        header: &ForHeader,
+    ) -> Result<(), Memory> {
+        match header {
+            ForHeader::Forever => Ok(()),
+            ForHeader::While(condition) => self.note(part, first, Unit::Condition(true, condition)),
+            ForHeader::Clauses(start, condition, _) => {
+                let end = match start {
+                    None => first,
+                    Some(simple) => self.head(first, simple)?,
+                };
+                match condition {
+                    None => Ok(()),
+                    Some(condition) => self.note(part, end, Unit::Condition(true, condition)),
+                }
+            }
+            ForHeader::Range(target, source) => {
+                self.note(part, first, Unit::Range(target, source))
+            }
+        }
+    }
+
+    /// Passes the simple statement after each turn of a `for`. The number after its nodes is `end`.
+    fn post(&mut self, first: NodeId, end: NodeId, simple: &SimpleNode) -> Result<(), Memory> {
+        let part = self.begin(Part::Post)?;
+        self.note(part, first, Unit::Simple(simple))?;
+        self.end(part, before(end));
+        Ok(())
+    }
+
+    /// Passes a `for`, whose condition or range is the part's own.
     #[cycle(statement)]
     fn turns(
         &mut self,
+        part: Option<usize>,
         first: NodeId,
         header: &ForHeader,
         body: &[StatementNode],
     ) -> Result<NodeId, Memory> {
-        if let ForHeader::Clauses(Some(simple), _, _) = header {
-            self.head(first, simple)?;
-        }
+        self.header(part, first, header)?;
         let start = loop_first(self.alloc, first, header);
         let end = self.block(start, body)?;
-        if let ForHeader::Clauses(_, _, Some(_)) = header {
-            let part = self.begin(Part::Post)?;
-            self.end(part, before(start));
+        if let ForHeader::Clauses(_, _, Some(simple)) = header {
+            self.post(post_first(self.alloc, first, header), start, simple)?;
         }
         Ok(after(end))
     }

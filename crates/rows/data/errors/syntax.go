@@ -1,9 +1,7 @@
 package main
 
 func main() {
-	println(twice(4))
-}
-
-func twice(n int) int {
-	return 2 * n
+	waiting := make(chan int, 2)
+	waiting <- 4
+	len(waiting)
 }

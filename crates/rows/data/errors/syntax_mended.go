@@ -1,10 +1,7 @@
 package main
 
 func main() {
-	eight := twice(4)
-	println(eight)
-}
-
-func twice(n int) int {
-	return 2 * n
+	waiting := make(chan int, 2)
+	waiting <- 4
+	println(len(waiting))
 }

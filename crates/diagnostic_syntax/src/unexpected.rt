@@ -1,0 +1,75 @@
+//! A fault of the syntax in words.
+
+use crate::expected::{Expected, push_expected};
+use crate::hint::Trouble;
+use crate::nesting::Nesting;
+use crate::site::{Site, piece_at};
+use diagnostic_words::excerpt::push_excerpt;
+use diagnostic_words::words::Words;
+use go_text::{Fault, Memory, Place, Source};
+use scanner::{Token, scan};
+use std::alloc::Global;
+
+/// The tokens of a text; none where it has a fault before its tree.
+fn tokens_of(alloc: Global, text: &str) -> Result<Vec<Token>, Memory> {
+    let bytes = Vec::from_slice(alloc, text.as_bytes())?;
+    let Ok(source) = Source::new(bytes) else {
+        return Ok(Vec::new(alloc));
+    };
+    match scan(alloc, &source) {
+        Ok(tokens) => Ok(tokens),
+        Err(Fault::Memory) => Err(Memory),
+        Err(_) => Ok(Vec::new(alloc)),
+    }
+}
+
+/// A token as it is printed.
+fn spoken(found: &str) -> &str {
+    match found {
+        "," => "comma",
+        ";" => "semicolon",
+        _ => found,
+    }
+}
+
+/// What is found at a place where no tree goes on.
+fn found_at(text: &str, place: Place) -> &str {
+    if place.span.from as usize >= text.len() {
+        return "end of file";
+    }
+    let found = piece_at(text, place);
+    if found.is_empty() {
+        "newline"
+    } else {
+        spoken(found)
+    }
+}
+
+/// Puts what was found where no tree goes on, what could stand there, its line, and a hint, after what is there.
+pub fn push_syntax(
+    alloc: Global,
+    said: &mut Words,
+    text: &str,
+    place: Place,
+) -> Result<(), Memory> {
+    let tokens = tokens_of(alloc, text)?;
+    let site = Site::new(text, tokens.as_slice(), place);
+    let nesting = Nesting::of(alloc, &site)?;
+    let expected = Expected::at(alloc, &site, &nesting)?;
+    said.text("syntax error: unexpected ");
+    said.text(found_at(text, place));
+    push_expected(said, &site, &nesting, &expected)?;
+    said.text("\n");
+    push_excerpt(said, text, place.span);
+    let trouble = Trouble {
+        site,
+        expected: &expected,
+        nesting: &nesting,
+    };
+    if let Some(hint) = trouble.hint() {
+        said.text("hint: ");
+        hint.push(said);
+        said.text("\n");
+    }
+    Ok(())
+}

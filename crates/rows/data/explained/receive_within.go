@@ -1,7 +1,0 @@
-package main
-
-func main() {
-	c := make(chan int, 1)
-	c <- 1
-	println(<-c)
-}

@@ -1,6 +1,0 @@
-package main
-
-func main() {
-	c := make(chan int)
-	println(<-c)
-}

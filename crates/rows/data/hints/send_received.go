@@ -1,0 +1,6 @@
+package main
+
+func main() {
+	d := make(chan chan int, 1)
+	<-d <- 5
+}
