@@ -54,7 +54,7 @@ module _ (types : List (List ℕ)) where
       let two = noting_value types condition one in
       let three = noting_first types post two in
       grows_on all one three (first_grows first all) (grows_on one two three (value_grows condition one) (first_grows post two))
-  head_grows (Range target channel) all = expression_grows types channel all
+  head_grows (Range _ channel) all = expression_grows types channel all
 
   pub comm_grows : (comm : Option Comm) (all : List Element) → Grows all (noting_comm types comm all)
   comm_grows None all = grows_no all

@@ -49,7 +49,7 @@ module _ (globals : Globals) (elements : List Element) where
   ForHeadMakes Forever = Unit {0}
   ForHeadMakes (While condition) = OneMakes condition
   ForHeadMakes (ForClauses first condition post) = IfSome first SimpleMakes × IfSome condition OneMakes × IfSome post SimpleMakes × IfSome post DeclaresNone
-  ForHeadMakes (Range target channel) = OneMakes channel
+  ForHeadMakes (Range _ channel) = OneMakes channel
 
   abbrev pub CommMakes : Option Comm → Type 0
   CommMakes None = Unit {0}

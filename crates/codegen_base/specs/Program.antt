@@ -80,7 +80,7 @@ module _ (types : List (List ℕ)) where
   noting_head Forever all = all
   noting_head (While condition) all = noting_expression condition all
   noting_head (ForClauses first condition post) all = noting_first post (noting_value condition (noting_first first all))
-  noting_head (Range target channel) all = noting_expression channel all
+  noting_head (Range _ channel) all = noting_expression channel all
 
   abbrev pub noting_comm : Option Comm → List Element → List Element
   noting_comm None all = all
