@@ -13,9 +13,7 @@ func main() {
 		orders <- order{i, 10 * i}
 	}
 	close(orders)
-	first := <-packed
-	second := <-packed
-	println("parts:", first+second)
+	println("parts:", <-packed+<-packed)
 }
 
 func pack(orders <-chan order, packed chan<- int) {
