@@ -9,6 +9,7 @@ mod hint;
 pub mod known;
 mod nesting;
 mod site;
+mod trouble;
 mod unexpected;
 
 use go_text::{Fault, Place};

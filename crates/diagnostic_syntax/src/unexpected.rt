@@ -1,9 +1,9 @@
 //! A fault of the syntax in words.
 
 use crate::expected::{Expected, push_expected};
-use crate::hint::Trouble;
 use crate::nesting::Nesting;
 use crate::site::{Site, piece_at};
+use crate::trouble::Trouble;
 use diagnostic_words::excerpt::push_excerpt;
 use diagnostic_words::words::Words;
 use go_text::{Fault, Memory, Place, Source};
