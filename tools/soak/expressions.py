@@ -121,7 +121,7 @@ class Expressions(Writer):
         if made := self.asked(BOOL, depth):
             return made
         how = self.upto(9)
-        if depth == 0 or how < 2:
+        if depth <= 0 or how < 2:
             path = self.path(lambda it: it == BOOL)
             return (path[0], 6) if path and self.chance(0.8) else (self.pick(["true", "false"]), 6)
         if how == 2:
@@ -198,7 +198,7 @@ class Expressions(Writer):
     def given(self, kind, depth=2):
         """A value for a place, parameter or field of this type; of a struct None where there is none."""
         if kind in (INT, BOOL):
-            return (self.number if kind == INT else self.truth)(max(depth, 0))[0]
+            return (self.number if kind == INT else self.truth)(depth)[0]
         if is_channel(kind):
             if made := self.asked(kind, depth):
                 return made[0]
