@@ -14,9 +14,9 @@ use crate::program::Program;
 use clock_table::{BookSeat, ClockTable, LeaseSeat};
 use go_text::Memory;
 use goroutine_vm::GoState;
+use logical_clock::limits::MAX_GOROUTINES;
 use std::sync::Arc;
 use verifier::Verified;
-use logical_clock::limits::MAX_GOROUTINES;
 
 /// How many slots there are: one for each goroutine that is alive.
 const SLOTS: usize = MAX_GOROUTINES as usize;

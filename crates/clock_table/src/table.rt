@@ -10,11 +10,11 @@ use crate::view::View;
 use atomic_table::{Seat, Table};
 use go_text::Memory;
 use goroutine_vm::GoState;
+use logical_clock::limits::MAX_GOROUTINES;
 use std::alloc::Global;
 use std::marker::Brand;
 use std::sync::Arc;
 use verifier::Verified;
-use logical_clock::limits::MAX_GOROUTINES;
 
 /// How many slots a table has: one for each goroutine that is alive.
 const SLOTS: usize = MAX_GOROUTINES as usize;

@@ -6,9 +6,9 @@ use crate::scene::{Report, Scene};
 use crate::wish::{push_clauses, push_wish};
 use diagnostic_words::words::Words;
 use go_text::Memory;
+use logical_clock::limits::MAX_GOROUTINES;
 use std::alloc::Global;
 use syntax::NodeId;
-use logical_clock::limits::MAX_GOROUTINES;
 use word::limits::{MAX_CAPACITY, MAX_CHANNELS, MAX_DEPTH};
 use word::panic::Panic;
 

@@ -9,11 +9,11 @@ ghost use Rattle.reference_world.specs.Deeds.{Acts, IsTold, Performs, ending_of,
 use crate::deed::Deed;
 use crate::meeting::Meeting;
 use go_text::Memory;
+use logical_clock::limits::MAX_GOROUTINES;
 use logical_clock::{Key, LAST};
 use std::alloc::Global;
 use std::marker::Model;
 use word::end::End;
-use logical_clock::limits::MAX_GOROUTINES;
 use word::panic::Panic;
 use word::request::{Reply, Request};
 use word::value::Word;

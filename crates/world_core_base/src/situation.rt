@@ -17,12 +17,12 @@ use awake_rows::{Among, AwakeRows, Away, Slot};
 use channel_core::{Channels, Woken};
 use go_text::Memory;
 use goroutine_vm::{GoState, Room, Sleeping, spawn_state};
+use logical_clock::limits::MAX_GOROUTINES;
 use logical_clock::{Clock, Key, LAST};
 use std::alloc::{AllocError, Global};
 use std::marker::Model;
 use verifier::Verified;
 use word::end::End;
-use logical_clock::limits::MAX_GOROUTINES;
 use word::panic::Panic;
 use word::request::{Event, EventOutcome, Reply, Request};
 
