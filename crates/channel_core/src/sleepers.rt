@@ -3,7 +3,7 @@
 ghost use Rattle.std.specs.Prelude.{◌≡◌, ◌≢◌, ℕ, ◌∷◌, [], ◌++◌, false, IfNone, IfOk, IfSome, None, OnErr, OnOk, Some, cond, length, option_map};
 ghost use Rattle.std.specs.List.{filter};
 ghost use Rattle.std.specs.Option.{is_some};
-ghost use Rattle.sleep_queue.specs.Queue.{owned};
+ghost use Rattle.sleep_queue.specs.Keys.{owned};
 ghost use Rattle.word.specs.Requests.{got, partner, partners, without, without_all};
 ghost use Rattle.word.specs.Values.{Closed};
 ghost use Rattle.word.specs.Views.{reply_of, request_of};
@@ -84,7 +84,7 @@ pub(crate) struct Sleepers {
 impl Model for Sleepers {
     ghost use Rattle.std.specs.Prelude.{List};
     ghost use Rattle.slab.specs.Slab.{get, slab_len};
-    ghost use Rattle.sleep_queue.specs.Queue.{owned};
+    ghost use Rattle.sleep_queue.specs.Keys.{owned};
     ghost use Rattle.word.specs.Values.{Sleeper as AnySleeper};
     ghost use Rattle.channel_core.specs.Asleep.{IsAsleep, asleep_of, placed};
 
