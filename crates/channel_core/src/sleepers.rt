@@ -8,7 +8,7 @@ ghost use Rattle.word.specs.Requests.{got, partner, partners, without, without_a
 ghost use Rattle.word.specs.Values.{Closed};
 ghost use Rattle.word.specs.Views.{reply_of, request_of};
 ghost use Rattle.channel_core.specs.Asleep.{is_not_of, placed, placed_all};
-ghost use Rattle.channel_core.specs.Channels.{closed_for, met, partner_of};
+ghost use Rattle.channel_core.specs.Channels.{closed_for, met, offers_at, partner_of};
 
 use crate::order::Order;
 use crate::outcome::{Woken, got};
@@ -119,6 +119,14 @@ impl Sleepers {
         self.slots.len()
     }
 
+    /// How many offers on a channel there are, of which a sleeper in a select can have several. Only these are visited.
+    pub(crate) fn offers_at(&self, chan: u32) -> usize
+        ensures { result ≡ offers_at chan self.now }
+    {
+        self.queues
+            .count_of_two(row_on(chan, false), row_on(chan, true))
+    }
+
     /// The first sleeper with an offer on a channel, to send or to receive, and its first such offer.
     #[inline(always)]
     pub(crate) fn partner(&self, chan: u32, sends: bool) -> Option<PartnerView<'_>>
@@ -183,7 +191,7 @@ impl Sleepers {
         if self.first_at_close(chan, zero).is_none() {
             return Ok(woken);
         }
-        woken.reserve(self.len())?;
+        woken.reserve(self.offers_at(chan))?;
         while let Some(first) = self.first_at_close(chan, zero) {
             self.leave(first.number());
             woken.push_reserved(first);
