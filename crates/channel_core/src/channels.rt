@@ -57,7 +57,7 @@ impl Channels {
         ensures { IfOk result (λ c. c ≡ record { channels = no_channel ∷ []; asleep = [] }) }
     {
         let mut channels = Vec::new(alloc);
-        channels.push(Channel::new(alloc, 0, Item::new(alloc, [].as_slice())))?;
+        channels.push(Channel::new(alloc, 0, &Item::empty(alloc))?)?;
         Ok(Channels {
             alloc,
             channels,
@@ -137,7 +137,7 @@ impl Channels {
             return Ok(());
         }
         self.channels
-            .push(Channel::new(self.alloc, size as u32, zero.copy()))?;
+            .push(Channel::new(self.alloc, size as u32, zero)?)?;
         *outcome = EventOutcome::Done(Reply::Word(Word::Chan(Some(place as u32))));
         Ok(())
     }
