@@ -1,6 +1,7 @@
 //! Keys by numbers.
 
-ghost use Rattle.std.specs.Prelude.{◌≡◌, ◌≢◌, ◌<◌, ◌%◌, ℕ, None, Some, IfOk, IfSome, OnErr, OnOk, length, true};
+ghost use Rattle.std.specs.Prelude.{◌≡◌, ◌≢◌, ◌<◌, ◌%◌, ℕ, None, Some, IfOk, IfSome, OnErr, OnOk, false, length, true};
+ghost use Rattle.std.specs.Option.{option_or};
 ghost use Rattle.sleep_queue.specs.Keys.{far_key, is_free_for, key_for, near_at, owned};
 ghost use Rattle.sleep_queue.specs.declared.numbered_keys.TheConstants.{NEAR};
 
@@ -62,7 +63,23 @@ impl NumberedKeys {
     /// # Errors
     ///
     /// `Memory` if memory is refused.
+    #[inline(always)]
     pub fn insert(&mut self, number: u64, key: usize) -> Result<Option<usize>, Memory>
+        ensures old { IfOk result (λ old. old ≡ owned self.old number) }
+        ensures own { OnOk result (owned self.new number ≡ Some key) }
+        ensures others { OnOk result ((n : ℕ) → n ≢ number → owned self.new n ≡ owned self.old n) }
+        ensures memory { OnErr result (self.new ≡ self.old) }
+    {
+        let entry = NumberedKey { number, key };
+        if self.far.is_empty() && fill_near(self.near.as_mut_slice(), entry) {
+            return Ok(None);
+        }
+        self.insert_anywhere(number, key)
+    }
+
+    /// Like `insert`, whatever stands at the number's place. It is a call, so that it takes no part in what is called often.
+    #[inline(never)]
+    fn insert_anywhere(&mut self, number: u64, key: usize) -> Result<Option<usize>, Memory>
         ensures old { IfOk result (λ old. old ≡ owned self.old number) }
         ensures own { OnOk result (owned self.new number ≡ Some key) }
         ensures others { OnOk result ((n : ℕ) → n ≢ number → owned self.new n ≡ owned self.old n) }
@@ -78,15 +95,27 @@ impl NumberedKeys {
     }
 
     /// Takes the number's key away. Returns the key that it had.
+    #[inline(always)]
     pub fn remove(&mut self, number: u64) -> Option<usize>
         ensures old { result ≡ owned self.old number }
         ensures own { owned self.new number ≡ None }
         ensures others { (n : ℕ) → n ≢ number → owned self.new n ≡ owned self.old n }
     {
-        let old = self.get(number);
-        cut_near(&mut self.near, number);
-        cut_far(&mut self.far, number);
-        old
+        let near = cut_near(self.near.as_mut_slice(), number);
+        if self.far.is_empty() {
+            return near;
+        }
+        first_of(near, cut_far(&mut self.far, number))
+    }
+}
+
+/// The first key, or else the second one.
+fn first_of(near: Option<usize>, far: Option<usize>) -> Option<usize>
+    ensures { result ≡ option_or near far }
+{
+    match near {
+        Some(key) => Some(key),
+        None => far,
     }
 }
 
@@ -159,13 +188,39 @@ fn put_near(near: &mut Vec<Option<NumberedKey>>, entry: NumberedKey) -> Result<(
     Ok(())
 }
 
-/// A number has no key at its place any more.
-fn cut_near(near: &mut Vec<Option<NumberedKey>>, number: u64)
-    ensures own { key_for (near_at near.new.items number) number ≡ None }
-    ensures others { (n : ℕ) → n ≢ number → key_for (near_at near.new.items n) n ≡ key_for (near_at near.old.items n) n }
+/// A number's key stands at its place if nothing stood there.
+#[inline(always)]
+fn fill_near(near: &mut [Option<NumberedKey>], entry: NumberedKey) -> bool
+    ensures free { result ≡ true → near_at near.old entry.number ≡ None }
+    ensures own { result ≡ true → key_for (near_at near.new entry.number) entry.number ≡ Some entry.key }
+    ensures others { result ≡ true → (n : ℕ) → n ≢ entry.number → key_for (near_at near.new n) n ≡ key_for (near_at near.old n) n }
+    ensures same { result ≡ false → near.new ≡ near.old }
 {
-    if is_free(near.as_slice(), number) {
-        set_near(near, number, None);
+    let place = (entry.number % NEAR) as usize;
+    if place >= near.len() || near[place].is_some() {
+        return false;
+    }
+    near[place] = Some(entry);
+    true
+}
+
+/// A number has no key at its place any more: the one that it had there.
+#[inline(always)]
+fn cut_near(near: &mut [Option<NumberedKey>], number: u64) -> Option<usize>
+    ensures old { result ≡ key_for (near_at near.old number) number }
+    ensures own { key_for (near_at near.new number) number ≡ None }
+    ensures others { (n : ℕ) → n ≢ number → key_for (near_at near.new n) n ≡ key_for (near_at near.old n) n }
+{
+    let place = (number % NEAR) as usize;
+    if place >= near.len() {
+        return None;
+    }
+    match near[place] {
+        Some(entry) if entry.number == number => {
+            near[place] = None;
+            Some(entry.key)
+        }
+        _ => None,
     }
 }
 
@@ -179,12 +234,12 @@ fn far_key(far: &HashMap<u64, usize>, number: u64) -> Option<usize>
     far.get(&number).copied()
 }
 
-/// A number has no key in a map any more.
-fn cut_far(far: &mut HashMap<u64, usize>, number: u64)
+/// A number has no key in a map any more: the one that it had there.
+#[inline(never)]
+fn cut_far(far: &mut HashMap<u64, usize>, number: u64) -> Option<usize>
+    ensures old { result ≡ far_key far.old.entries number }
     ensures own { far_key far.new.entries number ≡ None }
     ensures others { (n : ℕ) → n ≢ number → far_key far.new.entries n ≡ far_key far.old.entries n }
 {
-    if !far.is_empty() {
-        far.remove(&number);
-    }
+    far.remove(&number)
 }
