@@ -8,7 +8,7 @@ use Rattle.word.specs.declared.panic.Panic.TheVariants.{SendOnClosed}
 use Rattle.word.specs.Values.{Item, Request, Send, Receive}
 use Rattle.word.specs.Views.{outcome_of, reply_of}
 use Rattle.word.specs.Requests.{receive_ready, send_ready, without}
-use Rattle.std.specs.Prelude.{◌-◌, drop, nat_lt, map, option_map, slice_index_or, slice_set, unwrap_or}
+use Rattle.std.specs.Prelude.{drop, nat_lt, map, option_map, slice_index_or, slice_set, unwrap_or}
 use Rattle.std.proofs.lemmas.List.{length-set, set-get_or, with_items_is}
 use Rattle.std.proofs.lemmas.Option.{none-some}
 use Rattle.std.proofs.Common.{◌<◌, ◌≤◌, length-append}
@@ -156,24 +156,8 @@ pub front_is : (xs : List Item) (item : Item) → xs ++ item ∷ [] ≡ slice_in
 front_is [] item = refl
 front_is (y ∷ ys) item = refl
 
-pub front_of : (xs ys : List Item) (x : Item) → xs ≡ x ∷ ys → slice_index_or xs 0 [] ≡ x
-front_of xs ys x e = ap (λ (l : List Item). slice_index_or l 0 []) e
-
-pub rest_of : (xs ys : List Item) (x : Item) → xs ≡ x ∷ ys → drop 1 xs ≡ ys
-rest_of xs ys x e = ap (λ (l : List Item). drop 1 l) e
-
 pub is_longer : (xs : List Item) (item : Item) → nat_lt 0 (length (xs ++ item ∷ [])) ≡ true
 is_longer xs item = let h : 0 < length (xs ++ item ∷ []) = omega (arith, length-append xs (item ∷ [])) in lt-ltb 0 (length (xs ++ item ∷ [])) h
-
--- the last one is this now
-set_last : (xs : List Item) (x y : Item) → slice_set (xs ++ x ∷ []) (length xs) y ≡ xs ++ y ∷ []
-set_last [] x y = refl
-set_last (z ∷ zs) x y = ap (λ (l : List Item). z ∷ l) (set_last zs x y)
-
-pub last_is : (xs : List Item) (n : ℕ) (x y : Item) → n ≡ length (xs ++ x ∷ []) → slice_set (xs ++ x ∷ []) (n - 1) y ≡ xs ++ y ∷ []
-last_is xs n x y e =
-    let at : n - 1 ≡ length xs = simp length-append at (ap (λ (k : ℕ). k - 1) e) ∙ omega arith in
-    ap (λ (k : ℕ). slice_set (xs ++ x ∷ []) k y) at ∙ set_last xs x y
 
 -- the only one is this now
 pub one_is : {A : Type 0} (xs : List A) (x : A) → length xs ≡ 1 → slice_set xs 0 x ≡ x ∷ []

@@ -5,3 +5,4 @@ pub mod Meeting
 pub mod Clauses
 pub mod Served
 pub mod Slots
+pub mod Offered

@@ -103,7 +103,7 @@ module _ (slot : ℕ → Option Sleeper) (c : ℕ) where
 abbrev pub on_channel : ℕ → ℕ → Bool
 on_channel c r = (r == row_on c false) || (r == row_on c true)
 
-on_its_channel : (c d : ℕ) (b : Bool) → on_channel c (row_on d b) ≡ (d == c)
+pub on_its_channel : (c d : ℕ) (b : Bool) → on_channel c (row_on d b) ≡ (d == c)
 on_its_channel c d true = elim (cases_eq d c) [
   | inl e ↦ or_right (2 * d + 1 == 2 * c) (2 * d + 1 == 2 * c + 1) (same_key (2 * d + 1) (2 * c + 1) (omega arith)) ∙ sym (same_key d c e)
   | inr e ↦ or_from (2 * d + 1 == 2 * c) (2 * d + 1 == 2 * c + 1) (other_key (2 * d + 1) (2 * c) (λ (h : 2 * d + 1 ≡ 2 * c). omega arith))

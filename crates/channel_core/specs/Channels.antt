@@ -1,5 +1,5 @@
 -- The channels and sleepers of a world, and what a request to them does.
-use Rattle.std.specs.Prelude.{◌≡◌, ℕ, ℤ, List, [], ◌∷◌, ◌++◌, drop, length, map, option_copied, slice_index_or, Option, Some, None}
+use Rattle.std.specs.Prelude.{◌≡◌, ◌==◌, ◌+◌, ℕ, suc, ℤ, cond, List, [], ◌∷◌, ◌++◌, drop, length, map, option_copied, slice_index_or, Option, Some, None}
 use Rattle.word.specs.declared.request.Case.{Case}
 use Rattle.std.specs.Global.{Vec}
 use Rattle.word.specs.declared.request.EventOutcome.{EventOutcome as Fate}
@@ -8,7 +8,7 @@ use Rattle.word.specs.declared.end.End.{End as Ending}
 use Rattle.word.specs.declared.end.End.TheVariants.{Panicked}
 use Rattle.word.specs.declared.value.Word.TheVariants.{Int}
 use Rattle.word.specs.Values.{Item, Request, Make, Send, Receive, Close, Select, Len, Cap, Reply, Nothing, Received, Clause, Value, Done, Sleeps, Panics, Event, Channel, Sleeper, Offer, Shared}
-use Rattle.word.specs.Requests.{Deed, GoesOn, Dozes, Stays, happened, act, channel_of, close_reply, do_clause, do_send, do_receive, receive_from}
+use Rattle.word.specs.Requests.{Deed, GoesOn, Dozes, Stays, happened, act, channel_of, close_reply, do_clause, do_send, do_receive, offers, receive_from}
 use Rattle.word.specs.Views.{outcome_of, reply_of}
 use Rattle.channel_core.specs.declared.outcome.Outcome.{Outcome}
 use Rattle.channel_core.specs.declared.outcome.Outcome.TheVariants as outcomes
@@ -118,6 +118,16 @@ clause_at cases i = slice_index_or cases i (record { chan = None; item = None })
 -- what those are told whom a close wakes, z being the zero item
 abbrev pub closed_for : Item → List (Sleeper × Offer) → List (ℕ × Reply)
 closed_for z ps = map (λ (p : Sleeper × Offer). (p.0.number, close_reply z p.1)) ps
+
+-- how many of these offers are on channel c
+abbrev pub offers_on : ℕ → List Offer → ℕ
+offers_on c [] = 0
+offers_on c (o ∷ os) = cond (o.chan == c) (suc (offers_on c os)) (offers_on c os)
+
+-- how many offers on channel c these sleepers make
+abbrev pub offers_at : ℕ → List Sleeper → ℕ
+offers_at c [] = 0
+offers_at c (s ∷ ss) = offers_on c (offers s.request) + offers_at c ss
 
 -- the items in a channel's buffer, and its capacity; `nil` has neither
 abbrev pub length_of : List Channel → Option ℕ → ℕ

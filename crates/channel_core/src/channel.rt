@@ -1,24 +1,29 @@
 //! A channel without its sleepers.
 
-ghost use Rattle.std.specs.Prelude.{◌≡◌, ◌<◌, ◌++◌, ◌∷◌, [], false, drop, nat_lt, pos, slice_index_or, true, length, OnErr, OnOk};
+ghost use Rattle.std.specs.Prelude.{◌≡◌, ◌<◌, ◌≤◌, ◌++◌, ◌∷◌, [], false, drop, nat_lt, pos, slice_index_or, true, length, IfOk, OnErr, OnOk};
+ghost use Rattle.smallvec.specs.SmallVec.{small_vec_len};
 ghost use Rattle.word.specs.Requests.{got, no_channel};
 ghost use Rattle.word.specs.Values.{Done};
+ghost use Rattle.word.specs.declared.limits.TheConstants.{MAX_WORDS};
 ghost use Rattle.word.specs.Views.{outcome_of};
 
-use crate::outcome::tell_got;
+use crate::outcome::{tell_front, tell_got};
+use item_queue::ItemQueue;
+use smallvec::SmallVec;
 use std::alloc::{AllocError, Global};
-use std::collections::VecDeque;
 use std::marker::Model;
+use word::limits::MAX_WORDS;
 use word::request::EventOutcome;
-use word::value::Item;
+use word::value::{Item, Word};
 
-/// A channel without its sleepers: its capacity, what is in its buffer, whether it is closed, and the zero item.
+/// A channel without its sleepers: its capacity, what is in its buffer, whether it is closed, and the words of the zero item.
 #[derive(Drop)]
 pub struct Channel {
     capacity: u32,
-    items: VecDeque<Item>,
     closed: bool,
-    zero: Item,
+    items: ItemQueue,
+    zero: SmallVec<Word, 1>,
+    ghost short: { small_vec_len zero ≤ MAX_WORDS },
 }
 
 impl Model for Channel {
@@ -26,20 +31,22 @@ impl Model for Channel {
 
     ghost Value = { AnyChannel };
 
-    ghost view = { λ c. record { capacity = c.capacity; items = c.items.items; closed = c.closed; zero = c.zero } };
+    ghost view = { λ c. record { capacity = c.capacity; items = c.items; closed = c.closed; zero = c.zero.items } };
 }
 
 impl Channel {
     /// An open channel with nothing in its buffer.
-    pub(crate) fn new(alloc: Global, capacity: u32, zero: Item) -> Channel
-        ensures { result ≡ record { capacity = capacity; items = []; closed = false; zero = zero } }
+    pub(crate) fn new(alloc: Global, capacity: u32, zero: &Item) -> Result<Channel, AllocError>
+        ensures { IfOk result (λ c. c ≡ record { capacity = capacity; items = []; closed = false; zero = zero.now }) }
     {
-        Channel {
+        let words = zero.words();
+        let zero = SmallVec::from_slice(alloc, words)?;
+        Ok(Channel {
             capacity,
-            items: VecDeque::new(alloc),
             closed: false,
+            items: ItemQueue::new(alloc, words.len()),
             zero,
-        }
+        })
     }
 
     /// Whether it is closed.
@@ -81,41 +88,31 @@ impl Channel {
     pub(crate) fn has_items(&self) -> bool
         ensures { result ≡ nat_lt 0 (length self.now.items) }
     {
-        !self.items.is_empty()
+        self.items.len() > 0
     }
 
     /// The zero item.
     pub(crate) fn zero(&self) -> Item
         ensures { result ≡ self.now.zero }
     {
-        self.zero.copy()
+        Item::new(*self.zero.allocator(), self.zero.as_slice())
     }
 
     /// Puts an item at the buffer's back.
-    #[tactic(auto, using(crate::proofs::Deeds::last_is))]
     pub(crate) fn push(&mut self, item: &Item) -> Result<(), AllocError>
         ensures ok { OnOk result (self.new ≡ record self.old { items = self.old.items ++ item.now ∷ [] }) }
         ensures err { OnErr result (self.new ≡ self.old) }
     {
-        self.items.reserve(1)?;
-        let alloc = *self.items.allocator();
-        self.items.push_back_reserved(Item::empty(alloc));
-        if let Some(room) = self.items.back_mut() {
-            room.set(item.words());
-        }
-        Ok(())
+        self.items.push(*self.zero.allocator(), item)
     }
 
     /// Takes the item at the buffer's front, if there is one: a receiver is told it at this place.
-    #[tactic(auto, using(crate::proofs::Deeds::front_of, crate::proofs::Deeds::rest_of))]
     pub(crate) fn pop(&mut self, alloc: Global, clause: usize, outcome: &mut EventOutcome)
         ensures told { nat_lt 0 (length self.old.items) ≡ true → outcome_of outcome.new ≡ Done (got clause (slice_index_or self.old.items 0 []) true) }
         ensures rest { self.new ≡ record self.old { items = drop 1 self.old.items } }
     {
-        if let Some(front) = self.items.front() {
-            tell_got(alloc, outcome, clause, front, true);
-        }
-        let _ = self.items.pop_front();
+        tell_front(alloc, outcome, clause, &self.items);
+        self.items.drop_front();
     }
 
     /// Puts an item at the buffer's back, and takes the one at its front, which is the same one where the buffer is
@@ -132,7 +129,7 @@ impl Channel {
         ensures rest { OnOk result (self.new ≡ record self.old { items = drop 1 (self.old.items ++ item.now ∷ []) }) }
         ensures err { OnErr result (self.new ≡ self.old) }
     {
-        if self.items.is_empty() {
+        if self.items.len() == 0 {
             tell_got(alloc, outcome, clause, item, true);
             return Ok(());
         }

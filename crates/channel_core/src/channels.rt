@@ -2,11 +2,11 @@
 
 ghost use Rattle.std.specs.Prelude.{◌≡◌, ℕ, ◌+◌, ◌<◌, ◌≤◌, ◌∷◌, [], ◌++◌, IfOk, IfNone, IfSome, OnErr, OnOk, Some, None, drop, nat_lt, option_copied, option_map, pos, suc, false, true, length, slice_index_or, slice_set, unwrap_or};
 ghost use Rattle.std.specs.Option.{is_some};
-ghost use Rattle.word.specs.Requests.{channel_of, got, is_ready, no_channel, receive_ready, send_ready, without};
+ghost use Rattle.word.specs.Requests.{channel_of, got, is_ready, no_channel, partners, receive_ready, send_ready, without};
 ghost use Rattle.word.specs.Values.{Close, Done, Make, Receive, Request as AnyRequest, Select, Send};
 ghost use Rattle.word.specs.Views.{outcome_of, request_of};
 ghost use Rattle.word.specs.declared.request.EventOutcome.TheVariants as outcomes;
-ghost use Rattle.channel_core.specs.Channels.{Does, DoesAlone, IsAlone, IsOfOneChannel, IsTold, Others, Receives, Sends, Serves, after_passing, came, capacity_of, clause_at, front_after, length_of, shared_with};
+ghost use Rattle.channel_core.specs.Channels.{Does, DoesAlone, IsAlone, IsOfOneChannel, IsTold, Others, Receives, Sends, Serves, after_passing, came, capacity_of, clause_at, front_after, length_of, offers_at, shared_with};
 
 use crate::channel::Channel;
 use crate::outcome::{Outcome, Woken, sent, tell_got, tell_sent, wake, wake_with};
@@ -57,7 +57,7 @@ impl Channels {
         ensures { IfOk result (λ c. c ≡ record { channels = no_channel ∷ []; asleep = [] }) }
     {
         let mut channels = Vec::new(alloc);
-        channels.push(Channel::new(alloc, 0, Item::new(alloc, [].as_slice())))?;
+        channels.push(Channel::new(alloc, 0, &Item::empty(alloc))?)?;
         Ok(Channels {
             alloc,
             channels,
@@ -137,7 +137,7 @@ impl Channels {
             return Ok(());
         }
         self.channels
-            .push(Channel::new(self.alloc, size as u32, zero.copy()))?;
+            .push(Channel::new(self.alloc, size as u32, zero)?)?;
         *outcome = EventOutcome::Done(Reply::Word(Word::Chan(Some(place as u32))));
         Ok(())
     }
@@ -331,6 +331,15 @@ impl Channels {
         ensures { result ≡ length self.now.asleep }
     {
         self.asleep.len()
+    }
+
+    /// How many offers on a channel the goroutines that sleep make: at least as many as sleep there. Only these offers are visited.
+    #[tactic(auto, using(crate::proofs::Offered::partners_few))]
+    pub fn offers_at(&self, chan: u32) -> usize
+        ensures offers { result ≡ offers_at chan self.now.asleep }
+        ensures sleepers { length (partners chan self.now.asleep) ≤ result }
+    {
+        self.asleep.offers_at(chan)
     }
 
     /// Whether a send on a channel is ready.

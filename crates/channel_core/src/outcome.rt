@@ -1,12 +1,13 @@
 //! What became of a request to a channel.
 
-ghost use Rattle.std.specs.Prelude.{◌≡◌, ◌∷◌, [], None, OnOk, slice_index_or, slice_set, true};
+ghost use Rattle.std.specs.Prelude.{◌≡◌, ◌≢◌, ◌∷◌, [], None, OnOk, length, slice_index_or, slice_set, true};
 ghost use Rattle.word.specs.Requests.{got, sent};
 ghost use Rattle.word.specs.Values.{Clause, Done, Received};
 ghost use Rattle.word.specs.Views.{outcome_of, reply_of};
 ghost use Rattle.channel_core.specs.Channels.{came, given, nobody, with_item};
 
 use go_text::Memory;
+use item_queue::ItemQueue;
 use std::alloc::Global;
 use std::marker::Model;
 use word::panic::Panic;
@@ -178,6 +179,7 @@ fn tell_clause(outcome: &mut EventOutcome, clause: usize)
 
 /// A receiver is told this item at this place, in a clause of a select, or outside of one where that is 0. A reply that has the room
 /// of an item stands there first, and then its words are written: so no item is moved.
+#[tactic(auto, using(crate::proofs::Deeds::given_got))]
 pub(crate) fn tell_got(
     alloc: Global,
     outcome: &mut EventOutcome,
@@ -187,13 +189,49 @@ pub(crate) fn tell_got(
 )
     ensures { outcome_of outcome.new ≡ Done (got clause item.now ok) }
 {
+    tell_room(alloc, outcome, clause, ok);
+    if let EventOutcome::Done(reply) = outcome {
+        give(reply, item);
+    }
+}
+
+/// Like `tell_got`, of the item at the front of these, if there is one.
+#[tactic(auto, using(crate::proofs::Deeds::given_got))]
+pub(crate) fn tell_front(
+    alloc: Global,
+    outcome: &mut EventOutcome,
+    clause: usize,
+    items: &ItemQueue,
+)
+    ensures { length items.now ≢ 0 → outcome_of outcome.new ≡ Done (got clause (slice_index_or items.now 0 []) true) }
+{
+    tell_room(alloc, outcome, clause, true);
+    if let EventOutcome::Done(reply) = outcome {
+        give_front(reply, items);
+    }
+}
+
+/// A receiver is told an item of no words at this place.
+#[inline(always)]
+fn tell_room(alloc: Global, outcome: &mut EventOutcome, clause: usize, ok: bool)
+    ensures { outcome_of outcome.new ≡ Done (got clause [] ok) }
+{
     if clause == 0 {
         *outcome = EventOutcome::Done(Reply::Received(Item::empty(alloc), ok));
     } else {
         *outcome = EventOutcome::Done(Reply::Clause(clause, Some((Item::empty(alloc), ok))));
     }
-    if let EventOutcome::Done(reply) = outcome {
-        give(reply, item);
+}
+
+/// The item that a reply hands over, if it hands one over, is the one at the front of these, if there is one.
+#[inline(always)]
+fn give_front(reply: &mut Reply, items: &ItemQueue)
+    ensures { length items.now ≢ 0 → reply_of reply.new ≡ given (reply_of reply.old) (slice_index_or items.now 0 []) }
+{
+    match reply {
+        Reply::Received(room, _) => items.copy_front(room),
+        Reply::Clause(_, Some((room, _))) => items.copy_front(room),
+        _ => {}
     }
 }
 

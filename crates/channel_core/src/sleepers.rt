@@ -3,12 +3,12 @@
 ghost use Rattle.std.specs.Prelude.{◌≡◌, ◌≢◌, ℕ, ◌∷◌, [], ◌++◌, false, IfNone, IfOk, IfSome, None, OnErr, OnOk, Some, cond, length, option_map};
 ghost use Rattle.std.specs.List.{filter};
 ghost use Rattle.std.specs.Option.{is_some};
-ghost use Rattle.sleep_queue.specs.Queue.{owned};
+ghost use Rattle.sleep_queue.specs.Keys.{owned};
 ghost use Rattle.word.specs.Requests.{got, partner, partners, without, without_all};
 ghost use Rattle.word.specs.Values.{Closed};
 ghost use Rattle.word.specs.Views.{reply_of, request_of};
 ghost use Rattle.channel_core.specs.Asleep.{is_not_of, placed, placed_all};
-ghost use Rattle.channel_core.specs.Channels.{closed_for, met, partner_of};
+ghost use Rattle.channel_core.specs.Channels.{closed_for, met, offers_at, partner_of};
 
 use crate::order::Order;
 use crate::outcome::{Woken, got};
@@ -84,7 +84,7 @@ pub(crate) struct Sleepers {
 impl Model for Sleepers {
     ghost use Rattle.std.specs.Prelude.{List};
     ghost use Rattle.slab.specs.Slab.{get, slab_len};
-    ghost use Rattle.sleep_queue.specs.Queue.{owned};
+    ghost use Rattle.sleep_queue.specs.Keys.{owned};
     ghost use Rattle.word.specs.Values.{Sleeper as AnySleeper};
     ghost use Rattle.channel_core.specs.Asleep.{IsAsleep, asleep_of, placed};
 
@@ -117,6 +117,14 @@ impl Sleepers {
         ensures { result ≡ length self.now }
     {
         self.slots.len()
+    }
+
+    /// How many offers on a channel there are, of which a sleeper in a select can have several. Only these are visited.
+    pub(crate) fn offers_at(&self, chan: u32) -> usize
+        ensures { result ≡ offers_at chan self.now }
+    {
+        self.queues
+            .count_of_two(row_on(chan, false), row_on(chan, true))
     }
 
     /// The first sleeper with an offer on a channel, to send or to receive, and its first such offer.
@@ -183,7 +191,7 @@ impl Sleepers {
         if self.first_at_close(chan, zero).is_none() {
             return Ok(woken);
         }
-        woken.reserve(self.len())?;
+        woken.reserve(self.offers_at(chan))?;
         while let Some(first) = self.first_at_close(chan, zero) {
             self.leave(first.number());
             woken.push_reserved(first);

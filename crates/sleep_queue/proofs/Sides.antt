@@ -17,7 +17,7 @@ use Rattle.std.specs.List.{filter}
 use Rattle.sleep_queue.proofs.Orders.{left_here, left_other}
 use Rattle.sleep_queue.proofs.Entering.{entered_here, entered_other}
 
-taken_some : (o : Option Node) → is_some o ≡ true → (n : Node) × (o ≡ Some n)
+pub taken_some : (o : Option Node) → is_some o ≡ true → (n : Node) × (o ≡ Some n)
 taken_some None e = absurd (both_ways false refl e)
 taken_some (Some n) e = (n, refl)
 
@@ -154,10 +154,10 @@ module _ (s v : Slab Node) (x : ℕ) (n : Node) (t : ℕ) (d : AreApart s.slots)
 not_same : (a b : ℕ) → a ≢ b → not (a == b) ≡ true
 not_same a b e = let t : (a == b) ≡ false = grind (arith, nat_tests, e) in rw t refl
 
-are_same : (a b : ℕ) → a ≡ b → (a == b) ≡ true
+pub are_same : (a b : ℕ) → a ≡ b → (a == b) ≡ true
 are_same a b e = grind (arith, nat_tests, e)
 
-not_at : (a b : ℕ) → a ≢ b → (a == b) ≡ false
+pub not_at : (a b : ℕ) → a ≢ b → (a == b) ≡ false
 not_at a b e = grind (arith, nat_tests, e)
 
 pub head_none : (xs : List (Option Node)) (t r : ℕ) (next : List ℕ) (head : ℕ → Option ℕ) → IsSide by_row xs next head → head r ≡ None → row_of r (in_order xs t) ≡ []

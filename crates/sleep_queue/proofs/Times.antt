@@ -9,7 +9,7 @@ use Rattle.sleep_queue.specs.declared.offer.Node.{Node}
 use Rattle.sleep_queue.specs.Queue.{Waiting, waiting_at, at_stamp, in_order, is_other, first, AreApart}
 use Rattle.std.proofs.lemmas.List.Elements.{filter-append}
 
-cases_option : {A : Type 0} (o : Option A) → (o ≡ None) ⊎ ((x : A) × (o ≡ Some x))
+pub cases_option : {A : Type 0} (o : Option A) → (o ≡ None) ⊎ ((x : A) × (o ≡ Some x))
 cases_option None = inl refl
 cases_option (Some x) = inr (x, refl)
 
@@ -121,7 +121,7 @@ at_gone xs ys x n d e its gone =
 filter_one_false : (p : Waiting → Bool) (w : Waiting) → p w ≡ false → filter p (w ∷ []) ≡ []
 filter_one_false p w e = rw e refl
 
-filter_one_true : (p : Waiting → Bool) (w : Waiting) → p w ≡ true → filter p (w ∷ []) ≡ w ∷ []
+pub filter_one_true : (p : Waiting → Bool) (w : Waiting) → p w ≡ true → filter p (w ∷ []) ≡ w ∷ []
 filter_one_true p w e = rw e refl
 
 -- what came at one time, without key x
@@ -226,7 +226,7 @@ one_fewer p r xs k (suc t) n d its l a b =
           omega (arith, e1, e2, f1, g1, g2)
     ]
 
-quiet_test : (p : Waiting → Bool) (xs : List (Option Node)) (s : ℕ) → ((i : ℕ) (m : Node) → slice_index_or xs i None ≡ Some m → m.stamp ≡ s → p (waiting_at i m) ≡ false) → filter p (option_to_list (at_stamp s 0 xs)) ≡ []
+pub quiet_test : (p : Waiting → Bool) (xs : List (Option Node)) (s : ℕ) → ((i : ℕ) (m : Node) → slice_index_or xs i None ≡ Some m → m.stamp ≡ s → p (waiting_at i m) ≡ false) → filter p (option_to_list (at_stamp s 0 xs)) ≡ []
 quiet_test p xs s h =
     elim (cases_option (at_stamp s 0 xs)) as (λ q. filter p (option_to_list (at_stamp s 0 xs)) ≡ []) [
       | inl g ↦ rw g refl

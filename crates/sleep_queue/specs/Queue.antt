@@ -167,17 +167,13 @@ sooner None b = b
 sooner (Some a) None = Some a
 sooner (Some a) (Some b) = cond (nat_lt b.stamp a.stamp) (Some b) (Some a)
 
--- the key of this number, as the first offer of a goroutine
-abbrev pub owned : List (Option ℕ) → ℕ → Option ℕ
-owned keys n = slice_index_or keys n None
-
 -- the slots, the items, the time, and both rings
 pub record IsQueues (xs : List (Option Node)) (items : List (Option Item)) (t : ℕ) (rows : List ℕ) (heads : List (Option ℕ)) (goroutines : List ℕ) (owners : List (Option ℕ)) : Type 0 where
   pub apart : AreApart xs
   pub before : AreBefore t xs
   pub stored : AreStored xs items
   pub row : IsSide by_row xs rows (head_at heads)
-  pub own : IsSide by_number xs goroutines (owned owners)
+  pub own : IsSide by_number xs goroutines (head_at owners)
 
 -- all but the one that was first
 abbrev pub without_first : Option Waiting → List Waiting → List Waiting

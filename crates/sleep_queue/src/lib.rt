@@ -5,6 +5,7 @@ mod heads;
 mod items;
 mod numbered_keys;
 mod offer;
+mod owners;
 mod queues;
 mod rings;
 

@@ -1,26 +1,40 @@
 //! Keys by numbers.
 
-ghost use Rattle.std.specs.Prelude.{◌≡◌, ◌≢◌, ◌<◌, ℕ, None, Some, IfOk, OnErr, OnOk, length};
-ghost use Rattle.sleep_queue.specs.Queue.{head_with, head_without, owned};
+ghost use Rattle.std.specs.Prelude.{◌≡◌, ◌≢◌, ◌<◌, ◌%◌, ℕ, None, Some, IfOk, IfSome, OnErr, OnOk, false, length, true};
+ghost use Rattle.std.specs.Option.{option_or};
+ghost use Rattle.sleep_queue.specs.Keys.{far_key, is_free_for, key_for, near_at, owned};
+ghost use Rattle.sleep_queue.specs.declared.numbered_keys.TheConstants.{NEAR};
 
-use crate::heads::{head_of, head_with, head_without, set_head};
 use go_text::Memory;
 use std::alloc::{AllocError, Global};
+use std::collections::HashMap;
 use std::marker::Model;
 
-/// A key for some numbers. It takes room up to the highest number that had one, and a key is found at once.
+/// How many places the short list of `NumberedKeys` has at most.
+const NEAR: u64 = 1_024;
+
+/// A key, and the number that has it.
+#[derive(Clone, Copy)]
+pub(crate) struct NumberedKey {
+    pub number: u64,
+    pub key: usize,
+}
+
+/// A key for some numbers, which is found at once. Its size depends on how many numbers have one, not on how high they are:
+/// most stand in a short list of at most 24 KiB, at the place that is the number's remainder. If that place is another
+/// number's, they stand in a map.
 #[derive(Drop)]
 pub struct NumberedKeys {
-    /// The key of number n, if it has one, is at place n.
-    keys: Vec<Option<usize>>,
+    near: Vec<Option<NumberedKey>>,
+    far: HashMap<u64, usize>,
 }
 
 impl Model for NumberedKeys {
-    ghost use Rattle.std.specs.Prelude.{ℕ, List, Option};
+    ghost use Rattle.sleep_queue.specs.Keys.{KeysValue};
 
-    ghost Value = { List (Option ℕ) };
+    ghost Value = { KeysValue };
 
-    ghost view = { λ k. k.keys.items };
+    ghost view = { λ k. record { near = k.near.items; far = k.far.entries } };
 }
 
 impl NumberedKeys {
@@ -29,7 +43,8 @@ impl NumberedKeys {
         ensures { (n : ℕ) → owned result n ≡ None }
     {
         NumberedKeys {
-            keys: Vec::new(alloc),
+            near: Vec::new(alloc),
+            far: HashMap::new(alloc),
         }
     }
 
@@ -37,76 +52,194 @@ impl NumberedKeys {
     pub fn get(&self, number: u64) -> Option<usize>
         ensures { result ≡ owned self.now number }
     {
-        head_of(self.keys.as_slice(), number as usize)
+        match near_key(self.near.as_slice(), number) {
+            Some(key) => Some(key),
+            None => far_key(&self.far, number),
+        }
     }
 
-    /// This is the number's key now: the one that it had.
+    /// Gives the number this key. Returns the key that it had.
     ///
     /// # Errors
     ///
-    /// `Memory` where memory is refused.
+    /// `Memory` if memory is refused.
+    #[inline(always)]
     pub fn insert(&mut self, number: u64, key: usize) -> Result<Option<usize>, Memory>
         ensures old { IfOk result (λ old. old ≡ owned self.old number) }
         ensures own { OnOk result (owned self.new number ≡ Some key) }
         ensures others { OnOk result ((n : ℕ) → n ≢ number → owned self.new n ≡ owned self.old n) }
         ensures memory { OnErr result (self.new ≡ self.old) }
     {
-        self.cover(number)?;
+        let entry = NumberedKey { number, key };
+        if self.far.is_empty() && fill_near(self.near.as_mut_slice(), entry) {
+            return Ok(None);
+        }
+        self.insert_anywhere(number, key)
+    }
+
+    /// Like `insert`, whatever stands at the number's place. It is a call, so that it takes no part in what is called often.
+    #[inline(never)]
+    fn insert_anywhere(&mut self, number: u64, key: usize) -> Result<Option<usize>, Memory>
+        ensures old { IfOk result (λ old. old ≡ owned self.old number) }
+        ensures own { OnOk result (owned self.new number ≡ Some key) }
+        ensures others { OnOk result ((n : ℕ) → n ≢ number → owned self.new n ≡ owned self.old n) }
+        ensures memory { OnErr result (self.new ≡ self.old) }
+    {
         let old = self.get(number);
-        set_head(&mut self.keys, number as usize, Some(key));
+        if is_free(self.near.as_slice(), number) {
+            put_near(&mut self.near, NumberedKey { number, key })?;
+        } else {
+            self.far.insert(number, key)?;
+        }
         Ok(old)
     }
 
-    /// The number has no key any more: the one that it had.
+    /// Takes the number's key away. Returns the key that it had.
+    #[inline(always)]
     pub fn remove(&mut self, number: u64) -> Option<usize>
         ensures old { result ≡ owned self.old number }
         ensures own { owned self.new number ≡ None }
         ensures others { (n : ℕ) → n ≢ number → owned self.new n ≡ owned self.old n }
     {
-        let old = self.get(number);
-        set_head(&mut self.keys, number as usize, None);
-        old
-    }
-
-    /// Key `key` enters behind the number's others: the first of these.
-    pub(crate) fn join(&mut self, number: u64, key: usize) -> Result<Option<usize>, Memory>
-        ensures head { IfOk result (λ head. head ≡ owned self.old number) }
-        ensures own { IfOk result (λ head. owned self.new number ≡ head_with head key) }
-        ensures others { OnOk result ((n : ℕ) → n ≢ number → owned self.new n ≡ owned self.old n) }
-        ensures memory { OnErr result (self.new ≡ self.old) }
-    {
-        self.cover(number)?;
-        let first = self.get(number);
-        set_head(&mut self.keys, number as usize, head_with(first, key));
-        Ok(first)
-    }
-
-    /// Key `key` leaves the number's others, where `after` followed it.
-    pub(crate) fn part(&mut self, number: u64, key: usize, after: usize)
-        ensures own { owned self.new number ≡ head_without (owned self.old number) key after }
-        ensures others { (n : ℕ) → n ≢ number → owned self.new n ≡ owned self.old n }
-    {
-        let first = self.get(number);
-        set_head(
-            &mut self.keys,
-            number as usize,
-            head_without(first, key, after),
-        );
-    }
-
-    /// Makes room for a number's key.
-    fn cover(&mut self, number: u64) -> Result<(), AllocError>
-        ensures covered { OnOk result (number < length self.new) }
-        ensures same { (n : ℕ) → owned self.new n ≡ owned self.old n }
-        ensures memory { OnErr result (self.new ≡ self.old) }
-    {
-        let place = number as usize;
-        if place < self.keys.len() {
-            return Ok(());
+        let near = cut_near(self.near.as_mut_slice(), number);
+        if self.far.is_empty() {
+            return near;
         }
-        let Some(size) = place.checked_add(1) else {
-            return Err(AllocError);
-        };
-        self.keys.resize(size, None)
+        first_of(near, cut_far(&mut self.far, number))
     }
+}
+
+/// The first key, or else the second one.
+fn first_of(near: Option<usize>, far: Option<usize>) -> Option<usize>
+    ensures { result ≡ option_or near far }
+{
+    match near {
+        Some(key) => Some(key),
+        None => far,
+    }
+}
+
+/// The key that stands for a number at its place.
+fn near_key(near: &[Option<NumberedKey>], number: u64) -> Option<usize>
+    ensures { result ≡ key_for (near_at near.now number) number }
+{
+    match at(near, number) {
+        Some(entry) if entry.number == number => Some(entry.key),
+        _ => None,
+    }
+}
+
+/// Whether no other number stands at a number's place.
+fn is_free(near: &[Option<NumberedKey>], number: u64) -> bool
+    ensures { result ≡ is_free_for (near_at near.now number) number }
+{
+    match at(near, number) {
+        Some(entry) => entry.number == number,
+        None => true,
+    }
+}
+
+/// What stands at a number's place.
+fn at(near: &[Option<NumberedKey>], number: u64) -> Option<NumberedKey>
+    ensures { result ≡ near_at near.now number }
+{
+    let place = (number % NEAR) as usize;
+    if place < near.len() {
+        near[place]
+    } else {
+        None
+    }
+}
+
+/// Makes room for a number's place.
+fn cover(near: &mut Vec<Option<NumberedKey>>, number: u64) -> Result<(), AllocError>
+    ensures covered { OnOk result (number % NEAR < length near.new.items) }
+    ensures same { (n : ℕ) → near_at near.new.items n ≡ near_at near.old.items n }
+    ensures memory { OnErr result (near.new.items ≡ near.old.items) }
+{
+    let place = (number % NEAR) as usize;
+    if place < near.len() {
+        return Ok(());
+    }
+    near.resize(place + 1, None)
+}
+
+/// This stands at a number's place now.
+fn set_near(near: &mut Vec<Option<NumberedKey>>, number: u64, entry: Option<NumberedKey>)
+    requires { IfSome entry (λ e. number % NEAR < length near.old.items) }
+    ensures own { near_at near.new.items number ≡ entry }
+    ensures others { (n : ℕ) → n % NEAR ≢ number % NEAR → near_at near.new.items n ≡ near_at near.old.items n }
+{
+    let place = (number % NEAR) as usize;
+    if place < near.len() {
+        near[place] = entry;
+    }
+}
+
+/// A number's key stands at its place, which is no other number's.
+fn put_near(near: &mut Vec<Option<NumberedKey>>, entry: NumberedKey) -> Result<(), AllocError>
+    requires { is_free_for (near_at near.old.items entry.number) entry.number ≡ true }
+    ensures own { OnOk result (key_for (near_at near.new.items entry.number) entry.number ≡ Some entry.key) }
+    ensures others { OnOk result ((n : ℕ) → n ≢ entry.number → key_for (near_at near.new.items n) n ≡ key_for (near_at near.old.items n) n) }
+    ensures memory { OnErr result (near.new.items ≡ near.old.items) }
+{
+    cover(near, entry.number)?;
+    set_near(near, entry.number, Some(entry));
+    Ok(())
+}
+
+/// A number's key stands at its place if nothing stood there.
+#[inline(always)]
+fn fill_near(near: &mut [Option<NumberedKey>], entry: NumberedKey) -> bool
+    ensures free { result ≡ true → near_at near.old entry.number ≡ None }
+    ensures own { result ≡ true → key_for (near_at near.new entry.number) entry.number ≡ Some entry.key }
+    ensures others { result ≡ true → (n : ℕ) → n ≢ entry.number → key_for (near_at near.new n) n ≡ key_for (near_at near.old n) n }
+    ensures same { result ≡ false → near.new ≡ near.old }
+{
+    let place = (entry.number % NEAR) as usize;
+    if place >= near.len() || near[place].is_some() {
+        return false;
+    }
+    near[place] = Some(entry);
+    true
+}
+
+/// A number has no key at its place any more: the one that it had there.
+#[inline(always)]
+fn cut_near(near: &mut [Option<NumberedKey>], number: u64) -> Option<usize>
+    ensures old { result ≡ key_for (near_at near.old number) number }
+    ensures own { key_for (near_at near.new number) number ≡ None }
+    ensures others { (n : ℕ) → n ≢ number → key_for (near_at near.new n) n ≡ key_for (near_at near.old n) n }
+{
+    let place = (number % NEAR) as usize;
+    if place >= near.len() {
+        return None;
+    }
+    match near[place] {
+        Some(entry) if entry.number == number => {
+            near[place] = None;
+            Some(entry.key)
+        }
+        _ => None,
+    }
+}
+
+/// The key that a number has in a map.
+fn far_key(far: &HashMap<u64, usize>, number: u64) -> Option<usize>
+    ensures { result ≡ far_key far.now.entries number }
+{
+    if far.is_empty() {
+        return None;
+    }
+    far.get(&number).copied()
+}
+
+/// A number has no key in a map any more: the one that it had there.
+#[inline(never)]
+fn cut_far(far: &mut HashMap<u64, usize>, number: u64) -> Option<usize>
+    ensures old { result ≡ far_key far.old.entries number }
+    ensures own { far_key far.new.entries number ≡ None }
+    ensures others { (n : ℕ) → n ≢ number → far_key far.new.entries n ≡ far_key far.old.entries n }
+{
+    far.remove(&number)
 }

@@ -63,6 +63,6 @@ pub(crate) struct Kept {
 #[derive(Drop)]
 pub(crate) struct Node {
     pub row: usize,
-    pub stamp: u64,
+    pub stamp: u128,
     pub offer: Kept,
 }

@@ -1,14 +1,17 @@
 //! Rows of offers.
 
-ghost use Rattle.std.specs.Prelude.{◌≡◌, ◌≢◌, ℕ, ◌+◌, ◌*◌, ◌<◌, ◌≤◌, List, Option, None, Some, [], ◌∷◌, ◌++◌, length, IfOk, IfNone, IfSome, OnErr, OnOk, OnSome, option_copied, option_map};
+ghost use Rattle.std.specs.Prelude.{◌≡◌, ◌≢◌, ℕ, ◌+◌, ◌*◌, ◌<◌, ◌≤◌, List, Option, None, Some, [], ◌∷◌, ◌++◌, length, IfOk, IfNone, IfSome, OnErr, OnOk, OnSome, option_copied, option_map, true};
 ghost use Rattle.std.specs.List.{filter};
 ghost use Rattle.sleep_queue.specs.Stored.{offer_of, view_of};
-ghost use Rattle.sleep_queue.specs.Queue.{Waiting, first, head_at, head_with, head_without, is_at, is_in_either, is_not_of, is_of, is_other, node_at, row_of, sooner, without_first};
+ghost use Rattle.sleep_queue.specs.Queue.{AreApart, AreBefore, IsFirst, IsRing, Waiting, by_row, first, head_at, head_with, head_without, in_order, is_at, is_in_either, is_not_of, is_of, is_other, node_at, places_by, row_of, sooner, without_first};
+ghost use Rattle.sleep_queue.specs.Linked.{link};
+ghost use Rattle.slab.specs.Slab.{get};
+ghost use Rattle.std.specs.Option.{is_some};
 
 use crate::heads::{head_of, head_with, head_without, set_head};
 use crate::items::{forget, lend, store};
-use crate::numbered_keys::NumberedKeys;
 use crate::offer::{Kept, Node, Offer, OfferView};
+use crate::owners::Owners;
 use crate::rings::Rings;
 use go_text::Memory;
 use slab::Slab;
@@ -27,7 +30,7 @@ pub struct SleepQueues {
     /// The items of offers to send.
     items: Slab<Item>,
     /// Above the stamp of each offer.
-    time: u64,
+    time: u128,
     /// Each row is a ring of the keys of its offers.
     rows: Rings,
     /// Each row's first offer.
@@ -35,7 +38,7 @@ pub struct SleepQueues {
     /// Each goroutine's offers are a ring of their keys.
     own: Rings,
     /// Each goroutine's first offer.
-    owners: NumberedKeys,
+    owners: Owners,
 }
 
 impl Model for SleepQueues {
@@ -62,7 +65,7 @@ impl SleepQueues {
             rows: Rings::new(alloc),
             heads: Vec::new(alloc),
             own: Rings::new(alloc),
-            owners: NumberedKeys::new(alloc),
+            owners: Owners::new(alloc),
         }
     }
 
@@ -86,7 +89,11 @@ impl SleepQueues {
         self.heads.len()
     }
 
-    /// An offer enters a row at its back: its key.
+    /// An offer enters a row at its back. Returns its key.
+    ///
+    /// # Errors
+    ///
+    /// `Memory` if memory is refused, or after 2^128 offers.
     pub fn enter(&mut self, row: usize, offer: OfferView<'_>) -> Result<usize, Memory>
         requires { row < self.old.rows }
         ensures ok { IfOk result (λ key. self.new ≡ record self.old { waiting = self.old.waiting ++ record { key = key; row = row; offer = view_of offer.entry } ∷ [] }) }
@@ -141,6 +148,25 @@ impl SleepQueues {
         ) {
             Some(node) => Some(lend(&self.items, &node.offer)),
             None => None,
+        }
+    }
+
+    /// How many offers two rows have. Only these are visited.
+    pub fn count_of_two(&self, row: usize, other: usize) -> usize
+        requires { row ≢ other }
+        ensures { result ≡ length (filter (is_in_either row other) self.now.waiting) }
+    {
+        let _most = self.slots.capacity();
+        self.count(row) + self.count(other)
+    }
+
+    /// How many offers a row has.
+    fn count(&self, row: usize) -> usize
+        ensures { result ≡ length (row_of row self.now.waiting) }
+    {
+        match head_of(self.heads.as_slice(), row) {
+            Some(head) => count_from(&self.slots, &self.rows, row, head),
+            None => 0,
         }
     }
 
@@ -231,11 +257,31 @@ impl SleepQueues {
     }
 }
 
-/// The time after this one; none after the last.
-fn later(time: u64) -> Option<u64>
+/// The time after this one; none after 2^128 - 1.
+fn later(time: u128) -> Option<u128>
     ensures { IfSome result (λ t. t ≡ time + 1) }
 {
     time.checked_add(1)
+}
+
+/// How many offers a row has, `head` being the key of its first one.
+fn count_from(slots: &Slab<Node>, rows: &Rings, row: usize, head: usize) -> usize
+    requires apart { AreApart slots.now.slots }
+    requires ring { IsRing (places_by by_row slots.now.slots) (link rows.now.next) }
+    requires first { IsFirst (places_by by_row slots.now.slots) row head }
+    requires covered { (k : ℕ) → is_some (get slots.now k) ≡ true → k < length rows.now.next }
+    ensures { (t : ℕ) → AreBefore t slots.now.slots → result ≡ length (row_of row (in_order slots.now.slots t)) }
+{
+    let _most = slots.capacity();
+    let mut count = 1;
+    let mut last = head;
+    let mut next = rows.next(last);
+    while next != head {
+        count += 1;
+        last = next;
+        next = rows.next(last);
+    }
+    count
 }
 
 /// The first offer of a row, with its stamp.

@@ -27,6 +27,7 @@ use Rattle.goroutine_vm.proofs.sleeping.Sleeping.TheSendSync.{the_send as sleepi
 use Rattle.goroutine_vm.proofs.state.GoState.TheSendSync.{the_send as state_send}
 use Rattle.slab.proofs.Slab.TheSendSync.{the_send as slab_send}
 use Rattle.sleep_queue.proofs.numbered_keys.NumberedKeys.TheSendSync.{the_send as keys_send}
+use Rattle.sleep_queue.proofs.owners.Owners.TheSendSync.{the_send as owners_send}
 use Rattle.sleep_queue.proofs.rings.Rings.TheSendSync.{the_send as rings_send}
 use Rattle.sleep_queue.specs.contracts.offer.Kept as Kept
 use Rattle.sleep_queue.specs.contracts.offer.Node as Node
@@ -113,7 +114,7 @@ queues_inside =
         search (sendable, crosses, slab_send, node_send) depth 20,
         (
           search (sendable, crosses, slab_send, item_send) depth 20,
-          (search sendable, (rings_send, (search (sendable, crosses) depth 20, (rings_send, (keys_send, tt))))),
+          (search sendable, (rings_send, (search (sendable, crosses) depth 20, (rings_send, (owners_send, tt))))),
         ),
       ),
     ))

@@ -3,7 +3,7 @@ use Rattle.logical_clock.specs.declared.limits.TheConstants.{MAX_GOROUTINES}
 use Rattle.std.proofs.Common.{◌≡◌, ◌≢◌, ℕ, ◌+◌, ◌≤◌, ℤ, pos, negsuc, Bool, true, false, cond, List, [], ◌∷◌, ◌++◌, map, length, Option, Some, None, refl, sym, ◌∙◌, arith}
 use Rattle.std.specs.Prelude.{◌==◌, nat_lt}
 use Rattle.std.proofs.lemmas.Bool.{true≢false, eq-eqb}
-use Rattle.std.proofs.lemmas.List.{map-append}
+use Rattle.std.proofs.lemmas.List.{length-map, map-append}
 use Rattle.word.specs.declared.request.Case.{Case}
 use Rattle.word.specs.declared.value.Word.{Word}
 use Rattle.word.specs.declared.panic.Panic.TheVariants.{CloseOfClosed, ChannelSize, SendOnClosed, TooManyChannels, TooManyGoroutines}
@@ -75,13 +75,8 @@ once_partners c z (s ∷ ss) h = go (once_partners c z ss h.1) (first_on c (offe
     go rest None = rest
     go rest (Some o) = (misses_partners s.number c z ss h.0, rest)
 
-few_partners : (c : ℕ) (z : Item) (ss : List Sleeper) → length (closed z (partners c ss)) ≤ length ss
-few_partners c z [] = omega arith
-few_partners c z (s ∷ ss) = go (first_on c (offers s.request)) (few_partners c z ss)
-  where
-    go : (o : Option Offer) → length (closed z (partners c ss)) ≤ length ss → length (closed z (also s o (partners c ss))) ≤ length (s ∷ ss)
-    go None le = omega (arith, le)
-    go (Some o) le = omega (arith, le)
+as_many : (c : ℕ) (z : Item) (ss : List Sleeper) → length (closed z (partners c ss)) ≡ length (partners c ss)
+as_many c z ss = length-map (partners c ss) (λ (p : Sleeper × Offer). (p.0.number, close_reply z p.1))
 
 -- ---- each request
 
@@ -159,21 +154,21 @@ module _ (w : Shared) (n c : ℕ) (q : Request) (most : ℕ) where
       below : {k : ℕ} → k ≤ MAX_GOROUTINES → k ≢ MAX_GOROUTINES → k + 1 ≤ MAX_GOROUTINES
       below h ne = omega arith
 
-  by_close : (k : ℕ) → length w.asleep ≤ most → Orderly w most (do_close w n c q k)
+  by_close : (k : ℕ) → length (partners k w.asleep) ≤ most → Orderly w most (do_close w n c q k)
   by_close k le =
       let ch = channel_of w.channels k in
       by_cond ch.closed (panics w n c q CloseOfClosed 0) _ (by_ends _ _)
-      (by_done _ _ (closed ch.zero (partners k w.asleep)) refl refl refl (once_partners k ch.zero w.asleep) (let few = few_partners k ch.zero w.asleep in omega (arith, few, le)))
+      (by_done _ _ (closed ch.zero (partners k w.asleep)) refl refl refl (once_partners k ch.zero w.asleep) (let few = as_many k ch.zero w.asleep in omega (arith, few, le)))
 
-pub orderly : (w : Shared) (n c : ℕ) (p q : Request) → Orderly w (most_woken q (length w.asleep)) (act w n c p q)
+pub orderly : (w : Shared) (n c : ℕ) (p q : Request) → Orderly w (most_woken q w.asleep) (act w n c p q)
 orderly w n c p (Make size z) = by_make w n c p 1 size z
 orderly w n c p (Go f args) = by_go w n c p 1 f args
 orderly w n c p (Send None item) = by_sleeps w n c p 1
 orderly w n c p (Send (Some k) item) = by_cond w n c p 1 (send_ready w n c p k) (do_send w n c p k item 0) (sleeps w n c p) (by_send w n c p 1 (omega arith) k item 0) (by_sleeps w n c p 1)
 orderly w n c p (Receive None) = by_sleeps w n c p 1
 orderly w n c p (Receive (Some k)) = by_cond w n c p 1 (receive_ready w n c p k) (do_receive w n c p k 0) (sleeps w n c p) (by_receive w n c p 1 (omega arith) k 0) (by_sleeps w n c p 1)
-orderly w n c p (Close None) = by_ends w n c p (length w.asleep) _ _
-orderly w n c p (Close (Some k)) = by_close w n c p (length w.asleep) k (omega arith)
+orderly w n c p (Close None) = by_ends w n c p 0 _ _
+orderly w n c p (Close (Some k)) = by_close w n c p (length (partners k w.asleep)) k (omega arith)
 orderly w n c p (Select cases default) = by_select w n c p 1 (omega arith) default (choose w n c p cases)
 orderly w n c p (Len None) = by_done w n c p 1 w _ [] refl refl refl (λ h. tt) (omega arith)
 orderly w n c p (Len (Some k)) = by_done w n c p 1 w _ [] refl refl refl (λ h. tt) (omega arith)

@@ -261,7 +261,7 @@ module _ (code : Code) (limit : ℕ) where
   LeavesAll core n clock means s event bytes new = (o : Others) → Beside core o → Left core n clock means s o event bytes new
 
   left_core : (core : CoreValue) (m : CodeMachine) (n clock : ℕ) (means : Request) (s : State) (o : Others) (d : Deed) (event : Event) → IsCoreOf m core → FitsCore code limit core → n < length core.beds → (shared_of m).made ≡ o.made → length o.events ≡ core.events
-      → Fair core.channels.asleep n means d → Orderly (shared_with o core.channels) (most_woken means (length core.channels.asleep)) d → Quiet d.fate d.woken d.started → d.shared.events ≡ o.events ++ event ∷ [] → IsCoreOf (after_deed m n s d) (core_after code core n s d)
+      → Fair core.channels.asleep n means d → Orderly (shared_with o core.channels) (most_woken means core.channels.asleep) d → Quiet d.fate d.woken d.started → d.shared.events ≡ o.events ++ event ∷ [] → IsCoreOf (after_deed m n s d) (core_after code core n s d)
   left_core core m n clock means s o d event h fits l made count fair ord quiet events =
       let w = woken_length d.woken (slice_set core.rows n (actor_row code s (s.clock + 1) d.fate)) (actor_beds core.beds n s d.fate) (s.clock + 1) in
       let x = started_length d.started (woken_rows code (slice_set core.rows n (actor_row code s (s.clock + 1) d.fate)) (actor_beds core.beds n s d.fate) (s.clock + 1) d.woken) (s.clock + 1) in
@@ -290,7 +290,7 @@ module _ (code : Code) (limit : ℕ) where
       let is : act w n clock means means ≡ g.deed = ap (λ x. act x n clock means means) (sym shared) ∙ g.is in
       let machine : perform_row (rules (code_kind code) limit) m n (slice_index_or m.rows n None) ≡ after_deed m n s g.deed = asked_deed core m n clock means a h ∙ ap (after_deed m n s) is in
       let fair' : Fair core.channels.asleep n means g.deed = subst (Fair core.channels.asleep n means) g.is (fair (shared_with o core.channels) n clock means) in
-      let ord : Orderly (shared_with o core.channels) (most_woken means (length core.channels.asleep)) g.deed = subst (Orderly (shared_with o core.channels) (most_woken means (length core.channels.asleep))) g.is (orderly (shared_with o core.channels) n clock means means) in
+      let ord : Orderly (shared_with o core.channels) (most_woken means core.channels.asleep) g.deed = subst (Orderly (shared_with o core.channels) (most_woken means core.channels.asleep)) g.is (orderly (shared_with o core.channels) n clock means means) in
       let within = there core.rows n a.row a.here in
       let size = fits.size in
       let left = left_core core m n clock means s o g.deed (event_of event) h fits (omega (arith, within, size)) refl (sym h.events) fair' ord g.quiet g.events in
@@ -339,7 +339,7 @@ module _ (code : Code) (limit : ℕ) where
       let g = all o (record { live = refl; ending = refl; made = omega (arith, within) }) in
       let d = g.deed in
       let fair' : Fair core.channels.asleep n means d = subst (Fair core.channels.asleep n means) g.is (fair (shared_with o core.channels) n clock means) in
-      let ord : Orderly (shared_with o core.channels) (most_woken means (length core.channels.asleep)) d = subst (Orderly (shared_with o core.channels) (most_woken means (length core.channels.asleep))) g.is (orderly (shared_with o core.channels) n clock means means) in
+      let ord : Orderly (shared_with o core.channels) (most_woken means core.channels.asleep) d = subst (Orderly (shared_with o core.channels) (most_woken means core.channels.asleep)) g.is (orderly (shared_with o core.channels) n clock means means) in
       let both = after_fits core n s d a.verified fits a.state (λ p. subst (λ c. c < limit) (sym a.time) (g.later p)) g.quiet (within_started means d.started (starts_within code limit core n clock means a) fair'.started) in
       let w = woken_length d.woken (slice_set core.rows n (actor_row code s (s.clock + 1) d.fate)) (actor_beds core.beds n s d.fate) (s.clock + 1) in
       let x = started_length d.started (woken_rows code (slice_set core.rows n (actor_row code s (s.clock + 1) d.fate)) (actor_beds core.beds n s d.fate) (s.clock + 1) d.woken) (s.clock + 1) in

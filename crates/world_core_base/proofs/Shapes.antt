@@ -7,6 +7,8 @@ use Rattle.std.proofs.lemmas.List.{append-nil, get_or_append_left, length-map, s
 use Rattle.bytecode.specs.Code.{Code}
 use Rattle.bytecode.specs.Machine.{code_begin, code_kind}
 use Rattle.channel_core.specs.Channels.{ChannelsValue, Others, shared_with, DoesAt, deed_of}
+use Rattle.channel_core.proofs.Meeting.{length-partners}
+use Rattle.channel_core.proofs.Offered.{partners_few}
 use Rattle.channel_core.specs.declared.outcome.Outcome.{Outcome}
 use Rattle.channel_core.specs.declared.outcome.Outcome.TheVariants as outcomes
 use Rattle.turn_rule.specs.declared.Row.{Row}
@@ -16,9 +18,9 @@ use Rattle.word.specs.declared.panic.Panic.TheVariants.{TooManyGoroutines}
 use Rattle.word.specs.declared.value.Word.{Word}
 use Rattle.word.specs.Kinds.{at, told}
 use Rattle.word.specs.Requests.{Deed, GoesOn, Leaves, act, ends, panics}
-use Rattle.word.specs.Values.{Request, Make, Go, Send, Receive, Close, Select, Len, Cap, Print, End, Exit, Panic, Exhausted, Reply, Nothing, EventOutcome as Came, Done, Sleeps, Panics, Event}
+use Rattle.word.specs.Values.{Request, Make, Go, Send, Receive, Close, Select, Len, Cap, Print, End, Exit, Panic, Exhausted, Reply, Nothing, EventOutcome as Came, Done, Sleeps, Panics, Event, Sleeper}
 use Rattle.word.specs.Views.{reply_of}
-use Rattle.world_core_base.specs.Cores.{CoreValue, IsAsked, woken_rows, left_beds, most_woken}
+use Rattle.world_core_base.specs.Cores.{CoreValue, IsAsked, woken_rows, left_beds, most_offered, most_woken}
 use Rattle.awake_rows.specs.Slots.{State, Rows, Beds, answered_rows, free_row}
 use Rattle.world_core_base.proofs.Orderly.{Orderly, orderly}
 use Rattle.world_core_base.proofs.Performing.{Beside, LeavesAll, there}
@@ -187,36 +189,54 @@ woken_of outcomes.Sleeps = []
 woken_of (outcomes.Panics cause k) = []
 
 -- a request wakes no more than it may
-pub few_woken : (channels : ChannelsValue) (n c : ℕ) (means : Request) (outcome : Outcome) (new : ChannelsValue) → DoesAt channels n c means outcome new → length (woken_of outcome) ≤ most_woken means (length channels.asleep)
+pub few_woken : (channels : ChannelsValue) (n c : ℕ) (means : Request) (outcome : Outcome) (new : ChannelsValue) → DoesAt channels n c means outcome new → length (woken_of outcome) ≤ most_woken means channels.asleep
 few_woken channels n c means (outcomes.Done reply woken) new does =
     let o : Others = record { output = []; live = 0; made = 0; events = []; ending = None } in
-    let ord : Orderly (shared_with o channels) (most_woken means (length channels.asleep)) (deed_of o n c means (outcomes.Done reply woken) new) = subst (Orderly (shared_with o channels) (most_woken means (length channels.asleep))) (does o) (orderly (shared_with o channels) n c means means) in
+    let ord : Orderly (shared_with o channels) (most_woken means channels.asleep) (deed_of o n c means (outcomes.Done reply woken) new) = subst (Orderly (shared_with o channels) (most_woken means channels.asleep)) (does o) (orderly (shared_with o channels) n c means means) in
     ord.few
 few_woken channels n c means outcomes.Sleeps new does = omega arith
 few_woken channels n c means (outcomes.Panics cause k) new does = omega arith
 
 -- whom a request wakes are at most those who are asleep, or one
-most_within : (means : Request) (n : ℕ) → most_woken means n ≤ max n 1
-most_within (Close c) n = omega arith
-most_within (Make size zero) n = omega arith
-most_within (Go f args) n = omega arith
-most_within (Send c item) n = omega arith
-most_within (Receive c) n = omega arith
-most_within (Select cases default) n = omega arith
-most_within (Len c) n = omega arith
-most_within (Cap c) n = omega arith
-most_within (Print bytes) n = omega arith
-most_within End n = omega arith
-most_within Exit n = omega arith
-most_within (Panic cause) n = omega arith
-most_within Exhausted n = omega arith
+most_within : (means : Request) (ss : List Sleeper) → most_woken means ss ≤ max (length ss) 1
+most_within (Close None) ss = omega arith
+most_within (Close (Some k)) ss = let few = length-partners k ss in omega (arith, few)
+most_within (Make size zero) ss = omega arith
+most_within (Go f args) ss = omega arith
+most_within (Send c item) ss = omega arith
+most_within (Receive c) ss = omega arith
+most_within (Select cases default) ss = omega arith
+most_within (Len c) ss = omega arith
+most_within (Cap c) ss = omega arith
+most_within (Print bytes) ss = omega arith
+most_within End ss = omega arith
+most_within Exit ss = omega arith
+most_within (Panic cause) ss = omega arith
+most_within Exhausted ss = omega arith
+
+-- and at most as many as offer something there
+pub most_met : (means : Request) (ss : List Sleeper) → most_woken means ss ≤ most_offered means ss
+most_met (Close None) ss = omega arith
+most_met (Close (Some k)) ss = partners_few k ss
+most_met (Make size zero) ss = omega arith
+most_met (Go f args) ss = omega arith
+most_met (Send c item) ss = omega arith
+most_met (Receive c) ss = omega arith
+most_met (Select cases default) ss = omega arith
+most_met (Len c) ss = omega arith
+most_met (Cap c) ss = omega arith
+most_met (Print bytes) ss = omega arith
+most_met End ss = omega arith
+most_met Exit ss = omega arith
+most_met (Panic cause) ss = omega arith
+most_met Exhausted ss = omega arith
 
 -- so the numbers of those whom it wakes are as few
 pub few_partners : (channels : ChannelsValue) (n c : ℕ) (means : Request) (outcome : Outcome) (new : ChannelsValue) → DoesAt channels n c means outcome new → (partners : List ℕ) → partners ≡ map (λ (w : ℕ × Reply). w.0) (woken_of outcome)
     → length partners ≤ max (length channels.asleep) 1
 few_partners channels n c means outcome new does partners is =
     let few = few_woken channels n c means outcome new does in
-    let within = most_within means (length channels.asleep) in
+    let within = most_within means channels.asleep in
     let long = ap length is ∙ length-map (woken_of outcome) (λ (w : ℕ × Reply). w.0) in
     omega (arith, few, within, long)
 

@@ -4,7 +4,7 @@ use Rattle.std.specs.Option.{is_some, option_map}
 use Rattle.bytecode.specs.Code.{Code}
 use Rattle.bytecode.specs.Machine.{Frames, code_begin, code_kind}
 use Rattle.bytecode.specs.Rules.{IsVerified}
-use Rattle.channel_core.specs.Channels.{ChannelsValue}
+use Rattle.channel_core.specs.Channels.{ChannelsValue, offers_at}
 use Rattle.goroutine_vm.specs.Advance.{IsStateOf}
 use Rattle.logical_clock.specs.declared.key.Key.{Key}
 use Rattle.logical_clock.specs.Order.{keys, least}
@@ -16,7 +16,7 @@ use Rattle.word.specs.declared.request.Event.{Event as Recorded}
 use Rattle.word.specs.declared.request.Request.{Request as Asked}
 use Rattle.word.specs.declared.request.Request.TheVariants as asking
 use Rattle.word.specs.Kinds.{asks, at, told}
-use Rattle.word.specs.Requests.{Deed, Fate, GoesOn, Dozes, Leaves, Stays, asked, no_channel}
+use Rattle.word.specs.Requests.{Deed, Fate, GoesOn, Dozes, Leaves, Stays, asked, no_channel, partners}
 use Rattle.word.specs.declared.value.Word.{Word}
 use Rattle.logical_clock.specs.declared.limits.TheConstants.{MAX_GOROUTINES}
 use Rattle.word.specs.Values.{Request, Close, End, Exit, Exhausted, Go, Panic, Reply, Nothing, EventOutcome, Done, Sleeps, Panics, Event, Sleeper, Shared}
@@ -139,10 +139,17 @@ IsLast q o e = ⊥
 abbrev pub no_event : Event
 no_event = record { clock = 0; number = 0; request = End; outcome = Sleeps; partners = [] }
 
--- how many goroutines a request wakes at most, so many being asleep
-abbrev pub most_woken : Request → ℕ → ℕ
-most_woken (Close c) asleep = asleep
+-- how many goroutines a request wakes at most: those that sleep at a channel that it closes, or one
+abbrev pub most_woken : Request → List Sleeper → ℕ
+most_woken (Close None) asleep = 0
+most_woken (Close (Some k)) asleep = length (partners k asleep)
 most_woken q asleep = 1
+
+-- how many offers it meets at most
+abbrev pub most_offered : Request → List Sleeper → ℕ
+most_offered (Close None) asleep = 0
+most_offered (Close (Some k)) asleep = offers_at k asleep
+most_offered q asleep = 1
 
 -- how many partners the next event has at most: all that are asleep, or one that is started
 abbrev pub most_partners : CoreValue → ℕ

@@ -9,7 +9,7 @@ ghost use Rattle.logical_clock.specs.Order.{keys, least};
 ghost use Rattle.word.specs.Kinds.{at};
 ghost use Rattle.word.specs.Values.{End as EndRequest, Print as PrintRequest, Reply as AnyReply};
 ghost use Rattle.word.specs.Views.{outcome_of, reply_of, request_of};
-ghost use Rattle.world_core_base.specs.Cores.{Asks, FitsCore, IsAsked, IsGo, IsLast, Performs, Works, bytes_of, ended_as, left_beds, meant_after, most_partners, most_woken, opened_core, to_lend, woken_rows};
+ghost use Rattle.world_core_base.specs.Cores.{Asks, FitsCore, IsAsked, IsGo, IsLast, Performs, Works, bytes_of, ended_as, left_beds, meant_after, most_offered, most_partners, most_woken, opened_core, to_lend, woken_rows};
 ghost use Rattle.awake_rows.specs.Slots.{IsFreeIn, IsUnlent, answered_rows, free_clock, free_row, lent_row};
 
 use crate::waking::{Spare, doze, make_rooms, wake};
@@ -317,7 +317,7 @@ impl Situation {
         ensures partners { OnOk result (length event.new.partners.items ≤ most_partners self.old) }
         ensures memory { OnErr result (self.new ≡ self.old) }
     {
-        let most = most_woken(&self.channels, &event.request);
+        let most = most_offered(&self.channels, &event.request);
         make_rooms(alloc, &mut spare.rooms, most)?;
         event.partners.reserve(most)?;
         let woken = &mut spare.woken;
@@ -530,12 +530,15 @@ fn next_time(clock: Clock, limit: u64) -> Clock
     Clock::at(clock.time() + 1)
 }
 
-/// The most goroutines that a request wakes.
-fn most_woken(channels: &Channels, request: &Request) -> usize
-    ensures { result ≡ most_woken (request_of request.now) (length channels.now.asleep) }
+/// How many offers a request meets at most: at least as many as the goroutines that it wakes.
+#[tactic(auto, using(crate::proofs::Shapes::most_met))]
+fn most_offered(channels: &Channels, request: &Request) -> usize
+    ensures offers { result ≡ most_offered (request_of request.now) channels.now.asleep }
+    ensures woken { most_woken (request_of request.now) channels.now.asleep ≤ result }
 {
     match request {
-        Request::Close(_) => channels.asleep(),
+        Request::Close(Some(chan)) => channels.offers_at(*chan),
+        Request::Close(None) => 0,
         _ => 1,
     }
 }

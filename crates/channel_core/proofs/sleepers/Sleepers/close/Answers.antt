@@ -2,7 +2,8 @@ use Rattle.std.proofs.Common.{◌≡◌, ◌++◌, ◌∷◌, List, [], ap, sym,
 use Rattle.word.specs.Requests.{partners, without, without_all}
 use Rattle.word.specs.Values.{Reply, Sleeper}
 use Rattle.channel_core.specs.Channels.{closed_for}
-use Rattle.channel_core.proofs.Meeting.{length-partners, one_fewer, told_one, without_all-more}
+use Rattle.channel_core.proofs.Meeting.{one_fewer, told_one, without_all-more}
+use Rattle.channel_core.proofs.Offered.{partners_few}
 use Rattle.channel_core.proofs.sleepers.Sleepers.close.Goals as goal
 
 pub loop-first-init : goal.loop-first-init
@@ -11,7 +12,7 @@ loop-first-init c =
     record {
       woken = ap (λ (l : List (ℕ × Reply)). l ++ closed_for c.args.zero.now (partners c.args.chan c.args.self.now)) items;
       left = ap (λ (l : List (ℕ × Reply)). without_all c.args.self.now l) (sym items);
-      room = omega (arith, length-partners c.args.chan c.args.self.now, c.in_ok-reserve.ensures.ok, c.len.ensures);
+      room = omega (arith, partners_few c.args.chan c.args.self.now, c.in_ok-reserve.ensures.ok, c.offers_at.ensures);
     }
 
 pub loop-first-preserved : goal.loop-first-preserved

@@ -2,7 +2,8 @@ use Rattle.std.proofs.Common.{ℕ, List, ap, sym, ◌∙◌}
 use Rattle.std.specs.Prelude.{option_map}
 use Rattle.std.specs.Option.{is_some}
 use Rattle.slab.specs.Slab.{get, slab_len}
-use Rattle.sleep_queue.specs.Queue.{Waiting, first, owned, row_of}
+use Rattle.sleep_queue.specs.Keys.{owned}
+use Rattle.sleep_queue.specs.Queue.{Waiting, first, row_of}
 use Rattle.sleep_queue.specs.Stored.{view_of}
 use Rattle.word.specs.Requests.{partner}
 use Rattle.word.specs.Values.{Sleeper}

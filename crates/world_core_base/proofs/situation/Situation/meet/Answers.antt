@@ -24,8 +24,8 @@ wake_all-requires-clause-room c =
     let channels = c.ask.new.self.channels in
     let does : DoesAt core.channels ev.number ev.clock means (outcomes.Done c.in-Done.reply c.ask.new.woken) channels = subst (λ (f : Fate). DoesAt core.channels ev.number ev.clock means (came_as f c.ask.new.woken) channels) c.in-Done.is c.in_ok-ask.ensures.does in
     let few = few_woken core.channels ev.number ev.clock means (outcomes.Done c.in-Done.reply c.ask.new.woken) channels does in
-    let most = c.most_woken-most.ensures in
-    let same = ap (λ (x : CoreValue). most_woken means (length x.channels.asleep)) c.self.view_is in
+    let most = c.most_offered-most.ensures.woken in
+    let same = ap (λ (x : CoreValue). most_woken means x.channels.asleep) c.self.view_is in
     let room = c.in_ok-reserve.ensures.ok in
     omega (arith, few, most, same, room)
 
@@ -37,8 +37,8 @@ wake_all-requires-clause-rooms c =
     let channels = c.ask.new.self.channels in
     let does : DoesAt core.channels ev.number ev.clock means (outcomes.Done c.in-Done.reply c.ask.new.woken) channels = subst (λ (f : Fate). DoesAt core.channels ev.number ev.clock means (came_as f c.ask.new.woken) channels) c.in-Done.is c.in_ok-ask.ensures.does in
     let few = few_woken core.channels ev.number ev.clock means (outcomes.Done c.in-Done.reply c.ask.new.woken) channels does in
-    let most = c.most_woken-most.ensures in
-    let same = ap (λ (x : CoreValue). most_woken means (length x.channels.asleep)) c.self.view_is in
+    let most = c.most_offered-most.ensures.woken in
+    let same = ap (λ (x : CoreValue). most_woken means x.channels.asleep) c.self.view_is in
     let rooms = c.in_ok-make_rooms.ensures in
     omega (arith, few, most, same, rooms)
 

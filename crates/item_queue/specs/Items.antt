@@ -1,0 +1,9 @@
+-- Items that stand word by word.
+use Rattle.std.specs.Prelude.{ℕ, zero, suc, List, [], ◌∷◌, drop, take}
+use Rattle.word.specs.declared.value.Word.{Word}
+use Rattle.word.specs.Values.{Item}
+
+-- these words as so many items of this width
+abbrev pub items_in : ℕ → ℕ → List Word → List Item
+items_in width zero words = []
+items_in width (suc count) words = take width words ∷ items_in width count (drop width words)

@@ -1,0 +1,8 @@
+//! The items in a channel's buffer.
+#![tactic(auto)]
+
+mod line;
+mod queue;
+mod words;
+
+pub use queue::ItemQueue;
