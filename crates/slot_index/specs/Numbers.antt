@@ -3,10 +3,12 @@ use Rattle.std.specs.Prelude.{◌≡◌, ◌≢◌, ℕ, List, Option, Some, Non
 use Rattle.std.specs.Option.{is_some}
 use Rattle.std.specs.Map.{lookup}
 
--- each number that has a slot, with its slot; for each slot the number that has it, if one does; and how many slots there is room for
+-- each number that has a slot, with its slot; for each slot the number that has it, if one does; the slot that is given next; and how
+-- many slots there is room for
 pub record Numbered : Type 0 where
   pub slots : List (ℕ × ℕ)
   pub numbers : List (Option ℕ)
+  pub next : ℕ
   pub room : ℕ
 
 -- the number's slot, if it has one

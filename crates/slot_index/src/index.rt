@@ -37,9 +37,9 @@ impl Model for SlotIndex {
 
     ghost Value = { Numbered };
 
-    ghost view = { λ x. record { slots = x.slots.entries; numbers = x.numbers.slots; room = x.numbers.capacity } };
+    ghost view = { λ x. record { slots = x.slots.entries; numbers = x.numbers.slots; next = x.numbers.vacant_key; room = x.numbers.capacity } };
 
-    ghost invariant = { λ x. IsInverse (record { slots = x.slots.entries; numbers = x.numbers.slots; room = x.numbers.capacity }) };
+    ghost invariant = { λ x. IsInverse (record { slots = x.slots.entries; numbers = x.numbers.slots; next = x.numbers.vacant_key; room = x.numbers.capacity }) };
 }
 
 impl SlotIndex {
@@ -75,11 +75,19 @@ impl SlotIndex {
         self.numbers.get(slot).copied()
     }
 
+    /// The slot that is given next.
+    pub fn next(&self) -> usize
+        ensures { result ≡ self.now.next }
+    {
+        self.numbers.vacant_key()
+    }
+
     /// Gives a number a slot, which was free. A new one comes only where none is free.
     ///
     /// Errors: want of memory.
     pub fn give(&mut self, number: u64) -> Result<usize, AllocError>
         requires { slot_of self.old number ≡ None }
+        ensures next { IfOk result (λ slot. slot ≡ self.old.next) }
         ensures gives { IfOk result (λ slot. Gives self.old number slot self.new) }
         ensures within { IfOk result (λ slot. slot < self.new.room) }
         ensures room { OnOk result (living self.old < self.old.room → self.new.room ≡ self.old.room) }
