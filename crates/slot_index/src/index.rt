@@ -1,4 +1,4 @@
-//! Which slot a number has.
+//! The slot of each number that has one.
 
 ghost use Rattle.std.specs.Prelude.{◌≡◌, ◌<◌, ℕ, None, IfOk, OnOk, OnErr};
 ghost use Rattle.slot_index.specs.Numbers.{Frees, Gives, IsInverse, living, number_at, slot_of};
@@ -8,14 +8,14 @@ use std::alloc::{AllocError, Global};
 use std::collections::HashMap;
 use std::marker::Model;
 
-/// The slots of those numbers that have one. A slot that is free is given before a new one, so that memory and time depend on how
-/// many numbers have slots at the same time, and never on how many had one.
+/// The slot of each number that has one. A free slot is given before a new one is added, so memory and time depend on how many
+/// numbers have slots at the same time, not on how many ever had one.
 pub struct SlotIndex {
-    /// The number that has the slot, for each slot.
+    /// For each slot, the number that has it.
     numbers: Slab<u64>,
-    /// The slot that the number has, for each number that has one.
+    /// For each number that has a slot, that slot.
     slots: HashMap<u64, usize>,
-    /// At the place of a number's last binary digits the slot that was found last for such a number. What stands there is tried first.
+    /// A guess at the slot of a number, indexed by the number's last binary digits. It is tried before the map, and may be wrong.
     recent: Vec<usize>,
 }
 
@@ -55,7 +55,7 @@ impl SlotIndex {
         }
     }
 
-    /// The number's slot, if it has one.
+    /// The slot of `number`, if it has one.
     #[inline(always)]
     pub fn slot(&self, number: u64) -> Option<usize>
         ensures { result ≡ slot_of self.now number }
@@ -67,7 +67,7 @@ impl SlotIndex {
         }
     }
 
-    /// The number that has the slot, if one does.
+    /// The number that has `slot`, if there is one.
     #[inline(always)]
     pub fn number(&self, slot: usize) -> Option<u64>
         ensures { result ≡ number_at self.now slot }
@@ -82,9 +82,9 @@ impl SlotIndex {
         self.numbers.vacant_key()
     }
 
-    /// Gives a number a slot, which was free. A new one comes only where none is free.
+    /// Gives `number` a free slot. A slot is added only if none is free.
     ///
-    /// Errors: want of memory.
+    /// Errors: out of memory.
     pub fn give(&mut self, number: u64) -> Result<usize, AllocError>
         requires { slot_of self.old number ≡ None }
         ensures next { IfOk result (λ slot. slot ≡ self.old.next) }
@@ -100,7 +100,7 @@ impl SlotIndex {
         Ok(slot)
     }
 
-    /// The number's slot, if it has one, is free again.
+    /// Frees the slot of `number` and returns it, if there is one.
     pub fn free(&mut self, number: u64) -> Option<usize>
         ensures slot { result ≡ slot_of self.old number }
         ensures frees { Frees self.old number self.new }
@@ -113,7 +113,7 @@ impl SlotIndex {
         slot
     }
 
-    /// A slot is the number's that has it. This does nothing.
+    /// Does nothing. Its contract says that each slot belongs to the number that has it.
     #[inline(always)]
     pub fn is_inverse(&self)
         ensures { IsInverse self.now }
@@ -121,7 +121,7 @@ impl SlotIndex {
         let _slots = &self.slots;
     }
 
-    /// The number's slot, by the map.
+    /// Like `slot`, but looks only in the map.
     #[inline(never)]
     fn look_up(&self, number: u64) -> Option<usize>
         ensures { result ≡ slot_of self.now number }
@@ -129,7 +129,7 @@ impl SlotIndex {
         self.slots.get(&number).copied()
     }
 
-    /// Some slot: mostly the number's, if it has one.
+    /// A slot that is probably the one of `number`, if it has one.
     #[inline(always)]
     fn guess(&self, number: u64) -> usize {
         let place = number as usize & self.recent.len().wrapping_sub(1);
@@ -139,7 +139,8 @@ impl SlotIndex {
         }
     }
 
-    /// The number's slot is to be tried first. Places are as many as a power of two, and no fewer than slots, if there is memory.
+    /// Makes `slot` the guess for `number`. The list has a power of two of guesses, and at least one for each slot unless memory is
+    /// short.
     fn remember(&mut self, number: u64, slot: usize)
         ensures { self.new ≡ self.old }
     {

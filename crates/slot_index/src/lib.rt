@@ -1,4 +1,4 @@
-//! Slots for numbers: few of many numbers have one, and the slots are numbered from 0 on, without large gaps.
+//! Small indexes (slots) for the few numbers that are in use, out of many.
 #![tactic(auto)]
 
 mod index;
