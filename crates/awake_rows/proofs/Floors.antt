@@ -1,6 +1,6 @@
 -- Whose turn it is, by the least floor.
 use Rattle.std.proofs.Common.{◌≡◌, ◌≢◌, ◌∙◌, ℕ, zero, suc, ◌+◌, Bool, true, false, ◌&&◌, ◌||◌, [], ◌∷◌, Option, Some, None, refl, ap, sym, subst, arith, inl, inr}
-use Rattle.std.specs.Prelude.{IfNone, IfSome, slice_index_or, ◌==◌}
+use Rattle.std.specs.Prelude.{IfNone, IfSome, MatchOption, slice_index_or, ◌==◌}
 use Rattle.std.proofs.lemmas.Bool.{cases_eq}
 use Rattle.std.proofs.lemmas.Bool.Decides.{nat_tests}
 use Rattle.logical_clock.specs.declared.key.Key.{Key}
@@ -8,9 +8,11 @@ use Rattle.logical_clock.specs.Order.{is_before, keys, least}
 use Rattle.logical_clock.proofs.Keys.{IsNext, next_is, key, not_before_trans, before_or_not}
 use Rattle.turn_rule.specs.declared.Row.{Row}
 use Rattle.turn_rule.specs.Schedule.{floor_above, has_turn}
-use Rattle.awake_rows.specs.Slots.{AreOrders, IsAwake, IsBefore, IsClear, IsFirst, IsNobodyAwake, IsNotClear, IsOther, Rows, State, floor_clock, free_clock, key_of, lent_clock, waiting_clock}
+use Rattle.slot_index.specs.Numbers.{Numbered, number_at}
+use Rattle.awake_rows.specs.Slots.{IsAwake, IsBefore, IsNobodyAwake, Rows, State, floor_clock, free_clock, lent_clock, waiting_clock}
+use Rattle.awake_rows.specs.Living.{AllAbove, AreLiving, IsClear, IsFirst, IsNotAbove, IsNotClear, IsOther, Items, keyed, living_in, row_in}
 use Rattle.awake_rows.specs.declared.orders.Orders.{Orders}
-use Rattle.awake_rows.proofs.Least.{among_floor, first_alone, floor_among, key_of_some}
+use Rattle.awake_rows.proofs.Least.{among_floor, clock_of_slot, first_alone, floor_among, is_anyones, keyed_some, slot_of_clock}
 
 -- ---- who has the turn
 
@@ -51,6 +53,23 @@ no_turn k (row ∷ rows) from (suc i) h =
 floor_row : (o : Option (Row State)) (c : ℕ) → floor_clock o ≡ Some c → (row : Row State) × (o ≡ Some row) × (row.floor ≡ c)
 floor_row None c e = absurd (cc)
 floor_row (Some row) c e = (row, refl, cc)
+
+or_false : (a b : Bool) → (a || b) ≡ false → (a ≡ false) × (b ≡ false)
+or_false true b e = absurd (cc)
+or_false false b e = (refl, e)
+
+not_above : (k : Key) (n : ℕ) (o : Option (Row State)) → floor_above k n o ≡ false → (c : ℕ) × (floor_clock o ≡ Some c) × (n ≢ k.number) × (is_before k (key c n) ≡ false)
+not_above k n None e = absurd (cc)
+not_above k n (Some row) e =
+    let both = or_false (n == k.number) (is_before k (key row.floor n)) e in
+    (row.floor, refl, other both.0, both.1)
+  where
+    other : (n == k.number) ≡ false → n ≢ k.number
+    other h = grind (arith, nat_tests)
+
+above_clock : (k : Key) (n : ℕ) (o : Option (Row State)) (c : ℕ) → floor_clock o ≡ Some c → floor_above k n o ≡ true → ((n == k.number) || is_before k (key c n)) ≡ true
+above_clock k n None c e h = absurd (cc)
+above_clock k n (Some row) c e h = let same : row.floor ≡ c = cc in ap (λ (x : ℕ). (n == k.number) || is_before k (key x n)) (sym same) ∙ h
 
 -- ---- by the least floor
 
@@ -93,35 +112,56 @@ waits_of rows k P None n first floor h ne = absurd h
 waits_of rows k P (Some f) n first floor h ne =
     subst (λ (m : ℕ). (has_turn k 0 rows ≡ false) × IsBefore rows k m) h.0 (turn_waits rows k f (floor f first.0) (λ e. ne (sym h.0 ∙ e)) (h.1 ne))
 
-module _ (orders : Orders) (rows : Rows) (all : AreOrders orders rows) (k : Key) where
-  pub waits_free : (r : Option Key) (n : ℕ) → IsFirst (IsOther orders.late free_clock rows) r → IsNotClear k r n → n ≢ k.number → (has_turn k 0 rows ≡ false) × IsBefore rows k n
-  waits_free r n first h ne = waits_of rows k (IsOther orders.late free_clock rows) r n first (λ j p. among_floor (slice_index_or rows j.number None) j.clock (all.floors j.number) (inl (inr p.1))) h ne
+module _ (count : ℕ) (slots : Numbered) (items : Items) (orders : Orders) (all : AreLiving count slots items orders) (k : Key) where
+  abbrev rows : Rows
+  rows = (living_in count slots items).rows
 
-  pub waits_parked : (r : Option Key) (n : ℕ) → IsFirst (IsOther orders.late waiting_clock rows) r → IsNotClear k r n → n ≢ k.number → (has_turn k 0 rows ≡ false) × IsBefore rows k n
-  waits_parked r n first h ne = waits_of rows k (IsOther orders.late waiting_clock rows) r n first (λ j p. among_floor (slice_index_or rows j.number None) j.clock (all.floors j.number) (inl (inl p.1))) h ne
+  floor_there : (n s c : ℕ) → number_at slots s ≡ Some n → floor_clock (row_in items s) ≡ Some c → floor_clock (slice_index_or rows n None) ≡ Some c
+  floor_there = clock_of_slot count slots items orders all floor_clock refl
 
-  pub waits_lent : (r : Option Key) (n : ℕ) → IsFirst (IsOther orders.late lent_clock rows) r → IsNotClear k r n → n ≢ k.number → (has_turn k 0 rows ≡ false) × IsBefore rows k n
-  waits_lent r n first h ne = waits_of rows k (IsOther orders.late lent_clock rows) r n first (λ j p. among_floor (slice_index_or rows j.number None) j.clock (all.floors j.number) (inr p.1)) h ne
+  pub waits_free : (r : Option Key) (n : ℕ) → IsFirst (IsOther orders.late free_clock slots items) r → IsNotClear k r n → n ≢ k.number → (has_turn k 0 rows ≡ false) × IsBefore rows k n
+  waits_free r n first h ne = waits_of rows k (IsOther orders.late free_clock slots items) r n first (λ j p. floor_there j.number p.0 j.clock p.2 (among_floor (row_in items p.0) j.clock (all.ordered.floors p.0) (inl (inr p.3)))) h ne
 
-  module _ (own : Option Key) (is : own ≡ key_of orders.late (floor_clock (slice_index_or rows orders.late None))) where
+  pub waits_parked : (r : Option Key) (n : ℕ) → IsFirst (IsOther orders.late waiting_clock slots items) r → IsNotClear k r n → n ≢ k.number → (has_turn k 0 rows ≡ false) × IsBefore rows k n
+  waits_parked r n first h ne = waits_of rows k (IsOther orders.late waiting_clock slots items) r n first (λ j p. floor_there j.number p.0 j.clock p.2 (among_floor (row_in items p.0) j.clock (all.ordered.floors p.0) (inl (inl p.3)))) h ne
+
+  pub waits_lent : (r : Option Key) (n : ℕ) → IsFirst (IsOther orders.late lent_clock slots items) r → IsNotClear k r n → n ≢ k.number → (has_turn k 0 rows ≡ false) × IsBefore rows k n
+  waits_lent r n first h ne = waits_of rows k (IsOther orders.late lent_clock slots items) r n first (λ j p. floor_there j.number p.0 j.clock p.2 (among_floor (row_in items p.0) j.clock (all.ordered.floors p.0) (inr p.3))) h ne
+
+  -- who stands before the key is found in its slot
+  pub waits_found : (n : ℕ) → IsNotAbove slots items k n → (has_turn k 0 rows ≡ false) × IsBefore rows k n
+  waits_found n h =
+      let is = not_above k n (row_in items h.0) h.2 in
+      turn_waits rows k (key is.0 n) (floor_there n h.0 is.0 h.1 is.1) is.2 is.3
+
+  pub turn_found : AllAbove slots items k → has_turn k 0 rows ≡ true
+  turn_found h = turn_if k rows (λ n c e.
+      let at = slot_of_clock count slots items orders all floor_clock refl n c e in
+      above_clock k n (row_in items at.0) c at.2 (h at.0 n at.1))
+
+  pub blocks : (seen : Items) (r : Option ℕ) → seen ≡ items → IfNone r (AllAbove slots seen k) → IfSome r (λ n. IsNotAbove slots seen k n) → MatchOption r (has_turn k 0 rows ≡ true) (λ n. (has_turn k 0 rows ≡ false) × IsBefore rows k n)
+  blocks seen None see none some = turn_found (subst (λ (xs : Items). AllAbove slots xs k) see none)
+  blocks seen (Some n) see none some = waits_found n (subst (λ (xs : Items). IsNotAbove slots xs k n) see some)
+
+  module _ (own : Option Key) (is : own ≡ keyed (number_at slots orders.late) (floor_clock (row_in items orders.late))) where
     own_floor : (j : Key) → own ≡ Some j → floor_clock (slice_index_or rows j.number None) ≡ Some j.clock
     own_floor j e =
-        let found = key_of_some orders.late (floor_clock (slice_index_or rows orders.late None)) j (sym is ∙ e) in
-        ap (λ (i : ℕ). floor_clock (slice_index_or rows i None)) (sym found.1) ∙ found.0
+        let found = keyed_some (number_at slots orders.late) (floor_clock (row_in items orders.late)) j (sym is ∙ e) in
+        floor_there j.number orders.late j.clock found.0 found.1
 
     pub waits_own : (n : ℕ) → IsNotClear k own n → n ≢ k.number → (has_turn k 0 rows ≡ false) × IsBefore rows k n
     waits_own n h ne = waits_of rows k (λ j. own ≡ Some j) own n (first_alone own) own_floor h ne
 
-    pub turn_clear : (w f l : Option Key) → IsFirst (IsOther orders.late waiting_clock rows) w → IsFirst (IsOther orders.late free_clock rows) f → IsFirst (IsOther orders.late lent_clock rows) l
+    pub turn_clear : (w f l : Option Key) → IsFirst (IsOther orders.late waiting_clock slots items) w → IsFirst (IsOther orders.late free_clock slots items) f → IsFirst (IsOther orders.late lent_clock slots items) l
         → IfSome own (IsClear k) → IfSome w (IsClear k) → IfSome f (IsClear k) → IfSome l (IsClear k) → has_turn k 0 rows ≡ true
-    turn_clear w f l x y z co cw cf cl = turn_if k rows (λ n c e. elim (cases_eq n orders.late) [
-      | inl q ↦ clear_all k (λ j. own ≡ Some j) own (first_alone own) co (key c n) (is ∙ ap (λ (j : ℕ). key_of j (floor_clock (slice_index_or rows j None))) (sym q) ∙ ap (key_of n) e)
-      | inr ne ↦ elim (floor_among (slice_index_or rows n None) c (all.floors n) e) [
+    turn_clear w f l x y z co cw cf cl = turn_if k rows (λ n c e. elim (is_anyones count slots items orders all floor_clock refl n c e) [
+      | inl q ↦ clear_all k (λ j. own ≡ Some j) own (first_alone own) co (key c n) (is ∙ q)
+      | inr o ↦ elim (floor_among (row_in items o.0) c (all.ordered.floors o.0) o.3) [
         | inl a ↦ elim a [
-          | inl p ↦ clear_all k (IsOther orders.late waiting_clock rows) w x cw (key c n) (ne, p)
-          | inr p ↦ clear_all k (IsOther orders.late free_clock rows) f y cf (key c n) (ne, p)
+          | inl p ↦ clear_all k (IsOther orders.late waiting_clock slots items) w x cw (key c n) (o.0, o.1, o.2, p)
+          | inr p ↦ clear_all k (IsOther orders.late free_clock slots items) f y cf (key c n) (o.0, o.1, o.2, p)
         ]
-        | inr p ↦ clear_all k (IsOther orders.late lent_clock rows) l z cl (key c n) (ne, p)
+        | inr p ↦ clear_all k (IsOther orders.late lent_clock slots items) l z cl (key c n) (o.0, o.1, o.2, p)
       ]
     ])
 

@@ -10,10 +10,12 @@ use Rattle.logical_clock.specs.Order.{is_before, keys, least}
 use Rattle.logical_clock.proofs.Keys.{IsNext, key, next_is, not_before_trans}
 use Rattle.turn_rule.specs.declared.Lease.{Lease as Loan}
 use Rattle.turn_rule.specs.declared.Row.{Row}
-use Rattle.awake_rows.specs.Slots.{AllKeepFloors, AreKeysBut, AreOrders, IsFirst, IsOther, KeepsFloor, Rows, State, clock_among, floor_clock, free_clock, key_of, lent_clock, soonest, waiting_clock}
+use Rattle.slot_index.specs.Numbers.{Numbered, number_at, slot_of}
+use Rattle.awake_rows.specs.Slots.{KeepsFloor, Rows, State, clock_among, floor_clock, free_clock, lent_clock, waiting_clock}
+use Rattle.awake_rows.specs.Living.{AllKeepFloors, AreKeysBut, AreLiving, AreOrders, IsFirst, IsOther, Items, awake_of, item_in, key_of, keyed, living_in, row_in, soonest}
 use Rattle.awake_rows.specs.declared.orders.Orders.{Orders}
 use Rattle.awake_rows.specs.declared.turns.Among.{Among}
-use Rattle.awake_rows.proofs.Kept.{nobody_counts}
+use Rattle.awake_rows.proofs.Kept.{nobody_counts, row_of_number}
 
 not_before_self : (a : Key) → is_before a a ≡ false
 not_before_self a = grind (arith, nat_tests)
@@ -54,18 +56,25 @@ key_of_some n (Some c) k e =
     let same : record { clock = c; number = n } ≡ k = cc in
     (ap (λ (j : Key). Some j.clock) same, ap (λ (j : Key). j.number) same)
 
-no_key : (n c : ℕ) (o : Option ℕ) → key_of n o ≡ None → o ≡ Some c → ⊥
-no_key n c None e h = cc
-no_key n c (Some d) e h = cc
+pub keyed_some : (number o : Option ℕ) (k : Key) → keyed number o ≡ Some k → (number ≡ Some k.number) × (o ≡ Some k.clock)
+keyed_some None o k e = absurd (cc)
+keyed_some (Some n) o k e =
+    let found = key_of_some n o k e in
+    (ap Some found.1, found.0)
 
-first_other : (late : ℕ) (clock : Option (Row State) → Option ℕ) (ks : List (Option Key)) (rows : Rows) (o : Option Key) → AreKeysBut late clock ks rows → IfNone o ((s : ℕ) → s ≢ late → slice_index_or ks s None ≡ None)
-    → IfSome o (λ k. (s : ℕ) × (s ≢ late) × (slice_index_or ks s None ≡ Some k)) → IfSome o (λ k. (s : ℕ) (j : Key) → s ≢ late → slice_index_or ks s None ≡ Some j → is_before j k ≡ false) → IsFirst (IsOther late clock rows) o
-first_other late clock ks rows None keys none there least = λ k h. no_key k.number k.clock (clock (slice_index_or rows k.number None)) (sym (keys.others k.number h.0) ∙ none k.number h.0) h.1
-first_other late clock ks rows (Some j) keys none there least =
+key_is : (number o : Option ℕ) (k : Key) → number ≡ Some k.number → o ≡ Some k.clock → keyed number o ≡ Some k
+key_is number o k n c = ap (λ (x : Option ℕ). keyed x o) n ∙ ap (key_of k.number) c
+
+first_other : (late : ℕ) (clock : Option (Row State) → Option ℕ) (ks : List (Option Key)) (slots : Numbered) (items : Items) (o : Option Key) → AreKeysBut late clock ks slots items → IfNone o ((s : ℕ) → s ≢ late → slice_index_or ks s None ≡ None)
+    → IfSome o (λ k. (s : ℕ) × (s ≢ late) × (slice_index_or ks s None ≡ Some k)) → IfSome o (λ k. (s : ℕ) (j : Key) → s ≢ late → slice_index_or ks s None ≡ Some j → is_before j k ≡ false) → IsFirst (IsOther late clock slots items) o
+first_other late clock ks slots items None keys none there least = λ k h.
+    let has : slice_index_or ks h.0 None ≡ Some k = keys.others h.0 h.1 ∙ key_is (number_at slots h.0) (clock (row_in items h.0)) k h.2 h.3 in
+    let no : None ≡ Some k = sym (none h.0 h.1) ∙ has in
+    absurd (cc)
+first_other late clock ks slots items (Some j) keys none there least =
     let s : ℕ = there.0 in
-    let found = key_of_some s (clock (slice_index_or rows s None)) j (sym (keys.others s there.1) ∙ there.2) in
-    let is : IsOther late clock rows j = (λ e. there.1 (found.1 ∙ e), ap (λ (i : ℕ). clock (slice_index_or rows i None)) (sym found.1) ∙ found.0) in
-    (is, λ k h. least k.number k h.0 (keys.others k.number h.0 ∙ ap (key_of k.number) h.1))
+    let found = keyed_some (number_at slots s) (clock (row_in items s)) j (sym (keys.others s there.1) ∙ there.2) in
+    ((s, there.1, found.0, found.1), λ k h. least h.0 k h.1 (keys.others h.0 h.1 ∙ key_is (number_at slots h.0) (clock (row_in items h.0)) k h.2 h.3))
 
 -- the floor of one that is not lent is its clock
 floor_or : (floor clock : ℕ) (lease : Option (Loan State)) (parked : Bool) → (lease ≡ None → floor ≡ clock) → (parked ≡ true → lease ≡ None) → (c : ℕ) → Some floor ≡ Some c
@@ -98,28 +107,28 @@ among_floor None c k (inr e) = e
 among_floor (Some row) c k h = or_floor row.floor row.state.clock row.lease row.parked k.floor k.unlent c h
 
 -- of all that are awake, but for the late one
-module _ (late : ℕ) (rows : Rows) (floors : AllKeepFloors rows) where
+module _ (late : ℕ) (slots : Numbered) (items : Items) (floors : AllKeepFloors items) where
   abbrev OfEither : Key → Type 0
-  OfEither k = IsOther late waiting_clock rows k ⊎ IsOther late free_clock rows k
+  OfEither k = IsOther late waiting_clock slots items k ⊎ IsOther late free_clock slots items k
 
   abbrev OfAny : Key → Type 0
-  OfAny k = OfEither k ⊎ IsOther late lent_clock rows k
+  OfAny k = OfEither k ⊎ IsOther late lent_clock slots items k
 
-  any_floor : (k : Key) → OfAny k → IsOther late floor_clock rows k
-  any_floor k (inl (inl h)) = (h.0, among_floor (slice_index_or rows k.number None) k.clock (floors k.number) (inl (inl h.1)))
-  any_floor k (inl (inr h)) = (h.0, among_floor (slice_index_or rows k.number None) k.clock (floors k.number) (inl (inr h.1)))
-  any_floor k (inr h) = (h.0, among_floor (slice_index_or rows k.number None) k.clock (floors k.number) (inr h.1))
+  any_floor : (k : Key) → OfAny k → IsOther late floor_clock slots items k
+  any_floor k (inl (inl h)) = (h.0, h.1, h.2, among_floor (row_in items h.0) k.clock (floors h.0) (inl (inl h.3)))
+  any_floor k (inl (inr h)) = (h.0, h.1, h.2, among_floor (row_in items h.0) k.clock (floors h.0) (inl (inr h.3)))
+  any_floor k (inr h) = (h.0, h.1, h.2, among_floor (row_in items h.0) k.clock (floors h.0) (inr h.3))
 
-  floor_any : (k : Key) → IsOther late floor_clock rows k → OfAny k
-  floor_any k h = elim (floor_among (slice_index_or rows k.number None) k.clock (floors k.number) h.1) [
-    | inl e ↦ elim e [ inl w ↦ inl (inl (h.0, w)) | inr f ↦ inl (inr (h.0, f)) ]
-    | inr l ↦ inr (h.0, l)
+  floor_any : (k : Key) → IsOther late floor_clock slots items k → OfAny k
+  floor_any k h = elim (floor_among (row_in items h.0) k.clock (floors h.0) h.3) [
+    | inl e ↦ elim e [ inl w ↦ inl (inl (h.0, h.1, h.2, w)) | inr f ↦ inl (inr (h.0, h.1, h.2, f)) ]
+    | inr l ↦ inr (h.0, h.1, h.2, l)
   ]
 
-  first_floor : (w f l : Option Key) → IsFirst (IsOther late waiting_clock rows) w → IsFirst (IsOther late free_clock rows) f → IsFirst (IsOther late lent_clock rows) l → IsFirst (IsOther late floor_clock rows) (soonest (soonest w f) l)
+  first_floor : (w f l : Option Key) → IsFirst (IsOther late waiting_clock slots items) w → IsFirst (IsOther late free_clock slots items) f → IsFirst (IsOther late lent_clock slots items) l → IsFirst (IsOther late floor_clock slots items) (soonest (soonest w f) l)
   first_floor w f l x y z =
-      let either : IsFirst OfEither (soonest w f) = first_joined (IsOther late waiting_clock rows) (IsOther late free_clock rows) w f x y in
-      first_same OfAny (IsOther late floor_clock rows) (soonest (soonest w f) l) any_floor floor_any (first_joined OfEither (IsOther late lent_clock rows) (soonest w f) l either z)
+      let either : IsFirst OfEither (soonest w f) = first_joined (IsOther late waiting_clock slots items) (IsOther late free_clock slots items) w f x y in
+      first_same OfAny (IsOther late floor_clock slots items) (soonest (soonest w f) l) any_floor floor_any (first_joined OfEither (IsOther late lent_clock slots items) (soonest w f) l either z)
 
 -- what `least_but` says of an order
 pub record IsLeastBut (late : ℕ) (ks : List (Option Key)) (o : Option Key) : Type 0 where
@@ -127,18 +136,18 @@ pub record IsLeastBut (late : ℕ) (ks : List (Option Key)) (o : Option Key) : T
   pub there : IfSome o (λ k. (s : ℕ) × (s ≢ late) × (slice_index_or ks s None ≡ Some k))
   pub least : IfSome o (λ k. (s : ℕ) (j : Key) → s ≢ late → slice_index_or ks s None ≡ Some j → is_before j k ≡ false)
 
-module _ (orders : Orders) (rows : Rows) (o : AreOrders orders rows) where
-  others_parked : (r : Option Key) → IsLeastBut orders.late orders.parked r → IsFirst (IsOther orders.late waiting_clock rows) r
-  others_parked r h = first_other orders.late waiting_clock orders.parked rows r o.parked h.none h.there h.least
+module _ (orders : Orders) (slots : Numbered) (items : Items) (o : AreOrders orders slots items) where
+  others_parked : (r : Option Key) → IsLeastBut orders.late orders.parked r → IsFirst (IsOther orders.late waiting_clock slots items) r
+  others_parked r h = first_other orders.late waiting_clock orders.parked slots items r o.parked h.none h.there h.least
 
-  others_free : (r : Option Key) → IsLeastBut orders.late orders.free r → IsFirst (IsOther orders.late free_clock rows) r
-  others_free r h = first_other orders.late free_clock orders.free rows r o.free h.none h.there h.least
+  others_free : (r : Option Key) → IsLeastBut orders.late orders.free r → IsFirst (IsOther orders.late free_clock slots items) r
+  others_free r h = first_other orders.late free_clock orders.free slots items r o.free h.none h.there h.least
 
-  pub others_lent : (r : Option Key) → IsLeastBut orders.late orders.lent r → IsFirst (IsOther orders.late lent_clock rows) r
-  others_lent r h = first_other orders.late lent_clock orders.lent rows r o.lent h.none h.there h.least
+  pub others_lent : (r : Option Key) → IsLeastBut orders.late orders.lent r → IsFirst (IsOther orders.late lent_clock slots items) r
+  others_lent r h = first_other orders.late lent_clock orders.lent slots items r o.lent h.none h.there h.least
 
-  pub others_awake : (w f l : Option Key) → IsLeastBut orders.late orders.parked w → IsLeastBut orders.late orders.free f → IsLeastBut orders.late orders.lent l → IsFirst (IsOther orders.late floor_clock rows) (soonest (soonest w f) l)
-  others_awake w f l x y z = first_floor orders.late rows o.floors w f l (others_parked w x) (others_free f y) (others_lent l z)
+  pub others_awake : (w f l : Option Key) → IsLeastBut orders.late orders.parked w → IsLeastBut orders.late orders.free f → IsLeastBut orders.late orders.lent l → IsFirst (IsOther orders.late floor_clock slots items) (soonest (soonest w f) l)
+  others_awake w f l x y z = first_floor orders.late slots items o.floors w f l (others_parked w x) (others_free f y) (others_lent l z)
 
 -- ---- of all
 
@@ -162,40 +171,58 @@ same_next clock rows None (Some k) x y = absurd (x k.number k.clock y.0)
 same_next clock rows (Some j) None x y = absurd (y j.number j.clock x.0)
 same_next clock rows (Some j) (Some k) x y = ap Some (same_key j k (y.1 j.number j.clock x.0) (x.1 k.number k.clock y.0))
 
-module _ (late : ℕ) (clock : Option (Row State) → Option ℕ) (rows : Rows) where
+-- a goroutine that lives counts by the row in its slot
+module _ (count : ℕ) (slots : Numbered) (items : Items) (orders : Orders) (all : AreLiving count slots items orders) (clock : Option (Row State) → Option ℕ) (none : clock None ≡ None) where
+  abbrev rows : Rows
+  rows = (living_in count slots items).rows
+
+  pub clock_of_slot : (n s c : ℕ) → number_at slots s ≡ Some n → clock (row_in items s) ≡ Some c → clock (slice_index_or rows n None) ≡ Some c
+  clock_of_slot n s c e h =
+      let has : slot_of slots n ≡ Some s = all.inverse.slot n s e in
+      ap clock (row_of_number count slots items all.below n ∙ ap (λ (o : Option ℕ). awake_of (item_in items o)) has) ∙ h
+
+  pub slot_of_clock : (n c : ℕ) → clock (slice_index_or rows n None) ≡ Some c → (s : ℕ) × (number_at slots s ≡ Some n) × (clock (row_in items s) ≡ Some c)
+  slot_of_clock n c h = go (slot_of slots n) refl (sym (ap clock (row_of_number count slots items all.below n)) ∙ h) where
+    go : (o : Option ℕ) → slot_of slots n ≡ o → clock (awake_of (item_in items o)) ≡ Some c → (s : ℕ) × (number_at slots s ≡ Some n) × (clock (row_in items s) ≡ Some c)
+    go None e k = let no : None ≡ Some c = sym none ∙ k in absurd (cc)
+    go (Some s) e k = (s, all.inverse.number n s e, k)
+
   -- the late one's key
   abbrev IsOwn : Key → Type 0
-  IsOwn k = key_of late (clock (slice_index_or rows late None)) ≡ Some k
+  IsOwn k = keyed (number_at slots orders.late) (clock (row_in items orders.late)) ≡ Some k
 
   -- the late one's, or another one's
   abbrev IsAnyones : Key → Type 0
-  IsAnyones k = IsOwn k ⊎ IsOther late clock rows k
+  IsAnyones k = IsOwn k ⊎ IsOther orders.late clock slots items k
 
   anyones : (k : Key) → IsAnyones k → clock (slice_index_or rows k.number None) ≡ Some k.clock
   anyones k (inl e) =
-      let is = key_of_some late (clock (slice_index_or rows late None)) k e in
-      ap (λ (i : ℕ). clock (slice_index_or rows i None)) (sym is.1) ∙ is.0
-  anyones k (inr h) = h.1
+      let is = keyed_some (number_at slots orders.late) (clock (row_in items orders.late)) k e in
+      clock_of_slot k.number orders.late k.clock is.0 is.1
+  anyones k (inr h) = clock_of_slot k.number h.0 k.clock h.2 h.3
 
-  is_anyones : (i c : ℕ) → clock (slice_index_or rows i None) ≡ Some c → IsAnyones (key c i)
-  is_anyones i c e = elim (cases_eq i late) [
-    | inl q ↦ inl (ap (λ (j : ℕ). key_of j (clock (slice_index_or rows j None))) (sym q) ∙ ap (key_of i) e)
-    | inr ne ↦ inr (ne, e)
-  ]
+  pub is_anyones : (i c : ℕ) → clock (slice_index_or rows i None) ≡ Some c → IsAnyones (key c i)
+  is_anyones i c e =
+      let at = slot_of_clock i c e in
+      elim (cases_eq at.0 orders.late) [
+        | inl q ↦ inl (ap (λ (j : ℕ). keyed (number_at slots j) (clock (row_in items j))) (sym q) ∙ key_is (number_at slots at.0) (clock (row_in items at.0)) (key c i) at.1 at.2)
+        | inr ne ↦ inr (at.0, ne, at.1, at.2)
+      ]
 
   next_of : (o : Option Key) → IsFirst IsAnyones o → IsNext clock None rows o
   next_of None h = λ i c e. h (key c i) (is_anyones i c e)
   next_of (Some k) h = (anyones k h.0, λ i c e. h.1 (key c i) (is_anyones i c e))
 
-  next_joined : (others : Option Key) → IsFirst (IsOther late clock rows) others → IsNext clock None rows (soonest (key_of late (clock (slice_index_or rows late None))) others)
+  next_joined : (others : Option Key) → IsFirst (IsOther orders.late clock slots items) others → IsNext clock None rows (soonest (keyed (number_at slots orders.late) (clock (row_in items orders.late))) others)
   next_joined others h =
-      let own : Option Key = key_of late (clock (slice_index_or rows late None)) in
-      next_of (soonest own others) (first_joined IsOwn (IsOther late clock rows) own others (first_alone own) h)
+      let own : Option Key = keyed (number_at slots orders.late) (clock (row_in items orders.late)) in
+      next_of (soonest own others) (first_joined IsOwn (IsOther orders.late clock slots items) own others (first_alone own) h)
 
 -- the late one's key and the least of the others
-pub among_found : (a : Among) (orders : Orders) (rows : Rows) (own others o : Option Key) → AreOrders orders rows → own ≡ key_of orders.late (clock_among a (slice_index_or rows orders.late None)) → ((xs : Rows) → AreOrders orders xs → IsFirst (IsOther orders.late (clock_among a) xs) others)
-    → o ≡ soonest own others → o ≡ least (keys (clock_among a) 0 rows)
-among_found a orders rows own others o all e first is =
-    let next : IsNext (clock_among a) None rows (soonest (key_of orders.late (clock_among a (slice_index_or rows orders.late None))) others) = next_joined orders.late (clock_among a) rows others (first rows all) in
+pub among_found : (a : Among) (count : ℕ) (slots : Numbered) (items : Items) (orders : Orders) (own others o : Option Key) → AreLiving count slots items orders → own ≡ keyed (number_at slots orders.late) (clock_among a (row_in items orders.late))
+    → ((xs : Numbered) (ys : Items) → AreOrders orders xs ys → IsFirst (IsOther orders.late (clock_among a) xs ys) others) → o ≡ soonest own others → o ≡ least (keys (clock_among a) 0 (living_in count slots items).rows)
+among_found a count slots items orders own others o all e first is =
+    let rows : Rows = (living_in count slots items).rows in
+    let next : IsNext (clock_among a) None rows (soonest (keyed (number_at slots orders.late) (clock_among a (row_in items orders.late))) others) = next_joined count slots items orders all (clock_among a) (nobody_counts a) others (first slots items all.ordered) in
     let mine : IsNext (clock_among a) None rows o = subst (λ (x : Option Key). IsNext (clock_among a) None rows x) (sym (is ∙ ap (λ (x : Option Key). soonest x others) e)) next in
     same_next (clock_among a) rows o (least (keys (clock_among a) 0 rows)) mine (next_is (clock_among a) None (nobody_counts a) rows)

@@ -1,3 +1,4 @@
+pub mod Changed
 pub mod Floors
 pub mod Found
 pub mod Kept

@@ -1,11 +1,11 @@
 -- Goroutines as a core keeps them.
-use Rattle.std.specs.Prelude.{◌≡◌, ◌≢◌, ◌≤◌, ◌++◌, ◌∷◌, [], ℕ, ◌||◌, Bool, true, false, cond, length, List, Option, Some, None, IfSome, slice_index_or, slice_set}
+use Rattle.std.specs.Prelude.{◌≡◌, ◌≢◌, ℕ, ◌||◌, Bool, true, false, cond, List, Option, Some, None, IfSome, slice_index_or, slice_set}
 use Rattle.std.specs.Option.{is_some, option_map}
 use Rattle.bytecode.specs.Code.{Code}
 use Rattle.bytecode.specs.Machine.{Frames, code_kind}
 use Rattle.goroutine_vm.specs.Advance.{Goes, IsStateOf, steps}
 use Rattle.logical_clock.specs.declared.key.Key.{Key}
-use Rattle.logical_clock.specs.Order.{is_before, sooner}
+use Rattle.logical_clock.specs.Order.{is_before}
 use Rattle.turn_rule.specs.declared.Lease.{Lease as Loan}
 use Rattle.turn_rule.specs.declared.Row.{Row}
 use Rattle.turn_rule.specs.declared.Step.{Step}
@@ -14,8 +14,6 @@ use Rattle.turn_rule.specs.Schedule.{give_back, lend, local, look, publish}
 use Rattle.word.specs.Kinds.{Clocked, asks, told}
 use Rattle.word.specs.Values.{Reply}
 use Rattle.word.specs.Worlds.{rules}
-use Rattle.awake_rows.specs.declared.orders.Clocks.{Clocks}
-use Rattle.awake_rows.specs.declared.orders.Orders.{Orders}
 use Rattle.awake_rows.specs.declared.slot.Held.{Held}
 use Rattle.awake_rows.specs.declared.slot.Held.TheVariants.{Here, Lent, Ahead}
 use Rattle.awake_rows.specs.declared.turns.Among.{Among}
@@ -90,78 +88,10 @@ clock_among among.Parked row = waiting_clock row
 clock_among among.Free row = free_clock row
 clock_among among.Awake row = floor_clock row
 
--- ---- the orders in which they stand
-
--- the key of goroutine n at this clock
-abbrev pub key_of : ℕ → Option ℕ → Option Key
-key_of n None = None
-key_of n (Some clock) = Some (record { clock = clock; number = n })
-
--- these are the keys of those who have a clock, that of goroutine n at place n, but for one goroutine, which is late: its row changed since.
--- There may be more places
-pub record AreKeysBut (late : ℕ) (clock : Option (Row State) → Option ℕ) (keys : List (Option Key)) (rows : Rows) : Type 0 where
-  pub room : length rows ≤ length keys
-  pub others : (n : ℕ) → n ≢ late → slice_index_or keys n None ≡ key_of n (clock (slice_index_or rows n None))
-
 -- as a slot keeps it: the floor of one that is not lent is its clock, and who is parked is not lent
 pub record KeepsFloor (row : Row State) : Type 0 where
   pub floor : row.lease ≡ None → row.floor ≡ row.state.clock
   pub unlent : row.parked ≡ true → row.lease ≡ None
-
-abbrev pub AllKeepFloors : Rows → Type 0
-AllKeepFloors rows = (n : ℕ) → IfSome (slice_index_or rows n None) KeepsFloor
-
-pub record AreOrders (orders : Orders) (rows : Rows) : Type 0 where
-  pub parked : AreKeysBut orders.late waiting_clock orders.parked rows
-  pub free : AreKeysBut orders.late free_clock orders.free rows
-  pub lent : AreKeysBut orders.late lent_clock orders.lent rows
-  pub floors : AllKeepFloors rows
-
-abbrev pub clocks_of : Option (Row State) → Clocks
-clocks_of row = record { parked = waiting_clock row; free = free_clock row; lent = lent_clock row }
-
--- goroutine n stands by these clocks
-abbrev pub noted : Orders → ℕ → Clocks → Orders
-noted orders n clocks = record orders {
-  parked = slice_set orders.parked n (key_of n clocks.parked);
-  free = slice_set orders.free n (key_of n clocks.free);
-  lent = slice_set orders.lent n (key_of n clocks.lent);
-}
-
--- who was late stands by its clocks, and goroutine n is late
-abbrev pub now_late : Orders → Rows → ℕ → Orders
-now_late orders rows n = record (noted orders orders.late (clocks_of (slice_index_or rows orders.late None))) { late = n }
-
--- with a place more
-abbrev pub with_place : Orders → Orders
-with_place orders = record orders {
-  parked = orders.parked ++ None ∷ [];
-  free = orders.free ++ None ∷ [];
-  lent = orders.lent ++ None ∷ [];
-}
-
--- the key of another one than the late one, where it has such a clock
-abbrev pub IsOther : ℕ → (Option (Row State) → Option ℕ) → Rows → Key → Type 0
-IsOther late clock rows k = (k.number ≢ late) × (clock (slice_index_or rows k.number None) ≡ Some k.clock)
-
--- the least of the keys that count, if any does
-abbrev pub IsFirst : (Key → Type 0) → Option Key → Type 0
-IsFirst Counts None = (k : Key) → Counts k → ⊥
-IsFirst Counts (Some k) = Counts k × ((j : Key) → Counts j → is_before j k ≡ false)
-
--- the key is before another one's, or not after its own goroutine's
-abbrev pub IsClear : Key → Key → Type 0
-IsClear k j = (j.number ≡ k.number → is_before j k ≡ false) × (j.number ≢ k.number → is_before k j ≡ true)
-
--- the key is not before that of goroutine n, unless n is its own
-abbrev pub IsNotClear : Key → Option Key → ℕ → Type 0
-IsNotClear k None n = ⊥
-IsNotClear k (Some j) n = (j.number ≡ n) × (n ≢ k.number → is_before k j ≡ false)
-
--- the first of two keys, where there are any
-abbrev pub soonest : Option Key → Option Key → Option Key
-soonest None other = other
-soonest (Some k) other = sooner k other
 
 -- ---- changes of a row
 

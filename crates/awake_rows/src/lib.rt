@@ -1,13 +1,13 @@
-//! The awake goroutines of a world: each with its state, its floor, and whether it is lent or parked.
+//! The goroutines of a world that are awake or asleep, each with its state. An awake one also has a floor, and may be lent or parked.
 #![tactic(auto)]
 
-mod awake;
+mod goroutine;
+mod goroutines;
 mod orders;
 mod rows;
 mod slot;
 mod turns;
 
-pub use awake::AwakeRows;
-pub use rows::{put_at, take_at};
-pub use slot::{Away, Slot};
+pub use goroutines::Goroutines;
+pub use slot::Slot;
 pub use turns::Among;

@@ -1,20 +1,24 @@
 //! The orders in which awake goroutines stand: by the clocks at which they are parked, by those at which they may be lent,
 //! and, those that are lent, by their floors.
 
-ghost use Rattle.std.specs.Prelude.{◌≡◌, ◌≢◌, [], IfSome, None, OnErr, OnOk, slice_index_or};
-ghost use Rattle.awake_rows.specs.Slots.{AreOrders, IsFirst, IsOther, KeepsFloor, Rows, clock_among, clocks_of, key_of, noted, now_late, soonest, with_place};
+ghost use Rattle.std.specs.Prelude.{◌≡◌, ◌≢◌, [], IfSome, None, OnErr, OnOk};
+ghost use Rattle.awake_rows.specs.Living.{AreOrders, HaveGrown, IsFirst, IsOther, Items, clocks_of, keyed, noted, now_late, row_in, soonest, with_place};
+ghost use Rattle.awake_rows.specs.Slots.{KeepsFloor, clock_among};
+ghost use Rattle.slot_index.specs.Numbers.{Numbered, number_at};
 
-use crate::slot::Slot;
+use crate::goroutine::Goroutine;
+use crate::rows::row_in;
 use crate::turns::Among;
 use key_index::KeyIndex;
 use logical_clock::{Clock, Key, sooner};
+use slot_index::SlotIndex;
 use std::alloc::{AllocError, Global};
 use std::marker::Brand;
 use std::sync::ledger::{Blank, Ledger};
 use steps::Steps;
 
-/// The keys of goroutines, that of goroutine n at slot n. A change of a row is noted once another row changes: one that changes
-/// several times in a row takes its places once.
+/// The keys of goroutines, by their slots. The keys of a slot are set only once the row in another slot changes, so a row that changes
+/// several times in a row sets its keys once.
 pub(crate) struct Orders {
     /// Of those that stand at their requests.
     pub parked: KeyIndex,
@@ -22,8 +26,8 @@ pub(crate) struct Orders {
     pub free: KeyIndex,
     /// Of those that are lent, by their floors.
     pub lent: KeyIndex,
-    /// The goroutine whose row changed last: it may stand elsewhere.
-    pub late: u64,
+    /// The slot whose row changed last. Its keys may be out of date.
+    pub late: usize,
 }
 
 impl Drop for Orders {
@@ -43,7 +47,7 @@ impl Drop for Orders {
 impl Orders {
     /// Nobody's.
     pub(crate) fn new(alloc: Global) -> Orders
-        ensures { AreOrders result [] }
+        ensures { (slots : Numbered) → AreOrders result slots [] }
     {
         Orders {
             parked: KeyIndex::empty(alloc),
@@ -56,9 +60,9 @@ impl Orders {
     /// The least key of those whose clocks count, but for the late goroutine. The floor of one that is not lent is its clock.
     #[inline(always)]
     pub(crate) fn others(&self, among: Among) -> Option<Key>
-        ensures { (rows : Rows) → AreOrders self.now rows → IsFirst (IsOther self.now.late (clock_among among) rows) result }
+        ensures { (slots : Numbered) (items : Items) → AreOrders self.now slots items → IsFirst (IsOther self.now.late (clock_among among) slots items) result }
     {
-        let late = self.late as usize;
+        let late = self.late;
         match among {
             Among::Parked => self.parked.least_but(late),
             Among::Free => self.free.least_but(late),
@@ -69,10 +73,12 @@ impl Orders {
         }
     }
 
-    /// A place more, for one that isn't awake yet.
+    /// Adds a slot without keys.
+    ///
+    /// Errors: out of memory. Some of the orders may have the slot then.
     pub(crate) fn push(&mut self) -> Result<(), AllocError>
         ensures ok { OnOk result (self.new ≡ with_place self.old) }
-        ensures memory { OnErr result ((rows : Rows) → AreOrders self.old rows → AreOrders self.new rows) }
+        ensures memory { OnErr result (HaveGrown self.old self.new) }
     {
         self.parked.push()?;
         self.free.push()?;
@@ -89,90 +95,95 @@ pub(crate) struct Clocks {
     pub lent: Option<Clock>,
 }
 
-/// Row `number` has changed, and its goroutine is late; the one that was takes its places. What stands there keeps its floor.
+/// The row in `slot` has changed, so `slot` is late. If another slot was, its keys are set.
 #[inline(always)]
-pub(crate) fn note(orders: &mut Orders, rows: &[Option<Slot>], number: u64)
-    ensures same { number ≡ orders.old.late → orders.new ≡ orders.old }
-    ensures other { number ≢ orders.old.late → orders.new ≡ now_late orders.old rows.now number }
-    ensures floor { IfSome (slice_index_or rows.now number None) KeepsFloor }
+pub(crate) fn note(orders: &mut Orders, slots: &SlotIndex, items: &[Option<Goroutine>], slot: usize)
+    ensures same { slot ≡ orders.old.late → orders.new ≡ orders.old }
+    ensures other { slot ≢ orders.old.late → orders.new ≡ now_late orders.old slots.now items.now slot }
+    ensures floor { IfSome (row_in items.now slot) KeepsFloor }
 {
-    keeps_floor_at(rows, number);
-    if number != orders.late {
-        take_places(orders, rows);
-        orders.late = number;
+    keeps_floor_at(items, slot);
+    if slot != orders.late {
+        take_places(orders, slots, items);
+        orders.late = slot;
     }
 }
 
-/// The late goroutine takes its places, by what stands in its row.
-fn take_places(orders: &mut Orders, rows: &[Option<Slot>])
-    ensures { orders.new ≡ noted orders.old orders.old.late (clocks_of (slice_index_or rows.now orders.old.late None)) }
+/// Sets the keys of the late slot, by the row in it.
+fn take_places(orders: &mut Orders, slots: &SlotIndex, items: &[Option<Goroutine>])
+    ensures { orders.new ≡ noted orders.old orders.old.late (number_at slots.now orders.old.late) (clocks_of (row_in items.now orders.old.late)) }
 {
     let late = orders.late;
-    note_counted::<Brand>(orders, late, clocks_at(rows, late), Blank::new(1));
+    let number = slots.number(late);
+    note_counted::<Brand>(orders, late, number, clocks_at(items, late), Blank::new(1));
 }
 
-/// Goroutine `number` takes its places by these clocks. The steps that this takes are counted, which costs nothing.
+/// Sets the keys of `slot` to those of goroutine `number`, if there is one, at these clocks. It counts its steps, which costs nothing.
 #[inline(always)]
-fn note_counted<L: Ledger>(orders: &mut Orders, number: u64, clocks: Clocks, blank: Blank)
+fn note_counted<L: Ledger>(
+    orders: &mut Orders,
+    slot: usize,
+    number: Option<u64>,
+    clocks: Clocks,
+    blank: Blank,
+)
     requires name { blank.name ≡ L.name }
     requires parts { blank.parts ≡ L.parts }
     requires one { blank.parts ≡ 1 }
-    ensures { orders.new ≡ noted orders.old number clocks }
+    ensures { orders.new ≡ noted orders.old slot number clocks }
 {
-    let slot = number as usize;
     let mut steps = Steps::<L>::new(blank);
     orders
         .parked
-        .set(slot, key_of(number, clocks.parked), &mut steps);
+        .set(slot, keyed(number, clocks.parked), &mut steps);
     orders
         .free
-        .set(slot, key_of(number, clocks.free), &mut steps);
+        .set(slot, keyed(number, clocks.free), &mut steps);
     orders
         .lent
-        .set(slot, key_of(number, clocks.lent), &mut steps);
+        .set(slot, keyed(number, clocks.lent), &mut steps);
 }
 
-/// The key of goroutine `number` at this clock.
+/// The key of goroutine `number`, if there is one, at this clock.
 #[inline(always)]
-pub(crate) fn key_of(number: u64, clock: Option<Clock>) -> Option<Key>
-    ensures { result ≡ key_of number clock }
+pub(crate) fn keyed(number: Option<u64>, clock: Option<Clock>) -> Option<Key>
+    ensures { result ≡ keyed number clock }
 {
+    let Some(number) = number else {
+        return None;
+    };
     match clock {
         Some(clock) => Some(Key { clock, number }),
         None => None,
     }
 }
 
-/// The clocks of goroutine `number` by what stands at its place.
+/// The clocks of the row in `slot`.
 #[inline(always)]
-fn clocks_at(rows: &[Option<Slot>], number: u64) -> Clocks
-    ensures { result ≡ clocks_of (slice_index_or rows.now number None) }
+fn clocks_at(items: &[Option<Goroutine>], slot: usize) -> Clocks
+    ensures { result ≡ clocks_of (row_in items.now slot) }
 {
-    if (number as usize) < rows.len() {
-        if let Some(slot) = &rows[number as usize] {
-            return Clocks {
-                parked: slot.parked_clock(),
-                free: slot.free_clock(),
-                lent: slot.lent_clock(),
-            };
-        }
-    }
-    Clocks {
-        parked: None,
-        free: None,
-        lent: None,
+    match row_in(items, slot) {
+        Some(row) => Clocks {
+            parked: row.parked_clock(),
+            free: row.free_clock(),
+            lent: row.lent_clock(),
+        },
+        None => Clocks {
+            parked: None,
+            free: None,
+            lent: None,
+        },
     }
 }
 
-/// What stands at a place keeps its floor. This does nothing.
+/// Does nothing. Its contract says that the row in `slot` keeps its floor.
 #[inline(always)]
-fn keeps_floor_at(rows: &[Option<Slot>], number: u64)
-    ensures { IfSome (slice_index_or rows.now number None) KeepsFloor }
+fn keeps_floor_at(items: &[Option<Goroutine>], slot: usize)
+    ensures { IfSome (row_in items.now slot) KeepsFloor }
 {
-    if (number as usize) < rows.len() {
-        if let Some(slot) = &rows[number as usize] {
-            slot.keeps_floor();
-        }
+    if let Some(row) = row_in(items, slot) {
+        row.keeps_floor();
     }
 }
 

@@ -393,47 +393,6 @@ impl Slot {
     }
 }
 
-impl Slot {
-    /// Takes out the state of one that is not lent.
-    pub fn take(self) -> (GoState, Away)
-        requires { self.lease ≡ None }
-        ensures state { result.0 ≡ self.state }
-        ensures away { result.1 ≡ self }
-    {
-        let Slot { held, parked, .. } = self;
-        let Held::Here(state) = held else {
-            unreachable!()
-        };
-        let kept = Snapshot::of(&state);
-        (state, Away { kept, parked })
-    }
-}
-
-/// An awake goroutine whose state was taken out. Contracts still see the state; it has no bytes here.
-#[derive(Drop)]
-pub struct Away {
-    kept: Snapshot<GoState>,
-    parked: bool,
-}
-
-impl Model for Away {
-    ghost use Rattle.awake_rows.specs.Slots.{State, back_row};
-    ghost use Rattle.turn_rule.specs.declared.Row.{Row};
-
-    ghost Value = { Row State };
-
-    ghost view = { λ a. back_row a.kept.value a.parked };
-}
-
-impl Away {
-    /// It is back, in this state.
-    pub fn back(self, state: GoState) -> Slot
-        ensures { result ≡ back_row state self.parked }
-    {
-        Slot::back(state, self.parked)
-    }
-}
-
 /// The state after one local step, where there is one.
 fn after_step(
     alloc: Global,

@@ -1,11 +1,15 @@
 //! Whose turn it is.
 
-ghost use Rattle.std.specs.Prelude.{◌≡◌, ◌+◌, ◌<◌, IfNone, IfSome, MatchOption, None, Some, drop, false, length, slice_index_or, true};
-ghost use Rattle.turn_rule.specs.Schedule.{has_turn};
-ghost use Rattle.awake_rows.specs.Slots.{IsBefore, IsClear, IsNotClear, clock_among};
+ghost use Rattle.std.specs.Prelude.{◌≡◌, IfNone, IfSome, Some, not};
+ghost use Rattle.turn_rule.specs.Schedule.{floor_above};
+ghost use Rattle.awake_rows.specs.Living.{AllAbove, IsClear, IsNotAbove, IsNotClear, row_in};
+ghost use Rattle.awake_rows.specs.Slots.{clock_among};
 
+use crate::goroutine::Goroutine;
+use crate::rows::row_in;
 use crate::slot::Slot;
 use logical_clock::{Clock, Key};
+use slot_index::SlotIndex;
 
 /// Whose clocks count.
 #[derive(Clone, Copy)]
@@ -31,29 +35,29 @@ impl Among {
         }
     }
 
-    /// The clock of goroutine `number`, where it is awake and counts.
+    /// The clock of the goroutine in `slot`, if it is awake and counts.
     #[inline(always)]
     #[tactic(auto, using(crate::proofs::Kept::nobody_counts))]
-    pub(crate) fn clock_at(self, rows: &[Option<Slot>], number: u64) -> Option<Clock>
-        ensures { result ≡ clock_among self (slice_index_or rows.now number None) }
+    pub(crate) fn clock_at(self, items: &[Option<Goroutine>], slot: usize) -> Option<Clock>
+        ensures { result ≡ clock_among self (row_in items.now slot) }
     {
-        if (number as usize) < rows.len() {
-            if let Some(slot) = &rows[number as usize] {
-                return self.clock(slot);
-            }
+        match row_in(items, slot) {
+            Some(row) => self.clock(row),
+            None => None,
         }
-        None
     }
 }
 
-/// Who stands before the key: an awake goroutine whose floor the key is not below. None where the key has the turn.
-pub(crate) fn blocker(rows: &[Option<Slot>], key: Key) -> Option<u64>
-    ensures { MatchOption result (has_turn key 0 rows.now ≡ true) (λ n. (has_turn key 0 rows.now ≡ false) × IsBefore rows.now key n) }
+/// An awake goroutine, other than the key's own, whose floor the key is not below. Looks at all slots.
+pub(crate) fn blocker(slots: &SlotIndex, items: &[Option<Goroutine>], key: Key) -> Option<u64>
+    ensures none { IfNone result (AllAbove slots.now items.now key) }
+    ensures some { IfSome result (λ n. IsNotAbove slots.now items.now key n) }
 {
-    for place in 0..rows.len() {
-        if is_before_at(rows, &key, place) {
-            let number = place as u64;
-            return Some(number);
+    for slot in 0..items.len() {
+        if let Some(number) = slots.number(slot) {
+            if is_before_at(items, &key, slot, number) {
+                return Some(number);
+            }
         }
     }
     None
@@ -80,18 +84,15 @@ pub(crate) fn not_above(first: Option<Key>, key: &Key) -> Option<u64>
     Some(first.number)
 }
 
-/// Whether another goroutine than the key's is awake at a place, and the key is not below its floor.
-fn is_before_at(rows: &[Option<Slot>], key: &Key, place: usize) -> bool
-    requires { place < length rows.now }
-    ensures before { result ≡ true → (has_turn key.now place (drop place rows.now) ≡ false) × IsBefore rows.now key.now place }
-    ensures after { result ≡ false → has_turn key.now place (drop place rows.now) ≡ has_turn key.now (place + 1) (drop (place + 1) rows.now) }
+/// Whether goroutine `number`, which has `slot`, is awake, is not the key's own, and has a floor that the key is not below.
+fn is_before_at(items: &[Option<Goroutine>], key: &Key, slot: usize, number: u64) -> bool
+    ensures { result ≡ not (floor_above key.now number (row_in items.now slot)) }
 {
-    let Some(slot) = &rows[place] else {
+    let Some(row) = row_in(items, slot) else {
         return false;
     };
-    let number = place as u64;
     let floor = Key {
-        clock: slot.floor(),
+        clock: row.floor(),
         number,
     };
     number != key.number && !key.is_before(&floor)

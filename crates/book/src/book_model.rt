@@ -346,7 +346,7 @@ impl<B: BookName> Book<B> {
     fn count(&self) -> usize
         ensures { result ≡ length self.now.core.rows }
     {
-        self.core.rows().len()
+        self.core.count() as usize
     }
 
     /// Whether goroutine `number` is awake, and lent.

@@ -25,7 +25,10 @@ pub fn main_state(alloc: Global, program: &Verified, limit: u64) -> Result<GoSta
 {
     let _ = limit;
     let mut core = Core::open(alloc, program)?;
-    Ok(core.take_state(1))
+    match core.lend_least() {
+        Some((_, state)) => Ok(state),
+        None => Err(Memory),
+    }
 }
 
 /// The request to which a goroutine comes next.

@@ -195,16 +195,19 @@ fn floor_holds(alloc: Global) -> Result<bool, Fault> {
     leads(alloc, &MEETS_TWICE, &steps, &WAITED_FOR, "1\n", None)
 }
 
-/// Whether a state is away once it is taken out, and here once it is put back.
-fn state_is_taken_out_and_put_back(alloc: Global) -> Result<bool, Fault> {
+/// Whether a state is away once it is lent, and here once it is taken back.
+#[tactic(auto, using(world_core_base::proofs::Others::still_awake))]
+fn state_is_lent_and_taken_back(alloc: Global) -> Result<bool, Fault> {
     let program = program(alloc, &HANDS_OVER)?;
     let mut core = Core::open(alloc, &program)?;
-    let state = core.take_state(1);
-    let away = core.first_awake();
-    core.put_state(1, state);
-    let here = core.first_awake();
+    let Some((number, state)) = core.lend_least() else {
+        return Ok(false);
+    };
+    let away = core.is_lent(1) && core.awake(1).is_none();
+    core.take_back(number, state, false);
+    let here = !core.is_lent(1) && core.awake(1).is_some();
     let parked = core.least_parked();
-    Ok(away == None && here == Some(1) && parked == None)
+    Ok(away && here && number == 1 && parked == None)
 }
 
 /// Whether schedules lead where they must.
@@ -219,7 +222,7 @@ pub(crate) fn check(alloc: Global, checks: &mut Checks) -> Result<(), Memory> {
     let nothing = leads(alloc, &HANDS_OVER, &FOOLISH, &[], "", None);
     checks.see("foolish steps change nothing", nothing)?;
     checks.see(
-        "a state is taken out and put back",
-        state_is_taken_out_and_put_back(alloc),
+        "a state is lent and taken back",
+        state_is_lent_and_taken_back(alloc),
     )
 }

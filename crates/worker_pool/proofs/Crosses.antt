@@ -41,8 +41,10 @@ use Rattle.word.proofs.value.Item.TheSendSync.{the_send as item_send}
 use Rattle.logical_clock.proofs.clock.Clock.TheSendSync.{the_send as clock_send}
 use Rattle.awake_rows.proofs.orders.Orders.TheSendSync.{the_field_send as orders_send}
 use Rattle.awake_rows.proofs.slot.Ahead.TheSendSync.{the_field_send as ahead_send}
-use Rattle.awake_rows.specs.contracts.awake.AwakeRows as AwakeRows
-use Rattle.awake_rows.specs.contracts.awake.AwakeRows.TheInside as awake
+use Rattle.awake_rows.specs.contracts.goroutine.Goroutine as Goroutine
+use Rattle.awake_rows.specs.contracts.goroutines.Goroutines as Goroutines
+use Rattle.awake_rows.specs.contracts.goroutines.Goroutines.TheInside as goroutines
+use Rattle.slot_index.proofs.index.SlotIndex.TheSendSync.{the_send as index_send}
 use Rattle.world_core_base.specs.contracts.core_model.Core as Core
 use Rattle.world_core_base.specs.contracts.core_model.Core.TheInside as core
 use Rattle.world_core_base.specs.contracts.situation.Situation as Situation
@@ -51,8 +53,6 @@ use Rattle.world_core_base.specs.contracts.waking.Spare as Spare
 use Rattle.awake_rows.specs.contracts.slot.Held as Held
 use Rattle.awake_rows.specs.contracts.slot.Slot as Slot
 use Rattle.awake_rows.specs.contracts.slot.Slot.TheInside as slot
-use Rattle.awake_rows.specs.contracts.slot.Away as Away
-use Rattle.awake_rows.specs.contracts.slot.Away.TheInside as away
 use Rattle.book.specs.declared.name.BookName.{Ghosts as BookGhosts}
 use Rattle.worker_pool.specs.contracts.locked.Locked as Locked
 use Rattle.book.specs.contracts.run_book.RunBook as RunBook
@@ -64,12 +64,6 @@ use Rattle.workers.proofs.work_queues.WorkQueues.TheSendSync.{the_send as work_q
 use Rattle.workers.specs.contracts.work_queues.WorkQueues as WorkQueues
 use Rattle.book.specs.declared.run_name.RunName.{Ghosts}
 
-away_inside : IsSend away.the_row
-away_inside = recorded_send away.the_field.row _ _ away.the_type.to_one (struct_send (shape away.the_type) (search (sendable, crosses), (search (sendable), tt)))
-
-away_send : IsSend Away.the_row
-away_send = view_send _ _ _ _ _ away_inside
-
 held_send : IsSend Held.the_field.row
 held_send = enum_send (enum.shape Held.the_type) ((search (sendable, crosses, state_send) depth 20, tt), ((search (sendable, crosses) depth 20, tt), ((search (sendable, crosses, ahead_send) depth 20, tt), tt)))
 
@@ -79,11 +73,14 @@ slot_inside = recorded_send slot.the_field.row _ _ slot.the_type.to_one (struct_
 slot_send : IsSend Slot.the_row
 slot_send = view_send _ _ _ _ _ slot_inside
 
-awake_inside : IsSend awake.the_row
-awake_inside = recorded_send awake.the_field.row _ _ awake.the_type.to_one (struct_send (shape awake.the_type) (search (sendable, crosses, slot_send) depth 20, (orders_send, tt)))
+goroutine_send : IsSend Goroutine.the_field.row
+goroutine_send = enum_send (enum.shape Goroutine.the_type) ((slot_send, tt), ((sleeping_send, tt), tt))
 
-awake_send : IsSend AwakeRows.the_row
-awake_send = view_send _ _ _ _ _ awake_inside
+goroutines_inside : IsSend goroutines.the_row
+goroutines_inside = recorded_send goroutines.the_field.row _ _ goroutines.the_type.to_one (struct_send (shape goroutines.the_type) (search sendable, (index_send, (search (sendable, crosses, goroutine_send) depth 20, (orders_send, tt)))))
+
+goroutines_send : IsSend Goroutines.the_row
+goroutines_send = view_send _ _ _ _ _ goroutines_inside
 
 sleeper_inside : IsSend sleeper.the_row
 sleeper_inside = recorded_send sleeper.the_field.row _ _ sleeper.the_type.to_one (struct_send (shape sleeper.the_type) (search sendable, (search (sendable, crosses), tt)))
@@ -145,14 +142,8 @@ channels_send = view_send _ _ _ _ _ channels_inside
 situation_inside : IsSend situation.the_row
 situation_inside =
     recorded_send situation.the_field.row _ _ situation.the_type.to_one (struct_send (shape situation.the_type) (
-      awake_send,
-      (
-        search (sendable, crosses, sleeping_send) depth 20,
-        (
-          search (sendable, crosses, away_send) depth 20,
-          (channels_send, (search sendable, (search sendable, (search (sendable, end_send) depth 20, tt)))),
-        ),
-      ),
+      goroutines_send,
+      (channels_send, (search sendable, (search sendable, (search (sendable, end_send) depth 20, tt)))),
     ))
 
 situation_send : IsSend Situation.the_row

@@ -4,4 +4,4 @@
 mod schedule;
 
 pub use schedule::{World, run_schedule};
-pub use world_core_base::{Away, Core, Slot, Step, blank_event};
+pub use world_core_base::{Core, Slot, Step, blank_event};

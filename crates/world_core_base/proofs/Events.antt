@@ -151,7 +151,7 @@ module _ (code : Code) (limit : ℕ) (core : CoreValue) (event : Recorded) (new 
       (λ (x : Others) (b : Beside code limit core x). many_acts (shared_with x core.channels) event.number event.clock (request_of event.request) (request_of event.request) go (b.live ∙ full)) left (stands (Panics TooManyGoroutines 0) [] came alone))
 
   pub made_started : (f : ℕ) (args : List Word) (later : ℕ) → request_of event.request ≡ Go f args → core.live ≢ MAX_GOROUTINES → outcome_of event.outcome ≡ Done Nothing → event.partners.items ≡ length core.rows ∷ [] → later ≡ event.clock + 1
-      → new ≡ record core { rows = answered_rows code (core.rows ++ Some (free_row (at later (code_begin code f args))) ∷ []) event.number later Nothing; beds = core.beds ++ None ∷ []; taken = core.taken ++ None ∷ []; live = core.live + 1; events = core.events + 1 }
+      → new ≡ record core { rows = answered_rows code (core.rows ++ Some (free_row (at later (code_begin code f args))) ∷ []) event.number later Nothing; beds = core.beds ++ None ∷ []; live = core.live + 1; events = core.events + 1 }
       → Made code limit core event new
   made_started f args later went room came started one left =
       let go : IsGo (request_of event.request) = subst IsGo (sym went) tt in

@@ -38,7 +38,7 @@ free_fits code limit s h = record { state = h; present = tt; asks = λ e. absurd
 
 -- so does a core
 pub core_fits_set : (code : Code) (limit : ℕ) (core : CoreValue) (n : ℕ) (row : Option (Row State)) → FitsCore code limit core → FitsRow code limit row → FitsCore code limit (record core { rows = slice_set core.rows n row })
-core_fits_set code limit core n row h fits = record { rows = fits_set code limit core.rows n row h.rows fits; beds = h.beds; size = h.size ∙ sym (length-set core.rows n row); live = h.live; once = h.once; count = h.count; places = h.places ∙ sym (length-set core.rows n row); here = h.here }
+core_fits_set code limit core n row h fits = record { rows = fits_set code limit core.rows n row h.rows fits; beds = h.beds; size = h.size ∙ sym (length-set core.rows n row); live = h.live; once = h.once; count = h.count }
 
 -- a row is set in the world as in its core
 pub core_set : (m : CodeMachine) (core : CoreValue) (n : ℕ) (row : Option (Row State)) → IsCoreOf m core → IsCoreOf (record m { rows = slice_set m.rows n row }) (record core { rows = slice_set core.rows n row })
@@ -70,10 +70,5 @@ opened_beds_fit code limit zero = tt
 opened_beds_fit code limit (suc zero) = tt
 opened_beds_fit code limit (suc (suc k)) = tt
 
-opened_here : (code : Code) (n : ℕ) → slice_index_or (opened_core code).taken n None ≡ None
-opened_here code zero = refl
-opened_here code (suc zero) = refl
-opened_here code (suc (suc n)) = refl
-
 pub opened_fits : (code : Code) (limit : ℕ) → IsVerified code → limit ≤ 2 ^ 62 → FitsCore code limit (opened_core code)
-opened_fits code limit v le = record { rows = opened_rows_fit code limit v le; beds = opened_beds_fit code limit; size = refl; live = omega arith; once = tt; count = λ e. omega arith; places = refl; here = opened_here code }
+opened_fits code limit v le = record { rows = opened_rows_fit code limit v le; beds = opened_beds_fit code limit; size = refl; live = omega arith; once = tt; count = λ e. omega arith }

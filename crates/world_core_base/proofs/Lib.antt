@@ -6,7 +6,6 @@ pub mod Shapes
 pub mod Events
 pub mod Roused
 pub mod Stepping
-pub mod Taking
 pub mod Others
 pub mod Deserted
 pub use Rattle.awake_rows.proofs.Found

@@ -1,6 +1,7 @@
 -- Who is awake, and is not the one whose request is performed, stays as it is.
-use Rattle.std.proofs.Common.{◌≡◌, ◌≢◌, ℕ, List, [], ◌∷◌, ◌++◌, map, Option, Some, None, refl, sym, ap, ◌∙◌, get_or-set_other}
-use Rattle.std.specs.Prelude.{◌+◌, option_map, slice_index_or, slice_set}
+use Rattle.std.proofs.Common.{◌≡◌, ◌≢◌, ℕ, List, [], ◌∷◌, ◌++◌, map, Option, Some, None, refl, sym, ap, ◌∙◌, get_or-set_other, get_or-set_same}
+use Rattle.std.specs.Prelude.{IsSome, ◌+◌, option_map, slice_index_or, slice_set}
+use Rattle.std.specs.Option.{is_some}
 use Rattle.std.proofs.lemmas.List.{get_or_append_left}
 use Rattle.bytecode.specs.Code.{Code}
 use Rattle.bytecode.specs.Machine.{Frames, code_kind}
@@ -13,7 +14,7 @@ use Rattle.word.specs.Worlds.{Bed, actor_after, begun_at, in_bed, performs, rule
 use Rattle.word.proofs.Fair.{AllWake, IsApart, fair}
 use Rattle.word.proofs.Found.{In}
 use Rattle.world_core_base.specs.Cores.{CodeMachine, shared_of}
-use Rattle.awake_rows.specs.Slots.{State, Rows}
+use Rattle.awake_rows.specs.Slots.{IsFreeIn, State, Rows, free_row}
 use Rattle.world_core_base.proofs.Performing.{there}
 
 -- whoever is woken was asleep
@@ -49,3 +50,7 @@ module _ (code : Code) (limit : ℕ) where
   performed_other m n k row other actor here ne awake =
       ap (λ (o : Option (Row State)). slice_index_or (perform_row (rules (code_kind code) limit) m n o).rows k None) actor
       ∙ asked_other m n k row.state other (asks (code_kind code) limit row.state) here ne awake
+
+-- one that was free is awake, however it is set
+pub still_awake : (rows : Rows) (n : ℕ) (s : State) (row : Row State) → IsFreeIn rows n s → IsSome (slice_index_or (slice_set rows n (Some row)) n None)
+still_awake rows n s row free = ap is_some (get_or-set_same rows n (Some row) None (there rows n (free_row s) free))

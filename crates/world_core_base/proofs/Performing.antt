@@ -348,8 +348,6 @@ module _ (code : Code) (limit : ℕ) where
       let u = left_length d.woken (actor_beds core.beds n s d.fate) in
       let z = actor_length core.beds n s d.fate in
       let size = fits.size in
-      let v = new_length d.started core.taken in
-      let places = fits.places in
       subst (FitsCore code limit) g.left (record {
         rows = both.0;
         beds = both.1;
@@ -357,6 +355,4 @@ module _ (code : Code) (limit : ℕ) where
         live = ord.live fits.live;
         once = ord.asleep fits.once;
         count = below_last core n clock means s o d a g.is more;
-        places = omega (arith, w, x, y, v, places);
-        here = λ k. new_at k d.started core.taken ∙ fits.here k;
       })

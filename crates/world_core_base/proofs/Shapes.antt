@@ -50,8 +50,8 @@ module _ (code : Code) (limit : ℕ) (core : CoreValue) (n clock : ℕ) (means :
 
   -- what is counted and how it ends are the core's own
   counted : (rows : Rows) (beds : Beds) (channels : ChannelsValue) (o : Others) → Beside code limit core o
-      → ◌≡◌ {A = CoreValue} (record { rows = rows; beds = beds; taken = core.taken; channels = channels; live = o.live; events = core.events + 1; ending = o.ending }) (record { rows = rows; beds = beds; taken = core.taken; channels = channels; live = core.live; events = core.events + 1; ending = core.ending })
-  counted rows beds channels o b = ap (λ l. record { rows = rows; beds = beds; taken = core.taken; channels = channels; live = l; events = core.events + 1; ending = o.ending }) b.live ∙ ap (λ e. record { rows = rows; beds = beds; taken = core.taken; channels = channels; live = core.live; events = core.events + 1; ending = e }) b.ending
+      → ◌≡◌ {A = CoreValue} (record { rows = rows; beds = beds; channels = channels; live = o.live; events = core.events + 1; ending = o.ending }) (record { rows = rows; beds = beds; channels = channels; live = core.live; events = core.events + 1; ending = core.ending })
+  counted rows beds channels o b = ap (λ l. record { rows = rows; beds = beds; channels = channels; live = l; events = core.events + 1; ending = o.ending }) b.live ∙ ap (λ e. record { rows = rows; beds = beds; channels = channels; live = core.live; events = core.events + 1; ending = e }) b.ending
 
   -- done, and these are woken
   pub leaves_done : (reply : Reply) (woken : List (ℕ × Reply)) (channels : ChannelsValue) (later : ℕ) (event : Event) (new : CoreValue) (deed : Others → Deed)
@@ -109,7 +109,7 @@ module _ (code : Code) (limit : ℕ) (core : CoreValue) (n clock : ℕ) (means :
   leaves_met (outcomes.Panics cause k) channels event new does h o b = record {
     deed = deed_of o n clock means (outcomes.Panics cause k) channels;
     is = does o;
-    left = ap (λ l. record { rows = slice_set core.rows n (Some (free_row a.row.state)); beds = core.beds; taken = core.taken; channels = channels; live = l; events = core.events + 1; ending = Some (Panicked cause) }) b.live
+    left = ap (λ l. record { rows = slice_set core.rows n (Some (free_row a.row.state)); beds = core.beds; channels = channels; live = l; events = core.events + 1; ending = Some (Panicked cause) }) b.live
         ∙ ap (λ (s : Option (Row State)). record core { rows = slice_set core.rows n s; channels = channels; events = core.events + 1; ending = Some (Panicked cause) }) (ap (option_map (λ (row : Row State). free_row row.state)) (sym a.here)) ∙ sym h.new;
     quiet = (refl, refl);
     later = λ p. absurd p;
@@ -138,7 +138,7 @@ module _ (code : Code) (limit : ℕ) (core : CoreValue) (n clock : ℕ) (means :
   leaves_ends outcome end event new act_is new_is event_is o b = record {
     deed = ends (shared_with o core.channels) n clock means outcome end;
     is = act_is o b;
-    left = ap (λ l. record { rows = slice_set core.rows n (Some (free_row a.row.state)); beds = core.beds; taken = core.taken; channels = core.channels; live = l; events = core.events + 1; ending = Some end }) b.live
+    left = ap (λ l. record { rows = slice_set core.rows n (Some (free_row a.row.state)); beds = core.beds; channels = core.channels; live = l; events = core.events + 1; ending = Some end }) b.live
         ∙ ap (λ (s : Option (Row State)). record core { rows = slice_set core.rows n s; events = core.events + 1; ending = Some end }) (ap (option_map (λ (row : Row State). free_row row.state)) (sym a.here)) ∙ sym new_is;
     quiet = (refl, refl);
     later = λ p. absurd p;
@@ -152,7 +152,7 @@ module _ (code : Code) (limit : ℕ) (core : CoreValue) (n clock : ℕ) (means :
   leaves_ended event new ended new_is event_is o b = record {
     deed = record { fate = Leaves; woken = []; started = []; shared = record (shared_with o core.channels) { live = o.live - 1; events = o.events ++ recorded clock n means (Done Nothing) [] ∷ [] } };
     is = ap (λ q. act (shared_with o core.channels) n clock means q) ended;
-    left = ap (λ l. record { rows = slice_set core.rows n None; beds = core.beds; taken = core.taken; channels = core.channels; live = l - 1; events = core.events + 1; ending = o.ending }) b.live
+    left = ap (λ l. record { rows = slice_set core.rows n None; beds = core.beds; channels = core.channels; live = l - 1; events = core.events + 1; ending = o.ending }) b.live
         ∙ ap (λ x. record core { rows = slice_set core.rows n None; live = core.live - 1; events = core.events + 1; ending = x }) b.ending ∙ sym new_is;
     quiet = (refl, refl);
     later = λ p. absurd p;
@@ -162,7 +162,7 @@ module _ (code : Code) (limit : ℕ) (core : CoreValue) (n clock : ℕ) (means :
 
   -- a new goroutine
   pub leaves_started : (f : ℕ) (args : List Word) (later : ℕ) (event : Event) (new : CoreValue) → means ≡ Go f args → core.live ≢ MAX_GOROUTINES → later ≡ clock + 1 → clock < limit
-      → new ≡ record core { rows = answered_rows code (core.rows ++ Some (free_row (at later (code_begin code f args))) ∷ []) n later Nothing; beds = core.beds ++ None ∷ []; taken = core.taken ++ None ∷ []; live = core.live + 1; events = core.events + 1 }
+      → new ≡ record core { rows = answered_rows code (core.rows ++ Some (free_row (at later (code_begin code f args))) ∷ []) n later Nothing; beds = core.beds ++ None ∷ []; live = core.live + 1; events = core.events + 1 }
       → event ≡ recorded clock n means (Done Nothing) (length core.rows ∷ []) → LeavesAll code limit core n clock means a.row.state event [] new
   leaves_started f args later event new went room e below new_is event_is o b =
       let s = a.row.state in
@@ -172,11 +172,11 @@ module _ (code : Code) (limit : ℕ) (core : CoreValue) (n clock : ℕ) (means :
       record {
         deed = d;
         is = ap (λ q. act (shared_with o core.channels) n clock means q) went ∙ ap (λ t. cond t (panics (shared_with o core.channels) n clock means TooManyGoroutines 0) d) (ne_eqb o.live MAX_GOROUTINES there);
-        left = ap (λ l. record { rows = rows; beds = core.beds ++ None ∷ []; taken = core.taken ++ None ∷ []; channels = core.channels; live = l + 1; events = core.events + 1; ending = o.ending }) b.live
-            ∙ ap (λ x. record core { rows = rows; beds = core.beds ++ None ∷ []; taken = core.taken ++ None ∷ []; live = core.live + 1; events = core.events + 1; ending = x }) b.ending
-            ∙ ap (λ (rs : Rows). record core { rows = rs ++ Some (free_row (at (s.clock + 1) (code_begin code f args))) ∷ []; beds = core.beds ++ None ∷ []; taken = core.taken ++ None ∷ []; live = core.live + 1; events = core.events + 1 }) (sym (answered_is later Nothing e))
-            ∙ ap (λ t. record core { rows = answered later Nothing ++ Some (free_row (at t (code_begin code f args))) ∷ []; beds = core.beds ++ None ∷ []; taken = core.taken ++ None ∷ []; live = core.live + 1; events = core.events + 1 }) (sym (later_is later e))
-            ∙ ap (λ (rs : Rows). record core { rows = rs; beds = core.beds ++ None ∷ []; taken = core.taken ++ None ∷ []; live = core.live + 1; events = core.events + 1 }) (sym (answered_before (Some (free_row (at later (code_begin code f args)))) later Nothing)) ∙ sym new_is;
+        left = ap (λ l. record { rows = rows; beds = core.beds ++ None ∷ []; channels = core.channels; live = l + 1; events = core.events + 1; ending = o.ending }) b.live
+            ∙ ap (λ x. record core { rows = rows; beds = core.beds ++ None ∷ []; live = core.live + 1; events = core.events + 1; ending = x }) b.ending
+            ∙ ap (λ (rs : Rows). record core { rows = rs ++ Some (free_row (at (s.clock + 1) (code_begin code f args))) ∷ []; beds = core.beds ++ None ∷ []; live = core.live + 1; events = core.events + 1 }) (sym (answered_is later Nothing e))
+            ∙ ap (λ t. record core { rows = answered later Nothing ++ Some (free_row (at t (code_begin code f args))) ∷ []; beds = core.beds ++ None ∷ []; live = core.live + 1; events = core.events + 1 }) (sym (later_is later e))
+            ∙ ap (λ (rs : Rows). record core { rows = rs; beds = core.beds ++ None ∷ []; live = core.live + 1; events = core.events + 1 }) (sym (answered_before (Some (free_row (at later (code_begin code f args)))) later Nothing)) ∙ sym new_is;
         quiet = tt;
         later = λ p. below;
         events = ap (λ k. o.events ++ recorded clock n means (Done Nothing) (k ∷ []) ∷ []) (sym b.made) ∙ ap (λ x. o.events ++ x ∷ []) (sym event_is);
@@ -258,8 +258,8 @@ pub stopped_core : (n : ℕ) (end : Ending) (core asked new : CoreValue) → ask
     → new ≡ record core { rows = slice_set core.rows n (option_map (λ (row : Row State). free_row row.state) (slice_index_or core.rows n None)); channels = asked.channels; events = core.events + 1; ending = Some end }
 stopped_core n end core asked new a b = b ∙ ap (λ (x : CoreValue). record x { rows = slice_set x.rows n (option_map (λ (row : Row State). free_row row.state) (slice_index_or x.rows n None)); events = x.events + 1; ending = Some end }) a
 
-pub added_core : (code : Code) (n later : ℕ) (s t : State) (core added new : CoreValue) → s ≡ t → added ≡ record core { rows = core.rows ++ Some (free_row s) ∷ []; beds = core.beds ++ None ∷ []; taken = core.taken ++ None ∷ []; live = core.live + 1 }
+pub added_core : (code : Code) (n later : ℕ) (s t : State) (core added new : CoreValue) → s ≡ t → added ≡ record core { rows = core.rows ++ Some (free_row s) ∷ []; beds = core.beds ++ None ∷ []; live = core.live + 1 }
     → new ≡ record added { rows = answered_rows code added.rows n later Nothing; events = added.events + 1 }
-    → new ≡ record core { rows = answered_rows code (core.rows ++ Some (free_row t) ∷ []) n later Nothing; beds = core.beds ++ None ∷ []; taken = core.taken ++ None ∷ []; live = core.live + 1; events = core.events + 1 }
+    → new ≡ record core { rows = answered_rows code (core.rows ++ Some (free_row t) ∷ []) n later Nothing; beds = core.beds ++ None ∷ []; live = core.live + 1; events = core.events + 1 }
 added_core code n later s t core added new e a b =
-    b ∙ ap (λ (x : CoreValue). record x { rows = answered_rows code x.rows n later Nothing; events = x.events + 1 }) (a ∙ ap (λ u. record core { rows = core.rows ++ Some (free_row u) ∷ []; beds = core.beds ++ None ∷ []; taken = core.taken ++ None ∷ []; live = core.live + 1 }) e)
+    b ∙ ap (λ (x : CoreValue). record x { rows = answered_rows code x.rows n later Nothing; events = x.events + 1 }) (a ∙ ap (λ u. record core { rows = core.rows ++ Some (free_row u) ∷ []; beds = core.beds ++ None ∷ []; live = core.live + 1 }) e)

@@ -19,6 +19,4 @@ rows_fit code limit step n core fits here = record {
   live = fits.live;
   once = fits.once;
   count = fits.count;
-  places = fits.places ∙ sym (length-set core.rows n (option_map (stepped_row code limit step) (slice_index_or core.rows n None)));
-  here = fits.here;
 }

@@ -22,7 +22,7 @@ use Rattle.logical_clock.specs.declared.limits.TheConstants.{MAX_GOROUTINES}
 use Rattle.word.specs.Values.{Request, Close, End, Exit, Exhausted, Go, Panic, Reply, Nothing, EventOutcome, Done, Sleeps, Panics, Event, Sleeper, Shared}
 use Rattle.word.specs.Views.{event_of}
 use Rattle.word.specs.Worlds.{Bed, Rest, in_bed, rules}
-use Rattle.awake_rows.specs.Slots.{State, Rows, Beds, FitsAll, FitsBeds, WorksIn, back_row, free_clock, free_row, waiting_clock}
+use Rattle.awake_rows.specs.Slots.{State, Rows, Beds, FitsAll, FitsBeds, WorksIn, free_clock, free_row, waiting_clock}
 pub use Rattle.awake_rows.specs.Slots.{IsFreeIn, answered_rows}
 
 abbrev pub CodeMachine : Type 0
@@ -35,8 +35,6 @@ shared_of m = m.shared.shared
 pub record CoreValue : Type 0 where
   pub rows : Rows
   pub beds : Beds
-  -- goroutine n, if its state is taken out, is at place n
-  pub taken : Rows
   pub channels : ChannelsValue
   pub live : ℕ
   pub events : ℕ
@@ -71,7 +69,7 @@ abbrev pub numbers : List Sleeper → List ℕ
 numbers ss = map (λ (s : Sleeper). s.number) ss
 
 -- its goroutines are of this code and limit, at most 1,024 are alive, each of those asleep sleeps once, a run that goes on
--- has had less than 2^62 events, and no state is taken out
+-- has had less than 2^62 events
 pub record FitsCore (code : Code) (limit : ℕ) (core : CoreValue) : Type 0 where
   pub rows : FitsAll code limit core.rows
   pub beds : FitsBeds code limit core.beds
@@ -79,15 +77,12 @@ pub record FitsCore (code : Code) (limit : ℕ) (core : CoreValue) : Type 0 wher
   pub live : core.live ≤ MAX_GOROUTINES
   pub once : Once (numbers core.channels.asleep)
   pub count : is_some core.ending ≡ false → core.events < 2 ^ 62
-  pub places : length core.taken ≡ length core.rows
-  pub here : (n : ℕ) → slice_index_or core.taken n None ≡ None
 
 -- goroutine 1 alone, at the beginning of `main`
 abbrev pub opened_core : Code → CoreValue
 opened_core code = record {
   rows = None ∷ Some (free_row (at 0 (code_begin code (code_kind code).main []))) ∷ [];
   beds = None ∷ None ∷ [];
-  taken = None ∷ None ∷ [];
   channels = record { channels = no_channel ∷ []; asleep = [] };
   live = 1;
   events = 0;
@@ -195,40 +190,6 @@ IsLentRow rows n base = (row : Row State) × (slice_index_or rows n None ≡ Som
 abbrev pub HasLease : Rows → ℕ → Type 0
 HasLease rows n = (row : Row State) × (slice_index_or rows n None ≡ Some row) × (is_some row.lease ≡ true)
 
--- ---- states that are taken out
-
-abbrev pub or_taken : Option (Row State) → Option (Row State) → Option State
-or_taken (Some row) taken = Some row.state
-or_taken None taken = option_map (λ (row : Row State). row.state) taken
-
--- the state of goroutine n, if it is awake, also where it is taken out
-abbrev pub state_of : CoreValue → ℕ → Option State
-state_of core n = or_taken (slice_index_or core.rows n None) (slice_index_or core.taken n None)
-
--- goroutine n is awake, not lent, and its state is not taken out
-pub record IsHere (core : CoreValue) (n : ℕ) : Type 0 where
-  pub row : Row State
-  pub here : slice_index_or core.rows n None ≡ Some row
-  pub free : row.lease ≡ None
-  pub place : n < length core.taken
-
--- goroutine n's state is taken out
-pub record IsAway (core : CoreValue) (n : ℕ) : Type 0 where
-  pub row : Row State
-  pub away : slice_index_or core.taken n None ≡ Some row
-  pub place : n < length core.rows
-
--- its state is taken out, and stands among those that are
-abbrev pub taken_out : CoreValue → ℕ → CoreValue
-taken_out core n = record core { rows = slice_set core.rows n None; taken = slice_set core.taken n (slice_index_or core.rows n None) }
-
--- it is back in this state, parked if it was
-abbrev pub put_back : CoreValue → ℕ → State → CoreValue
-put_back core n state = record core {
-  rows = slice_set core.rows n (option_map (λ (row : Row State). back_row state row.parked) (slice_index_or core.taken n None));
-  taken = slice_set core.taken n None;
-}
-
 -- goroutine number n stands at its request, and has the turn
 pub record HasTurn (core : CoreValue) (n : ℕ) : Type 0 where
   pub key : Key
@@ -282,7 +243,6 @@ module _ (code : Code) where
       record {
         rows = new_rows (woken_rows (slice_set core.rows n (actor_row s clock d.fate)) (actor_beds core.beds n s d.fate) clock d.woken) clock d.started;
         beds = new_places (left_beds (actor_beds core.beds n s d.fate) d.woken) d.started;
-        taken = new_places core.taken d.started;
         channels = record { channels = d.shared.channels; asleep = d.shared.asleep };
         live = d.shared.live;
         events = core.events + 1;

@@ -1,18 +1,18 @@
 //! The world of a run, without its lists of events and bytes.
 
-ghost use Rattle.std.specs.Prelude.{◌≡◌, ◌≢◌, ℕ, ◌+◌, ◌<◌, ◌≤◌, ◌^◌, ◌↔◌, ◌++◌, IsTrue, IfNone, IfOk, IfSome, MatchOption, OnErr, OnOk, None, Some, false, true, length, option_map, slice_index_or, slice_set};
+ghost use Rattle.std.specs.Prelude.{◌≡◌, ℕ, ◌+◌, ◌<◌, ◌≤◌, ◌^◌, ◌↔◌, ◌++◌, IsTrue, IfNone, IfOk, IfSome, IsSome, MatchOption, OnErr, OnOk, None, Some, false, true, length, option_map, slice_index_or, slice_set};
 ghost use Rattle.std.specs.Option.{is_some};
 ghost use Rattle.bytecode.specs.Rules.{IsVerified};
 ghost use Rattle.logical_clock.specs.Order.{keys, least};
 ghost use Rattle.turn_rule.specs.declared.Row.{Row};
 ghost use Rattle.turn_rule.specs.Schedule.{has_turn};
 ghost use Rattle.word.specs.Views.{event_of};
-ghost use Rattle.world_core_base.specs.Cores.{Asks, FitsCore, IsAway, HasLease, IsHere, Performs, Works, bytes_of, most_partners, no_event, opened_core, put_back, state_of, taken_out, to_lend};
+ghost use Rattle.world_core_base.specs.Cores.{Asks, FitsCore, HasLease, Performs, Works, bytes_of, most_partners, no_event, opened_core, to_lend};
 ghost use Rattle.awake_rows.specs.Slots.{FitsAll, FitsRow, State, IsAwake, IsBefore, IsFreeIn, IsNobodyAwake, back_row, lent_row, raised_row, stepped_rows, waiting_clock};
 
 use crate::situation::Situation;
 use crate::waking::Spare;
-use awake_rows::{Among, Slot, put_at, take_at};
+use awake_rows::Among;
 use go_text::Memory;
 use goroutine_vm::{GoState, Sleeping};
 use logical_clock::{Clock, Key};
@@ -73,11 +73,12 @@ impl Core {
         self.situation.ending
     }
 
-    /// The awake goroutines: goroutine n at place n.
-    pub fn rows(&self) -> &[Option<Slot>]
-        ensures { result.now ≡ self.now.rows }
+    /// The number that the next goroutine gets.
+    #[inline(always)]
+    pub fn count(&self) -> u64
+        ensures { result ≡ length self.now.rows }
     {
-        self.situation.rows.as_slice()
+        self.situation.goroutines.count()
     }
 
     /// The parked goroutine of least key. A goroutine's number is its place in the rows.
@@ -87,7 +88,7 @@ impl Core {
         ensures least { result ≡ least (keys waiting_clock 0 self.now.rows) }
         ensures found { IfSome result (λ key. waiting_clock (slice_index_or self.now.rows key.number None) ≡ Some key.clock) }
     {
-        self.situation.rows.least_among(Among::Parked)
+        self.situation.goroutines.least_among(Among::Parked)
     }
 
     /// Who stands before the key: an awake goroutine whose floor the key is not below. None where the key has the turn.
@@ -95,14 +96,14 @@ impl Core {
     pub fn blocker(&self, key: Key) -> Option<u64>
         ensures { MatchOption result (has_turn key 0 self.now.rows ≡ true) (λ n. (has_turn key 0 self.now.rows ≡ false) × IsBefore self.now.rows key n) }
     {
-        self.situation.rows.blocker(key)
+        self.situation.goroutines.blocker(key)
     }
 
     /// The first goroutine that is awake.
     pub fn first_awake(&self) -> Option<u64>
         ensures { MatchOption result (IsNobodyAwake self.now.rows) (λ n. IsAwake self.now.rows n) }
     {
-        self.situation.rows.first_awake()
+        self.situation.goroutines.first_awake()
     }
 
     /// How many partners the next event has at most.
@@ -112,7 +113,7 @@ impl Core {
         self.situation.channels.asleep().max(1)
     }
 
-    /// Performs the request of goroutine `number`, which is awake and asks, while no state is taken out: writes the event to
+    /// Performs the request of goroutine `number`, which is awake and asks: writes the event to
     /// its place, and appends to the output what it prints. Without the memory that it needs it changes nothing but what
     /// stands in that place, which is of no account then.
     #[inline(always)]
@@ -181,9 +182,9 @@ impl Core {
         ensures none { IfNone result (IfSome (slice_index_or self.now.rows number None) (λ row. is_some row.lease ≡ true)) }
         ensures some { IfSome result (λ state. (row : Row State) × (slice_index_or self.now.rows number None ≡ Some row) × (row.lease ≡ None) × (state.now ≡ row.state)) }
     {
-        match self.situation.rows.as_slice().get(number as usize) {
-            Some(Some(slot)) => slot.here(),
-            _ => None,
+        match self.situation.goroutines.row(number) {
+            Some(slot) => slot.here(),
+            None => None,
         }
     }
 
@@ -192,19 +193,16 @@ impl Core {
         ensures none { IfNone result (slice_index_or self.now.beds number None ≡ None) }
         ensures some { IfSome result (λ sleeping. slice_index_or self.now.beds number None ≡ Some sleeping.now) }
     {
-        match self.situation.beds.get(number as usize) {
-            Some(Some(sleeping)) => Some(sleeping),
-            _ => None,
-        }
+        self.situation.goroutines.bed(number)
     }
 
     /// Whether goroutine `number` is awake, and lent.
     pub fn is_lent(&self, number: u64) -> bool
         ensures { IsTrue result ↔ HasLease self.now.rows number }
     {
-        match self.situation.rows.as_slice().get(number as usize) {
-            Some(Some(slot)) => slot.is_lent(),
-            _ => false,
+        match self.situation.goroutines.row(number) {
+            Some(slot) => slot.is_lent(),
+            None => false,
         }
     }
 
@@ -212,15 +210,15 @@ impl Core {
     pub fn stands_before(&self, number: u64, key: Key) -> bool
         ensures { IsTrue result ↔ IsBefore self.now.rows key number }
     {
-        match self.situation.rows.as_slice().get(number as usize) {
-            Some(Some(slot)) => {
+        match self.situation.goroutines.row(number) {
+            Some(slot) => {
                 let floor = Key {
                     clock: slot.floor(),
                     number,
                 };
                 number != key.number && !key.is_before(&floor)
             }
-            _ => false,
+            None => false,
         }
     }
 
@@ -229,46 +227,15 @@ impl Core {
         requires { IfSome (slice_index_or self.old.rows number None) (λ row. is_some row.lease ≡ true) }
         ensures { self.new ≡ record self.old { rows = slice_set self.old.rows number (option_map (raised_row clock) (slice_index_or self.old.rows number None)) } }
     {
-        self.situation.rows.raise(number, clock);
+        self.situation.goroutines.raise(number, clock);
     }
 
-    /// Puts goroutine `number` back in this state, parked or not.
+    /// Puts goroutine `number`, which is awake, back in this state, parked or not.
     pub fn take_back(&mut self, number: u64, state: GoState, parked: bool)
+        requires { IsSome (slice_index_or self.old.rows number None) }
         ensures { self.new ≡ record self.old { rows = slice_set self.old.rows number (Some (back_row state parked)) } }
     {
-        self.situation
-            .rows
-            .put(number, Some(Slot::back(state, parked)));
-    }
-
-    /// Takes out the state of goroutine `number`, which is awake and not lent. Contracts still see it.
-    #[tactic(auto, using(crate::proofs::Taking::taken_same))]
-    pub fn take_state(&mut self, number: u64) -> GoState
-        requires { IsHere self.old number }
-        ensures state { state_of self.old number ≡ Some result }
-        ensures taken { self.new ≡ taken_out self.old number }
-        ensures same { (k : ℕ) → state_of self.new k ≡ state_of self.old k }
-    {
-        let Some(slot) = self.situation.rows.take(number) else {
-            unreachable!()
-        };
-        let (state, away) = slot.take();
-        put_at(self.situation.taken.as_mut_slice(), number, Some(away));
-        state
-    }
-
-    /// Puts this state in, for goroutine `number`, whose state was taken out.
-    #[tactic(auto, using(crate::proofs::Taking::put_state, crate::proofs::Taking::put_others))]
-    pub fn put_state(&mut self, number: u64, state: GoState)
-        requires { IsAway self.old number }
-        ensures put { self.new ≡ put_back self.old number state }
-        ensures state { state_of self.new number ≡ Some state }
-        ensures others { (k : ℕ) → k ≢ number → state_of self.new k ≡ state_of self.old k }
-    {
-        let Some(away) = take_at(self.situation.taken.as_mut_slice(), number) else {
-            unreachable!()
-        };
-        self.situation.rows.put(number, Some(away.back(state)));
+        self.situation.goroutines.put_back(number, state, parked);
     }
 
     /// One step of goroutine `number`, as a schedule names it; of one that is not awake, or without the memory that it
@@ -304,7 +271,9 @@ impl Core {
         ensures memory { OnErr result (self.new ≡ self.old) }
         ensures fits { OnOk result (FitsRow code.now limit (slice_index_or (stepped_rows code.now limit step number self.old.rows) number None)) }
     {
-        self.situation.rows.step(alloc, code, limit, number, step)
+        self.situation
+            .goroutines
+            .step(alloc, code, limit, number, step)
     }
 }
 

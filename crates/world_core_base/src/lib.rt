@@ -5,6 +5,6 @@ mod core_model;
 mod situation;
 mod waking;
 
-pub use awake_rows::{Away, Slot};
+pub use awake_rows::Slot;
 pub use core_model::{Core, blank_event};
 pub use turn_rule::Step;

@@ -1,6 +1,6 @@
 //! Where a run stands, and the requests that are performed there.
 
-ghost use Rattle.std.specs.Prelude.{◌≡◌, ℕ, ◌+◌, ◌-◌, ◌<◌, ◌≤◌, ◌^◌, [], ◌∷◌, ◌++◌, IfNone, IfOk, IfSome, OnErr, OnOk, None, Some, length, map, option_map, slice_index_or, slice_set, vec_capacity, vec_len};
+ghost use Rattle.std.specs.Prelude.{◌≡◌, ℕ, ◌+◌, ◌-◌, ◌<◌, ◌≤◌, ◌^◌, [], ◌∷◌, ◌++◌, IfNone, IfOk, IfSome, IsSome, OnErr, OnOk, None, Some, length, map, option_map, slice_index_or, slice_set, vec_capacity, vec_len};
 ghost use Rattle.bytecode.specs.Machine.{code_begin, code_kind};
 ghost use Rattle.bytecode.specs.Rules.{IsFrameOf, IsVerified};
 ghost use Rattle.channel_core.specs.Channels.{DoesAt, IsOfChannels, came};
@@ -13,13 +13,13 @@ ghost use Rattle.world_core_base.specs.Cores.{Asks, FitsCore, IsAsked, IsGo, IsL
 ghost use Rattle.awake_rows.specs.Slots.{IsFreeIn, IsUnlent, answered_rows, free_clock, free_row, lent_row};
 
 use crate::waking::{Spare, doze, make_rooms, wake};
-use awake_rows::{Among, AwakeRows, Away, Slot};
+use awake_rows::{Among, Goroutines};
 use channel_core::{Channels, Woken};
 use go_text::Memory;
-use goroutine_vm::{GoState, Room, Sleeping, spawn_state};
+use goroutine_vm::{GoState, Room, spawn_state};
 use logical_clock::limits::MAX_GOROUTINES;
 use logical_clock::{Clock, Key, LAST};
-use std::alloc::{AllocError, Global};
+use std::alloc::Global;
 use std::marker::Model;
 use verifier::Verified;
 use word::end::End;
@@ -28,12 +28,8 @@ use word::request::{Event, EventOutcome, Reply, Request};
 
 /// Where a run stands: who is awake or asleep and in which state, the channels, and the end.
 pub(crate) struct Situation {
-    /// Goroutine n, if it is awake, is at place n; place 0 is never taken.
-    pub rows: AwakeRows,
-    /// Goroutine n, if it is asleep, fell asleep in the state at place n.
-    pub beds: Vec<Option<Sleeping>>,
-    /// Goroutine n, if its state is taken out, is at place n, and at no place of the rows.
-    pub taken: Vec<Option<Away>>,
+    /// The goroutines that are awake or asleep. None has the number 0.
+    pub goroutines: Goroutines,
     pub channels: Channels,
     /// How many goroutines are awake or asleep.
     pub live: u64,
@@ -45,17 +41,13 @@ pub(crate) struct Situation {
 impl Drop for Situation {
     fn drop(self) {
         let Situation {
-            rows,
-            beds,
-            taken,
+            goroutines,
             channels,
             live: _,
             events: _,
             ending: _,
         } = self;
-        drop(rows);
-        drop(beds);
-        drop(taken);
+        drop(goroutines);
         drop(channels);
     }
 }
@@ -65,7 +57,7 @@ impl Model for Situation {
 
     ghost Value = { CoreValue };
 
-    ghost view = { λ s. record { rows = s.rows; beds = s.beds.items; taken = s.taken.items; channels = s.channels; live = s.live; events = s.events; ending = s.ending } };
+    ghost view = { λ s. record { rows = s.goroutines.rows; beds = s.goroutines.beds; channels = s.channels; live = s.live; events = s.events; ending = s.ending } };
 }
 
 impl Situation {
@@ -74,14 +66,10 @@ impl Situation {
         ensures core { IfOk result (λ core. core ≡ opened_core code.now) }
         ensures verified { IfOk result (λ _. IsVerified code.now) }
     {
-        let rows = first_rows(alloc, code)?;
-        let beds = two_places(alloc)?;
-        let taken = two_places(alloc)?;
+        let goroutines = first_goroutine(alloc, code)?;
         let channels = Channels::new(alloc)?;
         Ok(Situation {
-            rows,
-            beds,
-            taken,
+            goroutines,
             channels,
             live: 1,
             events: 0,
@@ -96,7 +84,7 @@ impl Situation {
         ensures least { result ≡ least (keys free_clock 0 self.now.rows) }
         ensures found { IfSome result (λ key. free_clock (slice_index_or self.now.rows key.number None) ≡ Some key.clock) }
     {
-        self.rows.least_among(Among::Free)
+        self.goroutines.least_among(Among::Free)
     }
 
     /// Lends the least of those that are neither lent nor parked: its number, and its state, which is moved out.
@@ -113,7 +101,7 @@ impl Situation {
         let Some(key) = self.least_free() else {
             return None;
         };
-        let Some(state) = self.rows.lend(key.number) else {
+        let Some(state) = self.goroutines.lend(key.number) else {
             unreachable!()
         };
         Some((key.number, state))
@@ -141,11 +129,13 @@ impl Situation {
         let Some(key) = self.least_free() else {
             return Ok(None);
         };
-        let asking = self.rows.work(alloc, code, limit, key.number, quantum)?;
+        let asking = self
+            .goroutines
+            .work(alloc, code, limit, key.number, quantum)?;
         Ok(Some(asking))
     }
 
-    /// Performs the request of goroutine `number`, which is awake and asks, while no state is taken out: writes the event to
+    /// Performs the request of goroutine `number`, which is awake and asks: writes the event to
     /// its place, and appends to the output what it prints. Without the memory that it needs it changes nothing but what
     /// stands in that place, which is of no account then.
     pub fn perform(
@@ -212,7 +202,7 @@ impl Situation {
         requires events { self.now.events < 2 ^ 62 }
         ensures asked { IfOk result (λ clock. IsAsked code.now limit self.now number clock (request_of request.new)) }
     {
-        let Some(Some(slot)) = self.rows.as_slice().get(number as usize) else {
+        let Some(slot) = self.goroutines.row(number) else {
             unreachable!()
         };
         if !slot.state().ask(alloc, code, limit, request)? {
@@ -290,7 +280,7 @@ impl Situation {
         };
         let later = next_time(event.clock, limit);
         let state = spawn_state(alloc, code, *function as usize, args.as_slice(), later)?;
-        event.partners.push(self.rows.len() as u64)?;
+        event.partners.push(self.goroutines.count())?;
         self.add(state)?;
         self.go_on(code, event.number, &Reply::Nothing, later);
         event.outcome = EventOutcome::Done(Reply::Nothing);
@@ -386,7 +376,7 @@ impl Situation {
         requires events { self.old.events < 2 ^ 62 }
         ensures { self.new ≡ record self.old { rows = answered_rows code.now self.old.rows number later (reply_of reply.now); events = self.old.events + 1 } }
     {
-        self.rows.answer(code, number, reply, later);
+        self.goroutines.answer(code, number, reply, later);
         self.events += 1;
     }
 
@@ -400,7 +390,7 @@ impl Situation {
           ending = Some end;
         } }
     {
-        self.rows.stay(number);
+        self.goroutines.stay(number);
         self.events += 1;
         self.ending = Some(end);
     }
@@ -410,7 +400,7 @@ impl Situation {
         requires { self.old.events < 2 ^ 62 }
         ensures { self.new ≡ record self.old { rows = slice_set self.old.rows number None; live = self.old.live - 1; events = self.old.events + 1 } }
     {
-        self.rows.take(number);
+        self.goroutines.end(number);
         self.live = self.live.saturating_sub(1);
         self.events += 1;
     }
@@ -418,14 +408,10 @@ impl Situation {
     /// A new goroutine in this state.
     fn add(&mut self, state: GoState) -> Result<(), Memory>
         requires { self.old.live < MAX_GOROUTINES }
-        ensures ok { OnOk result (self.new ≡ record self.old { rows = self.old.rows ++ Some (free_row state) ∷ []; beds = self.old.beds ++ None ∷ []; taken = self.old.taken ++ None ∷ []; live = self.old.live + 1 }) }
+        ensures ok { OnOk result (self.new ≡ record self.old { rows = self.old.rows ++ Some (free_row state) ∷ []; beds = self.old.beds ++ None ∷ []; live = self.old.live + 1 }) }
         ensures memory { OnErr result (self.new ≡ self.old) }
     {
-        self.beds.reserve(1)?;
-        self.taken.reserve(1)?;
-        self.rows.push(Some(Slot::free(state)))?;
-        self.beds.push_reserved(None);
-        self.taken.push_reserved(None);
+        self.goroutines.start(state)?;
         self.live += 1;
         Ok(())
     }
@@ -450,6 +436,7 @@ impl Situation {
     /// Goroutine `number` falls asleep, and leaves its room.
     fn fall_asleep(&mut self, number: u64, rooms: &mut Vec<Room>)
         requires events { self.old.events < 2 ^ 62 }
+        requires awake { IsSome (slice_index_or self.old.rows number None) }
         requires unlent { IsUnlent (slice_index_or self.old.rows number None) }
         requires quiet { IfSome (slice_index_or self.old.rows number None) (λ row. IsQuiet row.state.state) }
         ensures { self.new ≡ record self.old {
@@ -458,7 +445,7 @@ impl Situation {
           events = self.old.events + 1;
         } }
     {
-        doze(&mut self.rows, self.beds.as_mut_slice(), rooms, number);
+        doze(&mut self.goroutines, rooms, number);
         self.events += 1;
     }
 
@@ -478,8 +465,7 @@ impl Situation {
         ensures numbers { partners.new.items ≡ partners.old.items ++ map (λ (w : ℕ × AnyReply). w.0) spare.old.woken.items }
     {
         wake(
-            &mut self.rows,
-            self.beds.as_mut_slice(),
+            &mut self.goroutines,
             &mut spare.rooms,
             code,
             clock,
@@ -489,26 +475,17 @@ impl Situation {
     }
 }
 
-/// Goroutine 1 at the beginning of `main`, behind place 0.
-fn first_rows(alloc: Global, code: &Verified) -> Result<AwakeRows, Memory>
-    ensures rows { IfOk result (λ rows. rows ≡ None ∷ Some (free_row (at 0 (code_begin code.now (code_kind code.now).main []))) ∷ []) }
+/// Goroutine 1 at the beginning of `main`.
+fn first_goroutine(alloc: Global, code: &Verified) -> Result<Goroutines, Memory>
+    ensures rows { IfOk result (λ all. all.rows ≡ None ∷ Some (free_row (at 0 (code_begin code.now (code_kind code.now).main []))) ∷ []) }
+    ensures beds { IfOk result (λ all. all.beds ≡ None ∷ None ∷ []) }
     ensures verified { IfOk result (λ _. IsVerified code.now) }
 {
     let state = spawn_state(alloc, code, code.main(), &[], Clock::START)?;
-    let mut rows = AwakeRows::new(alloc);
-    rows.push(None)?;
-    rows.push(Some(Slot::free(state)))?;
-    Ok(rows)
-}
-
-/// Two places with nothing in them: place 0, and that of goroutine 1.
-fn two_places<T: Drop>(alloc: Global) -> Result<Vec<Option<T>>, AllocError>
-    ensures { IfOk result (λ places. places.items ≡ None ∷ None ∷ []) }
-{
-    let mut places = Vec::new(alloc);
-    places.push(None)?;
-    places.push(None)?;
-    Ok(places)
+    let mut goroutines = Goroutines::new(alloc);
+    goroutines.skip()?;
+    goroutines.start(state)?;
+    Ok(goroutines)
 }
 
 /// What comes of the request that ends the run so.

@@ -1,23 +1,19 @@
 //! Goroutines that fall asleep, and that are woken.
 
-ghost use Rattle.std.specs.Prelude.{◌≡◌, ℕ, ◌+◌, ◌≤◌, ◌++◌, IfSome, OnOk, None, length, map, option_map, slice_index_or, slice_set, vec_capacity, vec_len};
-ghost use Rattle.bytecode.specs.Machine.{code_kind};
+ghost use Rattle.std.specs.Prelude.{◌≡◌, ℕ, ◌+◌, ◌≤◌, ◌++◌, IfSome, IsSome, OnOk, None, length, map, option_map, slice_index_or, slice_set, vec_capacity, vec_len};
 ghost use Rattle.bytecode.specs.Rules.{IsFrameOf};
 ghost use Rattle.goroutine_vm.specs.Advance.{IsQuiet};
-ghost use Rattle.word.specs.Kinds.{told};
 ghost use Rattle.word.specs.Values.{Reply as AnyReply};
-ghost use Rattle.word.specs.Views.{reply_of};
 ghost use Rattle.world_core_base.specs.Cores.{left_beds, woken_rows};
-ghost use Rattle.awake_rows.specs.Slots.{IsUnlent, free_row};
+ghost use Rattle.awake_rows.specs.Slots.{IsUnlent};
 
-use awake_rows::{AwakeRows, Slot, put_at, take_at};
+use awake_rows::Goroutines;
 use channel_core::Woken;
 use go_text::Memory;
-use goroutine_vm::{Room, Sleeping};
+use goroutine_vm::Room;
 use logical_clock::Clock;
 use std::alloc::Global;
 use verifier::Verified;
-use word::request::Reply;
 
 /// How many rooms of those who fell asleep are kept for those who get up.
 const MOST_SPARE: usize = 64;
@@ -62,8 +58,7 @@ pub(crate) fn make_rooms(alloc: Global, rooms: &mut Vec<Room>, count: usize) -> 
 /// others.
 #[inline(always)]
 pub(crate) fn wake(
-    rows: &mut AwakeRows,
-    beds: &mut [Option<Sleeping>],
+    goroutines: &mut Goroutines,
     rooms: &mut Vec<Room>,
     code: &Verified,
     clock: Clock,
@@ -71,10 +66,10 @@ pub(crate) fn wake(
     partners: &mut Vec<u64>,
 )
     requires rooms { length woken.now ≤ length rooms.old.items }
-    requires fits { (k : ℕ) → IfSome (slice_index_or beds.old k None) (λ s. IsFrameOf code.now s.state) }
+    requires fits { (k : ℕ) → IfSome (slice_index_or goroutines.old.beds k None) (λ s. IsFrameOf code.now s.state) }
     requires room { vec_len partners.old + length woken.now ≤ vec_capacity partners.old }
-    ensures rows { rows.new ≡ woken_rows code.now rows.old beds.old clock woken.now }
-    ensures beds { beds.new ≡ left_beds beds.old woken.now }
+    ensures rows { goroutines.new.rows ≡ woken_rows code.now goroutines.old.rows goroutines.old.beds clock woken.now }
+    ensures beds { goroutines.new.beds ≡ left_beds goroutines.old.beds woken.now }
     ensures numbers { partners.new.items ≡ partners.old.items ++ map (λ (w : ℕ × AnyReply). w.0) woken.now }
 {
     for one in woken {
@@ -83,54 +78,21 @@ pub(crate) fn wake(
         let Some(room) = rooms.pop() else {
             unreachable!()
         };
-        wake_one(rows, beds, room, code, clock, number, one.reply());
+        goroutines.wake(number, room, code, one.reply(), clock);
     }
-}
-
-/// One who is woken gets up with this reply, at this clock.
-#[inline(always)]
-fn wake_one(
-    rows: &mut AwakeRows,
-    beds: &mut [Option<Sleeping>],
-    room: Room,
-    code: &Verified,
-    clock: Clock,
-    number: u64,
-    reply: &Reply,
-)
-    requires { IfSome (slice_index_or beds.old number None) (λ s. IsFrameOf code.now s.state) }
-    ensures rows { rows.new ≡ slice_set rows.old number (option_map (λ s. free_row (told (code_kind code.now) s clock (reply_of reply.now))) (slice_index_or beds.old number None)) }
-    ensures beds { beds.new ≡ slice_set beds.old number None }
-{
-    let Some(sleeping) = take_at(beds, number) else {
-        rows.put(number, None);
-        return;
-    };
-    let mut state = sleeping.get_up(room);
-    state.tell(code, reply, clock);
-    rows.put(number, Some(Slot::free(state)));
 }
 
 /// A goroutine that is awake falls asleep in its state, and leaves its room for one who gets up.
 #[inline(always)]
-pub(crate) fn doze(
-    rows: &mut AwakeRows,
-    beds: &mut [Option<Sleeping>],
-    rooms: &mut Vec<Room>,
-    number: u64,
-)
-    requires unlent { IsUnlent (slice_index_or rows.old number None) }
-    requires quiet { IfSome (slice_index_or rows.old number None) (λ row. IsQuiet row.state.state) }
-    ensures rows { rows.new ≡ slice_set rows.old number None }
-    ensures beds { beds.new ≡ slice_set beds.old number (option_map (λ row. row.state) (slice_index_or rows.old number None)) }
+pub(crate) fn doze(goroutines: &mut Goroutines, rooms: &mut Vec<Room>, number: u64)
+    requires awake { IsSome (slice_index_or goroutines.old.rows number None) }
+    requires unlent { IsUnlent (slice_index_or goroutines.old.rows number None) }
+    requires quiet { IfSome (slice_index_or goroutines.old.rows number None) (λ row. IsQuiet row.state.state) }
+    ensures rows { goroutines.new.rows ≡ slice_set goroutines.old.rows number None }
+    ensures beds { goroutines.new.beds ≡ slice_set goroutines.old.beds number (option_map (λ row. row.state) (slice_index_or goroutines.old.rows number None)) }
 {
-    let Some(slot) = rows.take(number) else {
-        put_at(beds, number, None);
-        return;
-    };
-    let (sleeping, room) = slot.into_state().fall_asleep();
+    let room = goroutines.doze(number);
     if rooms.len() < MOST_SPARE {
         let _ = rooms.push(room);
     }
-    put_at(beds, number, Some(sleeping));
 }

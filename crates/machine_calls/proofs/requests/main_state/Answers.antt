@@ -1,11 +1,10 @@
-use Rattle.std.proofs.Common.{ap, subst, sym, ◌∙◌}
-use Rattle.world_core_base.specs.Cores.{CoreValue, IsHere, state_of}
-use Rattle.world_core_base.proofs.Taking.{main_fits, main_is_here}
+use Rattle.std.proofs.Common.{subst}
+use Rattle.turn_rule.specs.declared.Row.{Row}
+use Rattle.std.specs.Prelude.{Option}
+use Rattle.world_core_base.specs.Slots.{FitsRow, State}
 use Rattle.machine_calls.proofs.requests.main_state.Goals as goal
 
-pub take_state-requires : goal.take_state-requires
-take_state-requires c = subst (λ (x : CoreValue). IsHere x 1) (sym c.in_ok-core.ensures.core) (main_is_here c.args.program.now)
-
-pub returns : goal.returns
-returns c =
-    main_fits c.args.program.now c.args.limit c.take_state.result c.in_ok-core.ensures.verified c.requires (ap (λ (x : CoreValue). state_of x 1) (sym c.in_ok-core.ensures.core) ∙ c.take_state.ensures.state)
+pub returns-in-Some : goal.returns-in-Some
+returns-in-Some c =
+    let fits = c.in_ok-core.ensures.fits c.args.limit c.requires in
+    (subst (λ (o : Option (Row State)). FitsRow c.args.program.now c.args.limit o) c.in-Some.ensures.free (fits.rows c.in-Some.field-0.0)).state

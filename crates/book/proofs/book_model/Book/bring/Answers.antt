@@ -10,6 +10,17 @@ use Rattle.book.specs.Slots.{IsBook}
 use Rattle.book.proofs.Whole.{book_brings, book_out, brought_after, brought_before}
 use Rattle.book.proofs.book_model.Book.bring.Goals as goal
 
+pub take_back-requires-in-None : goal.take_back-requires-in-None
+take_back-requires-in-None g c =
+    let b = c.self.inside in
+    let d : Desk = record { code = arc_value b.program; limit = b.limit; core = b.core; taken = b.taken; pending = b.pending.items; traces = b.traces; traced = b.traced; lines = b.lines.items; words = words_of b.slots.seat; looks = seat_looks b.slots.seat } in
+    let h = c.self.invariant in
+    let l = c.args.lease in
+    let parts = c.into_parts-program.ensures in
+    let was : WasLent (loan_for l.code l.limit l.number l.base) l.published (word_at d.words l.slot) = rw (← parts.seat.1, ← parts.seat.2, ← parts.seat.3) c.take_back.ensures.was in
+    let out = book_out g.B.BookName.code g.B.BookName.limit d b.slots.places.items l h parts.program.1 parts.program.2 was in
+    rw c.number-number.ensures (ap is_some out.row.1)
+
 pub invariant_of-self : goal.invariant_of-self
 invariant_of-self g c =
     let b = c.self.inside in

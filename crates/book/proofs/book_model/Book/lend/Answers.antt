@@ -10,7 +10,16 @@ use Rattle.world_core_base.specs.Slots.{Rows, back_row, lent_row}
 use Rattle.book.specs.Desks.{Desk, Held, lent_desk}
 use Rattle.book.proofs.Books.{lease_is_lent}
 use Rattle.book.proofs.Whole.{book_lends, book_places, taken_back}
+use Rattle.world_core_base.proofs.Others.{still_awake}
 use Rattle.book.proofs.book_model.Book.lend.Goals as goal
+
+pub take_back-requires : goal.take_back-requires
+take_back-requires g c =
+    let core = c.self.inside.core in
+    let n = c.in-Some.number in
+    let s = c.in-Some.state in
+    let lent : c.lend_least.new.self ≡ record core { rows = slice_set core.rows n (Some (lent_row s)) } = c.in-Some.ensures.lent in
+    rw lent (still_awake core.rows n s (lent_row s) c.in-Some.ensures.free)
 
 pub invariant_of-self-in-Ok : goal.invariant_of-self-in-Ok
 invariant_of-self-in-Ok g c =

@@ -55,9 +55,9 @@ returns-clause-performs c =
     let room : core.live ≢ MAX_GOROUTINES = λ e. c.if-self-eq-MAX_GOROUTINES.false (ap (λ (x : CoreValue). x.live) c.self.view_is ∙ e) in
     let state : c.in_ok-state.state ≡ at later (code_begin code f args) = c.in_ok-state.ensures.begins ∙ ap (λ ws. at later (code_begin code f ws)) c.as_slice.ensures.value in
     let is = added_core code ev.number later c.in_ok-state.state (at later (code_begin code f args)) core c.add.new.self new state c.in_ok-add.ensures.ok c.go_on.ensures in
-    let count : c.len.result ≡ length core.rows = c.len.ensures ∙ ap (λ (x : CoreValue). length x.rows) c.self.view_is in
+    let count : c.count.result ≡ length core.rows = c.count.ensures.rows ∙ ap (λ (x : CoreValue). length x.rows) c.self.view_is in
     let event : Recorded = record ev { outcome = came.Done replies.Nothing; partners = c.push.new.self } in
-    let started : event.partners.items ≡ length core.rows ∷ [] = c.in_ok-push.ensures.items ∙ ap (λ xs. xs ++ c.len.result ∷ []) c.requires.alone ∙ ap (λ k. k ∷ []) count in
+    let started : event.partners.items ≡ length core.rows ∷ [] = c.in_ok-push.ensures.items ∙ ap (λ xs. xs ++ c.count.result ∷ []) c.requires.alone ∙ ap (λ k. k ∷ []) count in
     (made_started code c.args.limit core event new c.requires.asked c.requires.fits c.requires.events f args later (ap request_of c.in-Go.is) room refl started c.next_time-later.ensures is).performs
 
 pub returns-clause-bytes : goal.returns-clause-bytes
@@ -75,7 +75,7 @@ returns-clause-fits c =
     let room : core.live ≢ MAX_GOROUTINES = λ e. c.if-self-eq-MAX_GOROUTINES.false (ap (λ (x : CoreValue). x.live) c.self.view_is ∙ e) in
     let state : c.in_ok-state.state ≡ at later (code_begin code f args) = c.in_ok-state.ensures.begins ∙ ap (λ ws. at later (code_begin code f ws)) c.as_slice.ensures.value in
     let is = added_core code ev.number later c.in_ok-state.state (at later (code_begin code f args)) core c.add.new.self new state c.in_ok-add.ensures.ok c.go_on.ensures in
-    let count : c.len.result ≡ length core.rows = c.len.ensures ∙ ap (λ (x : CoreValue). length x.rows) c.self.view_is in
+    let count : c.count.result ≡ length core.rows = c.count.ensures.rows ∙ ap (λ (x : CoreValue). length x.rows) c.self.view_is in
     let event : Recorded = record ev { outcome = came.Done replies.Nothing; partners = c.push.new.self } in
-    let started : event.partners.items ≡ length core.rows ∷ [] = c.in_ok-push.ensures.items ∙ ap (λ xs. xs ++ c.len.result ∷ []) c.requires.alone ∙ ap (λ k. k ∷ []) count in
+    let started : event.partners.items ≡ length core.rows ∷ [] = c.in_ok-push.ensures.items ∙ ap (λ xs. xs ++ c.count.result ∷ []) c.requires.alone ∙ ap (λ k. k ∷ []) count in
     (made_started code c.args.limit core event new c.requires.asked c.requires.fits c.requires.events f args later (ap request_of c.in-Go.is) room refl started c.next_time-later.ensures is).fits
