@@ -12,7 +12,7 @@ import parse
 from steps import TICK, Goroutine, Request, Steps
 
 LIMIT = 1099511627776
-MOST_ALIVE, MOST_CHANNELS, MOST_SIZE = 1024, 65536, 65536
+MOST_ALIVE, MOST_CHANNELS, MOST_SIZE = 16384, 65536, 65536
 PANICS = ["divide by zero", "send on closed channel", "close of closed channel", "close of nil channel", "negative shift",
           "channel size", "call depth", "too many goroutines", "too many channels"]
 FINISHED, DEADLOCK, EXHAUSTED = "finished", "deadlock", "exhausted"

@@ -1,4 +1,5 @@
 -- Each call of a book keeps its words tied to its rows.
+use Rattle.logical_clock.specs.declared.limits.TheConstants.{MAX_GOROUTINES}
 use Rattle.std.proofs.Common.{◌≡◌, ◌≢◌, ℕ, zero, suc, ◌<◌, Bool, true, false, List, [], ◌∷◌, length, Option, Some, None, refl, sym, ap, ◌∙◌, subst, inl, inr, get_or-set_same, get_or-set_other}
 use Rattle.std.specs.Prelude.{slice_index_or, slice_set}
 use Rattle.std.specs.Option.{is_some}
@@ -99,7 +100,7 @@ unlent a (suc (suc n)) row e is = true≢false (ap is_some (sym e))
 pub opened_tied : (code : Code) (limit : ℕ) (traces : Bool) → IsTied (opened_desk code limit traces) []
 opened_tied code limit traces = record {
   lent = λ going n row e is. absurd (unlent (at 0 (code_begin code (code_kind code).main [])) n row e is);
-  back = λ s loan on. absurd (home_words 1024 s loan on);
+  back = λ s loan on. absurd (home_words MAX_GOROUTINES s loan on);
 }
 
 -- ---- lend

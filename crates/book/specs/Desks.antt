@@ -8,6 +8,7 @@ use Rattle.clock_table.specs.declared.view.Row.{Row as Word}
 use Rattle.clock_table.specs.declared.view.Row.TheVariants.{Home, Lent}
 use Rattle.clock_table.specs.Clocks.{IsLentOn, RowFits, loan_for, looked, opening_rows, row as word_at}
 use Rattle.logical_clock.specs.declared.key.Key.{Key}
+use Rattle.logical_clock.specs.declared.limits.TheConstants.{MAX_GOROUTINES}
 use Rattle.logical_clock.specs.Order.{is_before, keys, least}
 use Rattle.turn_rule.specs.declared.Row.{Row}
 use Rattle.turn_rule.specs.Schedule.{Stands}
@@ -108,7 +109,7 @@ opened_desk code limit traces = record {
   traces = traces;
   traced = 0;
   lines = [];
-  words = opening_rows 1024;
+  words = opening_rows MAX_GOROUTINES;
   looks = 0;
 }
 

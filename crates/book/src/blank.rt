@@ -3,6 +3,7 @@
 ghost use Rattle.std.specs.Prelude.{◌≡◌};
 ghost use Rattle.clock_table.specs.Clocks.{opening_rows};
 ghost use Rattle.clock_table.specs.Seats.{rows, seat_looks, seat_table, table_of};
+ghost use Rattle.logical_clock.specs.declared.limits.TheConstants.{MAX_GOROUTINES};
 
 use clock_table::{BookSeat, ClockTable};
 use go_text::Memory;
@@ -15,7 +16,7 @@ pub struct Blank {
     pub(crate) table: ClockTable,
     pub(crate) seat: BookSeat,
     pub ghost own: { seat_table seat ≡ table_of table },
-    pub ghost home: { rows seat ≡ opening_rows 1024 },
+    pub ghost home: { rows seat ≡ opening_rows MAX_GOROUTINES },
     pub ghost fresh: { seat_looks seat ≡ 0 },
 }
 

@@ -16,7 +16,7 @@ use go_text::Memory;
 use goroutine_vm::GoState;
 use std::sync::Arc;
 use verifier::Verified;
-use word::limits::MAX_GOROUTINES;
+use logical_clock::limits::MAX_GOROUTINES;
 
 /// How many slots there are: one for each goroutine that is alive.
 const SLOTS: usize = MAX_GOROUTINES as usize;
@@ -58,7 +58,7 @@ impl<B: BookName> Slots<B> {
     /// Those of a new table: all are free.
     pub fn new(blank: Blank) -> Result<Slots<B>, Memory>
         requires { table_of blank.table ≡ B.table }
-        ensures { IfOk result (λ slots. (words_of slots.seat ≡ opening_rows 1024) × (seat_looks slots.seat ≡ 0) × (slots.places.items ≡ [])) }
+        ensures { IfOk result (λ slots. (words_of slots.seat ≡ opening_rows MAX_GOROUTINES) × (seat_looks slots.seat ≡ 0) × (slots.places.items ≡ [])) }
     {
         let Blank { alloc, table, seat } = blank;
         let used = Vec::from_elem(alloc, false, SLOTS)?;

@@ -62,17 +62,28 @@ pub fn begin(
 ) -> Result<Frame, AllocError>
     ensures { IfOk result (λ frame. frame ≡ begun locals.now function args.now) }
 {
-    let mut fitted = Vec::new(alloc);
-    fit(&mut fitted, locals, args)?;
-    Ok(Frame {
-        function,
-        place: 0,
-        locals: fitted,
-        stack: Vec::new(alloc),
-    })
+    let mut frame = empty(alloc);
+    frame.restart(locals, function, args)?;
+    Ok(frame)
 }
 
 impl Frame {
+    /// It is this function at its first instruction, in the room that it has. Where memory is wanting it is not told what it is.
+    pub fn restart(
+        &mut self,
+        locals: &[WordKind],
+        function: usize,
+        args: &[Word],
+    ) -> Result<(), AllocError>
+        ensures { OnOk result (self.new ≡ begun locals.now function args.now) }
+    {
+        fit(&mut self.locals, locals, args)?;
+        self.stack.clear();
+        self.function = function;
+        self.place = 0;
+        Ok(())
+    }
+
     /// Calls a function with the words from a place of the stack on, and waits behind the call. Where memory is wanting the
     /// frame of the call is not told.
     #[inline(always)]

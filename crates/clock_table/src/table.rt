@@ -14,7 +14,7 @@ use std::alloc::Global;
 use std::marker::Brand;
 use std::sync::Arc;
 use verifier::Verified;
-use word::limits::MAX_GOROUTINES;
+use logical_clock::limits::MAX_GOROUTINES;
 
 /// How many slots a table has: one for each goroutine that is alive.
 const SLOTS: usize = MAX_GOROUTINES as usize;
@@ -61,10 +61,10 @@ pub struct LeaseSeat {
 }
 
 impl ClockTable {
-    /// A table of 1,024 words, none of them lent, and the book's seat, which has made no look.
+    /// A table of a word for each goroutine that may be alive, none of them lent, and the book's seat, which has made no look.
     pub fn new(alloc: Global) -> Result<(ClockTable, BookSeat), Memory>
         ensures table { IfOk result (λ t. t.1.seat.table_id ≡ (arc_value t.0.words).shared.table_id) }
-        ensures rows { IfOk result (λ t. rows_of t.1.seat.me.0 ≡ opening_rows 1024) }
+        ensures rows { IfOk result (λ t. rows_of t.1.seat.me.0 ≡ opening_rows MAX_GOROUTINES) }
         ensures looks { IfOk result (λ t. looks_of t.1.seat.me.0 ≡ 0) }
     {
         let zeros = Vec::from_elem(alloc, 0u64, SLOTS)?;

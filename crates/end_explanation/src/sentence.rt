@@ -8,7 +8,8 @@ use diagnostic_words::words::Words;
 use go_text::Memory;
 use std::alloc::Global;
 use syntax::NodeId;
-use word::limits::{MAX_CAPACITY, MAX_CHANNELS, MAX_DEPTH, MAX_GOROUTINES};
+use logical_clock::limits::MAX_GOROUTINES;
+use word::limits::{MAX_CAPACITY, MAX_CHANNELS, MAX_DEPTH};
 use word::panic::Panic;
 
 /// The most goroutines of a deadlock that are printed.

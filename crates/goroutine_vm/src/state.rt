@@ -80,6 +80,32 @@ pub fn spawn_state(
 }
 
 impl GoState {
+    /// A goroutine at the first instruction of a function, whose parameters are these words, in the room of one that has ended. Where
+    /// memory is wanting it is not told what it is.
+    pub fn restart(
+        &mut self,
+        code: &Verified,
+        function: usize,
+        args: &[Word],
+        clock: Clock,
+    ) -> Result<(), Memory>
+        requires { function < length code.now.functions }
+        ensures begins { OnOk result (self.new ≡ at clock (code_begin code.now function args.now)) }
+        ensures frame { OnOk result (IsFrameOf code.now self.new.state) }
+    {
+        self.frames.restart(code.code(), function, args)?;
+        self.clock = clock;
+        self.doomed = false;
+        Ok(())
+    }
+
+    /// It keeps little room for later calls.
+    pub fn trim(&mut self)
+        ensures { self.new ≡ self.old }
+    {
+        self.frames.trim();
+    }
+
     /// Its parts.
     pub(crate) fn into_parts(self) -> (Clock, bool, Frames)
         ensures { record { clock = result.0; doomed = result.1; state = result.2 } ≡ self }

@@ -14,6 +14,9 @@ use std::alloc::{AllocError, Global};
 use std::marker::Model;
 use word::value::Word;
 
+/// How many frames an ended goroutine keeps for later calls.
+const MOST_KEPT: usize = 3;
+
 /// Functions, of which there is one at least, and each waits for the one called after it; contracts see the last one called first.
 /// Frames are kept for later calls, which no contract sees.
 pub struct CallStack {
@@ -47,6 +50,28 @@ impl CallStack {
     {
         let depth = frames.len();
         CallStack { frames, depth }
+    }
+
+    /// One function alone, at its first instruction, in the room of those that there were. Where memory is wanting it is not told
+    /// what they are.
+    pub fn restart(
+        &mut self,
+        locals: &[WordKind],
+        function: usize,
+        args: &[Word],
+    ) -> Result<(), AllocError>
+        ensures { OnOk result (self.new ≡ begun locals.now function args.now ∷ []) }
+    {
+        self.frames[0].restart(locals, function, args)?;
+        self.depth = 1;
+        Ok(())
+    }
+
+    /// Of the frames that are kept for later calls only the first few stay.
+    pub fn trim(&mut self)
+        ensures { self.new ≡ self.old }
+    {
+        self.frames.truncate(self.depth + MOST_KEPT);
     }
 
     /// How many there are.

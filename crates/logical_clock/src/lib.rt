@@ -6,6 +6,7 @@
 
 mod clock;
 mod key;
+pub mod limits;
 
 pub use clock::{Clock, LAST, tick};
 pub use key::{Key, sooner};

@@ -1,4 +1,5 @@
 -- What a request leaves of numbers: each goroutine sleeps once and is woken once.
+use Rattle.logical_clock.specs.declared.limits.TheConstants.{MAX_GOROUTINES}
 use Rattle.std.proofs.Common.{◌≡◌, ◌≢◌, ℕ, ℤ, pos, negsuc, Bool, true, false, cond, List, [], ◌∷◌, ◌++◌, map, length, Option, Some, None, refl, sym, ◌∙◌}
 use Rattle.std.specs.Prelude.{◌==◌, nat_lt}
 use Rattle.std.proofs.lemmas.Bool.{true≢false, eq-eqb}
@@ -125,7 +126,7 @@ module _ (w : Shared) (n c : ℕ) (q : Request) where
   by_make (pos size) z = by_cond (nat_lt 65536 size) (panics w n c q ChannelSize 0) _ (by_ends _ _) (by_cond (length w.channels == 65537) (panics w n c q TooManyChannels 0) _ (by_ends _ _) (by_done _ _ [] refl (λ h. tt)))
 
   by_go : (f : ℕ) (args : List Word) → Orderly w (do_go w n c q f args)
-  by_go f args = by_cond (w.live == 1024) (panics w n c q TooManyGoroutines 0) _ (by_ends _ _) (record { asleep = λ h. h; woken = λ h. tt })
+  by_go f args = by_cond (w.live == MAX_GOROUTINES) (panics w n c q TooManyGoroutines 0) _ (by_ends _ _) (record { asleep = λ h. h; woken = λ h. tt })
 
   by_close : (k : ℕ) → Orderly w (do_close w n c q k)
   by_close k =

@@ -2,7 +2,7 @@
 use Rattle.std.specs.Prelude.{◌≡◌, ℕ, ℤ, ◌+◌, ◌<◌, ◌≤◌, ◌^◌, ◌++◌, List, [], ◌∷◌, drop, length, map, slice_index_or, Option, Some, None}
 use Rattle.word.specs.declared.end.End.{End as Ending}
 use Rattle.word.specs.declared.end.End.TheVariants.{Panicked}
-use Rattle.word.specs.declared.limits.TheConstants.{MAX_GOROUTINES}
+use Rattle.logical_clock.specs.declared.limits.TheConstants.{MAX_GOROUTINES}
 use Rattle.word.specs.declared.request.Case.{Case}
 use Rattle.word.specs.declared.value.Word.TheVariants.{Int}
 use Rattle.word.specs.Values.{Item, Request, Reply, Nothing, Value, EventOutcome, Done, Sleeps, Panics, Event, Channel, Sleeper, Offer, Shared}

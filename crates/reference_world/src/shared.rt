@@ -13,7 +13,7 @@ use logical_clock::{Key, LAST};
 use std::alloc::Global;
 use std::marker::Model;
 use word::end::End;
-use word::limits::MAX_GOROUTINES;
+use logical_clock::limits::MAX_GOROUTINES;
 use word::panic::Panic;
 use word::request::{Reply, Request};
 use word::value::Word;

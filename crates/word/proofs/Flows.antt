@@ -1,4 +1,5 @@
 -- Each channel delivers once and in order.
+use Rattle.logical_clock.specs.declared.limits.TheConstants.{MAX_GOROUTINES}
 use Rattle.std.proofs.Common.{◌≡◌, ℕ, zero, suc, ◌+◌, ◌-◌, ◌<◌, ◌≤◌, ℤ, pos, negsuc, Bool, true, false, ◌&&◌, ◌||◌, cond, List, [], ◌∷◌, ◌++◌, map, length, Option, Some, None, refl, sym, ap, ◌∙◌, subst, arith, inl, inr, ◌⊎◌, append_assoc, append-nil, get_or, set, get_or-set_same, get_or-set_other, length-set}
 use Rattle.std.specs.Prelude.{◌==◌, nat_lt, unwrap_or, slice_set}
 use Rattle.std.specs.Option.{is_some}
@@ -316,7 +317,7 @@ module _ (w : Shared) (n c : ℕ) (q : Request) (sw : IsSound w) where
       go false false = sound_idle (record w { channels = w.channels ++ record { capacity = size; items = []; closed = false; zero = z } ∷ [] }) refl (λ x i. i) (Value (Chan (Some (length w.channels)))) [] (d (length w.channels)) (items_make w.channels (record { capacity = size; items = []; closed = false; zero = z }) refl)
 
   sound_go : (f : ℕ) (args : List Word) → reply_deal q Nothing ≡ NoDeal → IsSound (do_go w n c q f args).shared
-  sound_go f args d = go (w.live == 1024)
+  sound_go f args d = go (w.live == MAX_GOROUTINES)
     where
       go : (b : Bool) → IsSound (cond b (panics w n c q TooManyGoroutines 0) (record { fate = GoesOn Nothing; woken = []; started = (f, args) ∷ []; shared = happened w n c q (record w { live = w.live + 1; made = w.made + 1 }) (Done Nothing) ((w.made + 1) ∷ []) })).shared
       go true = sound_ends (Panics TooManyGoroutines 0) (Panicked TooManyGoroutines) refl refl

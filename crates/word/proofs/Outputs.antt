@@ -1,4 +1,5 @@
 -- The output is only lengthened.
+use Rattle.logical_clock.specs.declared.limits.TheConstants.{MAX_GOROUTINES}
 use Rattle.std.proofs.Common.{◌≡◌, ℕ, ◌+◌, ℤ, pos, negsuc, Bool, true, false, cond, List, [], ◌∷◌, length, Option, Some, None, refl, sym, ap, ◌∙◌, append-nil, arith, ◌-◌, ◌≤◌}
 use Rattle.std.specs.Prelude.{◌==◌, nat_lt}
 use Rattle.std.specs.Option.{is_some}
@@ -52,7 +53,7 @@ module _ (w : Shared) (n c : ℕ) (q : Request) where
 
   longer_act : (p : Request) → Longer (act w n c q p)
   longer_act (Make size z) = longer_make size z
-  longer_act (Go f args) = longer_cond (w.live == 1024) (panics w n c q TooManyGoroutines 0) _ kept kept
+  longer_act (Go f args) = longer_cond (w.live == MAX_GOROUTINES) (panics w n c q TooManyGoroutines 0) _ kept kept
   longer_act (Send None item) = kept
   longer_act (Send (Some k) item) = longer_cond (send_ready w n c q k) (do_send w n c q k item 0) (sleeps w n c q) (longer_send k item 0) kept
   longer_act (Receive None) = kept

@@ -1,4 +1,5 @@
 -- Each request performed is one more event.
+use Rattle.logical_clock.specs.declared.limits.TheConstants.{MAX_GOROUTINES}
 use Rattle.std.proofs.Common.{◌≡◌, ℕ, ℤ, pos, negsuc, Bool, true, false, cond, List, [], ◌∷◌, ◌++◌, length, Option, Some, None, refl}
 use Rattle.std.specs.Prelude.{◌==◌, nat_lt}
 use Rattle.std.specs.Option.{is_some}
@@ -49,7 +50,7 @@ module _ (w : Shared) (n c : ℕ) (q : Request) where
 
   one_act : (p : Request) → One (act w n c q p)
   one_act (Make size z) = one_make size z
-  one_act (Go f args) = one_cond (w.live == 1024) (panics w n c q TooManyGoroutines 0) _ (_, refl) (_, refl)
+  one_act (Go f args) = one_cond (w.live == MAX_GOROUTINES) (panics w n c q TooManyGoroutines 0) _ (_, refl) (_, refl)
   one_act (Send None item) = (_, refl)
   one_act (Send (Some k) item) = one_cond (send_ready w n c q k) (do_send w n c q k item 0) (sleeps w n c q) (one_send k item 0) (_, refl)
   one_act (Receive None) = (_, refl)

@@ -1,4 +1,5 @@
 -- One sender's items have rising event numbers.
+use Rattle.logical_clock.specs.declared.limits.TheConstants.{MAX_GOROUTINES}
 use Rattle.std.proofs.Common.{◌≡◌, ℕ, zero, suc, ◌+◌, ◌<◌, ◌≤◌, ◌≢◌, ℤ, pos, negsuc, Bool, true, false, ◌&&◌, cond, List, [], ◌∷◌, ◌++◌, map, length, Option, Some, None, refl, sym, ap, ◌∙◌, subst, inl, inr, ◌⊎◌, arith, append_assoc, append-nil, length-append, get_or}
 use Rattle.std.specs.Prelude.{◌==◌, nat_lt}
 use Rattle.std.proofs.lemmas.Bool.{eq-eqb, ne_eqb}
@@ -95,7 +96,7 @@ module _ (w : Shared) (n c : ℕ) (q : Request) where
 
 log_act : (w : Shared) (n c : ℕ) (q : Request) → Logs w n c q (act w n c q q)
 log_act w n c (Make size z) = log_make w n c (Make size z) size z
-log_act w n c (Go f args) = log_cond w n c (Go f args) (w.live == 1024) (panics w n c (Go f args) TooManyGoroutines 0) _ (log_panics w n c (Go f args) TooManyGoroutines 0) (record { o = Done Nothing; who = (w.made + 1) ∷ []; events = refl; dozes = λ h. cc; woken = inr refl })
+log_act w n c (Go f args) = log_cond w n c (Go f args) (w.live == MAX_GOROUTINES) (panics w n c (Go f args) TooManyGoroutines 0) _ (log_panics w n c (Go f args) TooManyGoroutines 0) (record { o = Done Nothing; who = (w.made + 1) ∷ []; events = refl; dozes = λ h. cc; woken = inr refl })
 log_act w n c (Send None item) = log_sleeps w n c (Send None item)
 log_act w n c (Send (Some k) item) = log_cond w n c (Send (Some k) item) (send_ready w n c (Send (Some k) item) k) _ _ (log_send w n c (Send (Some k) item) k item 0) (log_sleeps w n c (Send (Some k) item))
 log_act w n c (Receive None) = log_sleeps w n c (Receive None)

@@ -1,4 +1,5 @@
 -- Nothing is accepted after a close.
+use Rattle.logical_clock.specs.declared.limits.TheConstants.{MAX_GOROUTINES}
 use Rattle.std.proofs.Common.{◌≡◌, ℕ, zero, suc, ◌+◌, ◌-◌, ◌<◌, ◌≢◌, ℤ, pos, negsuc, Bool, true, false, ◌&&◌, ◌||◌, not, cond, List, [], ◌∷◌, ◌++◌, map, length, Option, Some, None, refl, sym, ap, ◌∙◌, subst, arith, inl, inr, ◌⊎◌, append_assoc, get_or-set_same, get_or-set_other, length-set, length-append}
 use Rattle.std.specs.Prelude.{◌==◌, nat_le, nat_lt, slice_index_or, slice_set, unwrap_or}
 use Rattle.std.specs.Option.{is_some}
@@ -332,7 +333,7 @@ tight_select w n c cases false tw None e = tight_sleeps w n c (Select cases fals
 
 pub tight_act : (w : Shared) (n c : ℕ) (q : Request) → IsTight w → IsTight (act w n c q q).shared
 tight_act w n c (Make size z) tw = tight_make w n c (Make size z) tw size z refl
-tight_act w n c (Go f args) tw = go (w.live == 1024)
+tight_act w n c (Go f args) tw = go (w.live == MAX_GOROUTINES)
   where
     go : (b : Bool) → IsTight (cond b (panics w n c (Go f args) TooManyGoroutines 0) (record { fate = GoesOn Nothing; woken = []; started = (f, args) ∷ []; shared = happened w n c (Go f args) (record w { live = w.live + 1; made = w.made + 1 }) (Done Nothing) ((w.made + 1) ∷ []) })).shared
     go true = tight_panics w n c (Go f args) tw TooManyGoroutines 0

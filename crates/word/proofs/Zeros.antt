@@ -1,4 +1,5 @@
 -- Zero with false is given only in or after a close, where all that was accepted was received.
+use Rattle.logical_clock.specs.declared.limits.TheConstants.{MAX_GOROUTINES}
 use Rattle.std.proofs.Common.{◌≡◌, ℕ, zero, suc, ◌+◌, ◌<◌, ℤ, pos, negsuc, Bool, true, false, ◌&&◌, ◌||◌, not, cond, List, [], ◌∷◌, ◌++◌, map, length, Option, Some, None, refl, sym, ap, ◌∙◌, subst, arith, inl, inr, ◌⊎◌, append_assoc, get_or-set_same, get_or-set_other}
 use Rattle.std.specs.Prelude.{◌==◌, nat_le, nat_lt, slice_set, unwrap_or}
 use Rattle.std.specs.Option.{is_some}
@@ -223,7 +224,7 @@ adds_select w n c cases false l None e = adds_sleeps w n c (Select cases false) 
 
 adds_act : (w : Shared) (n c : ℕ) (q : Request) → Late w → Adds w (act w n c q q).shared
 adds_act w n c (Make size z) l = adds_make w n c (Make size z) l size z refl
-adds_act w n c (Go f args) l = go (w.live == 1024)
+adds_act w n c (Go f args) l = go (w.live == MAX_GOROUTINES)
   where
     go : (b : Bool) → Adds w (cond b (panics w n c (Go f args) TooManyGoroutines 0) (record { fate = GoesOn Nothing; woken = []; started = (f, args) ∷ []; shared = happened w n c (Go f args) (record w { live = w.live + 1; made = w.made + 1 }) (Done Nothing) ((w.made + 1) ∷ []) })).shared
     go true = adds_panics w n c (Go f args) l TooManyGoroutines 0

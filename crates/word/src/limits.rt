@@ -3,9 +3,6 @@
 /// The most functions that wait for one another, the running one counted.
 pub const MAX_DEPTH: usize = 1_000;
 
-/// The most goroutines that are awake or asleep at once.
-pub const MAX_GOROUTINES: u64 = 1_024;
-
 /// The most channels that a run makes.
 pub const MAX_CHANNELS: usize = 65_536;
 

@@ -72,11 +72,11 @@ const DEADLOCK: [Move; 4] = [
 
 /// One goroutine too many.
 const TOO_MANY: [Move; 5] = [
-    Move::Skip(3066),
-    Move::Next(Seen::Event(1023, 1023, false)),
-    Move::Next(Seen::Event(1023, 1024, false)),
+    Move::Skip(49_146),
+    Move::Next(Seen::Event(16_383, 16_383, false)),
+    Move::Next(Seen::Event(16_383, 16_384, false)),
     Move::Settle(Seen::Ended(End::Panicked(Panic::TooManyGoroutines))),
-    Move::Events(3068),
+    Move::Events(49_148),
 ];
 
 /// Whether books settle what they must.
@@ -93,7 +93,7 @@ pub(crate) fn check(alloc: Global, checks: &mut Checks) -> Result<(), Memory> {
             &[Move::Skip(2), Move::WaitForFloors],
         ),
         ("a book finds nobody awake", &WAITS_FOR_GOOD, &DEADLOCK),
-        ("goroutine 1025 is one too many", &STARTS_MORE, &TOO_MANY),
+        ("goroutine 16385 is one too many", &STARTS_MORE, &TOO_MANY),
     ] {
         checks.see(name, holds(alloc, bodies, moves))?;
     }

@@ -1,4 +1,5 @@
 -- What stands in the place of an event once its request was performed.
+use Rattle.logical_clock.specs.declared.limits.TheConstants.{MAX_GOROUTINES}
 use Rattle.std.proofs.Common.{◌≡◌, ◌≢◌, ℕ, ◌+◌, ◌-◌, ◌<◌, ◌^◌, ◌==◌, Bool, true, false, IfSome, cond, List, [], ◌∷◌, ◌++◌, length, Option, Some, None, refl, sym, ap, ◌∙◌, subst}
 use Rattle.std.specs.Prelude.{slice_index_or, slice_set, option_map}
 use Rattle.std.proofs.lemmas.Bool.{eq-eqb}
@@ -103,10 +104,10 @@ last_acts w n c p Exhausted o e h = λ i. ends w n c p (sym h.0 i) (sym h.1 i)
 last_acts w n c p (Panic cause) o e h = λ i. ends w n c p (sym h.0 i) (sym h.1 i)
 last_acts w n c p q o e h = absurd h
 
-many_acts : (w : Shared) (n c : ℕ) (p q : Request) → IsGo q → w.live ≡ 1024 → act w n c p q ≡ ends w n c p (Panics TooManyGoroutines 0) (Panicked TooManyGoroutines)
+many_acts : (w : Shared) (n c : ℕ) (p q : Request) → IsGo q → w.live ≡ MAX_GOROUTINES → act w n c p q ≡ ends w n c p (Panics TooManyGoroutines 0) (Panicked TooManyGoroutines)
 many_acts w n c p (Go f args) h full =
     let d : Deed = record { fate = GoesOn Nothing; woken = []; started = (f, args) ∷ []; shared = record w { live = w.live + 1; made = w.made + 1; events = w.events ++ recorded c n p (Done Nothing) ((w.made + 1) ∷ []) ∷ [] } } in
-    ap (λ t. cond t (panics w n c p TooManyGoroutines 0) d) (eq-eqb w.live 1024 full)
+    ap (λ t. cond t (panics w n c p TooManyGoroutines 0) d) (eq-eqb w.live MAX_GOROUTINES full)
 many_acts w n c p q h full = absurd h
 
 -- the request is performed, which is this event, and leaves a core that fits
@@ -143,13 +144,13 @@ module _ (code : Code) (limit : ℕ) (core : CoreValue) (event : Recorded) (new 
       (λ (x : Others) (b : Beside code limit core x). last_acts (shared_with x core.channels) event.number event.clock (request_of event.request) (request_of event.request) o e last) left (stands o [] came alone))
 
   -- a new goroutine where too many are alive
-  pub made_full : IsGo (request_of event.request) → core.live ≡ 1024 → outcome_of event.outcome ≡ Panics TooManyGoroutines 0 → event.partners.items ≡ []
+  pub made_full : IsGo (request_of event.request) → core.live ≡ MAX_GOROUTINES → outcome_of event.outcome ≡ Panics TooManyGoroutines 0 → event.partners.items ≡ []
       → new ≡ record core { rows = slice_set core.rows event.number (option_map (λ (row : Row State). free_row row.state) (slice_index_or core.rows event.number None)); events = core.events + 1; ending = Some (Panicked TooManyGoroutines) } → Made code limit core event new
   made_full go full came alone left =
       made [] (go_quiet event.request go) (leaves_ends code limit core event.number event.clock (request_of event.request) a (Panics TooManyGoroutines 0) (Panicked TooManyGoroutines) (event_of event) new
       (λ (x : Others) (b : Beside code limit core x). many_acts (shared_with x core.channels) event.number event.clock (request_of event.request) (request_of event.request) go (b.live ∙ full)) left (stands (Panics TooManyGoroutines 0) [] came alone))
 
-  pub made_started : (f : ℕ) (args : List Word) (later : ℕ) → request_of event.request ≡ Go f args → core.live ≢ 1024 → outcome_of event.outcome ≡ Done Nothing → event.partners.items ≡ length core.rows ∷ [] → later ≡ event.clock + 1
+  pub made_started : (f : ℕ) (args : List Word) (later : ℕ) → request_of event.request ≡ Go f args → core.live ≢ MAX_GOROUTINES → outcome_of event.outcome ≡ Done Nothing → event.partners.items ≡ length core.rows ∷ [] → later ≡ event.clock + 1
       → new ≡ record core { rows = answered_rows code (core.rows ++ Some (free_row (at later (code_begin code f args))) ∷ []) event.number later Nothing; beds = core.beds ++ None ∷ []; taken = core.taken ++ None ∷ []; live = core.live + 1; events = core.events + 1 }
       → Made code limit core event new
   made_started f args later went room came started one left =

@@ -1,4 +1,5 @@
 -- What a request leaves of numbers and counts: each goroutine sleeps once and is woken once, and at most 1,024 are alive.
+use Rattle.logical_clock.specs.declared.limits.TheConstants.{MAX_GOROUTINES}
 use Rattle.std.proofs.Common.{◌≡◌, ◌≢◌, ℕ, ◌+◌, ◌≤◌, ℤ, pos, negsuc, Bool, true, false, cond, List, [], ◌∷◌, ◌++◌, map, length, Option, Some, None, refl, sym, ◌∙◌, arith}
 use Rattle.std.specs.Prelude.{◌==◌, nat_lt}
 use Rattle.std.proofs.lemmas.Bool.{true≢false, eq-eqb}
@@ -89,7 +90,7 @@ pub record Orderly (w : Shared) (most : ℕ) (d : Deed) : Type 0 where
   pub woken : Once (numbers w.asleep) → Once (woken_numbers d.woken)
   pub few : length d.woken ≤ most
   pub made : d.shared.made ≡ w.made + length d.started
-  pub live : w.live ≤ 1024 → d.shared.live ≤ 1024
+  pub live : w.live ≤ MAX_GOROUTINES → d.shared.live ≤ MAX_GOROUTINES
 
 module _ (w : Shared) (n c : ℕ) (q : Request) (most : ℕ) where
   by_done : (v : Shared) (reply : Reply) (ws : List (ℕ × Reply)) → v.asleep ≡ w.asleep → v.made ≡ w.made → v.live ≡ w.live → (Once (numbers w.asleep) → Once (woken_numbers ws)) → length ws ≤ most → Orderly w most (done w n c q v reply ws)
@@ -147,15 +148,15 @@ module _ (w : Shared) (n c : ℕ) (q : Request) (most : ℕ) where
   by_cond_false false d e h k = k refl
 
   by_go : (f : ℕ) (args : List Word) → Orderly w most (do_go w n c q f args)
-  by_go f args = by_cond_false (w.live == 1024) (panics w n c q TooManyGoroutines 0) _ (by_ends _ _) (λ e. record {
+  by_go f args = by_cond_false (w.live == MAX_GOROUTINES) (panics w n c q TooManyGoroutines 0) _ (by_ends _ _) (λ e. record {
     asleep = λ h. h;
     woken = λ h. tt;
     few = omega arith;
     made = refl;
-    live = λ h. below h (λ s. true≢false (sym (eq-eqb w.live 1024 s) ∙ e));
+    live = λ h. below h (λ s. true≢false (sym (eq-eqb w.live MAX_GOROUTINES s) ∙ e));
   })
     where
-      below : {k : ℕ} → k ≤ 1024 → k ≢ 1024 → k + 1 ≤ 1024
+      below : {k : ℕ} → k ≤ MAX_GOROUTINES → k ≢ MAX_GOROUTINES → k + 1 ≤ MAX_GOROUTINES
       below h ne = omega arith
 
   by_close : (k : ℕ) → length w.asleep ≤ most → Orderly w most (do_close w n c q k)

@@ -1,4 +1,5 @@
 -- What the core does for each shape of outcome is what the deed leaves.
+use Rattle.logical_clock.specs.declared.limits.TheConstants.{MAX_GOROUTINES}
 use Rattle.std.proofs.Common.{◌≡◌, ◌≢◌, ℕ, ◌+◌, ◌-◌, ◌<◌, ◌≤◌, max, cond, List, [], ◌∷◌, ◌++◌, map, length, Option, Some, None, refl, sym, ap, ◌∙◌, subst, arith}
 use Rattle.std.specs.Prelude.{slice_index_or, slice_set, option_map}
 use Rattle.std.proofs.lemmas.Bool.{ne_eqb}
@@ -158,17 +159,17 @@ module _ (code : Code) (limit : ℕ) (core : CoreValue) (n clock : ℕ) (means :
   }
 
   -- a new goroutine
-  pub leaves_started : (f : ℕ) (args : List Word) (later : ℕ) (event : Event) (new : CoreValue) → means ≡ Go f args → core.live ≢ 1024 → later ≡ clock + 1 → clock < limit
+  pub leaves_started : (f : ℕ) (args : List Word) (later : ℕ) (event : Event) (new : CoreValue) → means ≡ Go f args → core.live ≢ MAX_GOROUTINES → later ≡ clock + 1 → clock < limit
       → new ≡ record core { rows = answered_rows code (core.rows ++ Some (free_row (at later (code_begin code f args))) ∷ []) n later Nothing; beds = core.beds ++ None ∷ []; taken = core.taken ++ None ∷ []; live = core.live + 1; events = core.events + 1 }
       → event ≡ recorded clock n means (Done Nothing) (length core.rows ∷ []) → LeavesAll code limit core n clock means a.row.state event [] new
   leaves_started f args later event new went room e below new_is event_is o b =
       let s = a.row.state in
-      let there : o.live ≢ 1024 = λ k. room (sym b.live ∙ k) in
+      let there : o.live ≢ MAX_GOROUTINES = λ k. room (sym b.live ∙ k) in
       let rows : Rows = slice_set core.rows n (Some (free_row (told (code_kind code) s (s.clock + 1) Nothing))) ++ Some (free_row (at (s.clock + 1) (code_begin code f args))) ∷ [] in
       let d : Deed = record { fate = GoesOn Nothing; woken = []; started = (f, args) ∷ []; shared = record (shared_with o core.channels) { live = o.live + 1; made = o.made + 1; events = o.events ++ recorded clock n means (Done Nothing) ((o.made + 1) ∷ []) ∷ [] } } in
       record {
         deed = d;
-        is = ap (λ q. act (shared_with o core.channels) n clock means q) went ∙ ap (λ t. cond t (panics (shared_with o core.channels) n clock means TooManyGoroutines 0) d) (ne_eqb o.live 1024 there);
+        is = ap (λ q. act (shared_with o core.channels) n clock means q) went ∙ ap (λ t. cond t (panics (shared_with o core.channels) n clock means TooManyGoroutines 0) d) (ne_eqb o.live MAX_GOROUTINES there);
         left = ap (λ l. record { rows = rows; beds = core.beds ++ None ∷ []; taken = core.taken ++ None ∷ []; channels = core.channels; live = l + 1; events = core.events + 1; ending = o.ending }) b.live
             ∙ ap (λ x. record core { rows = rows; beds = core.beds ++ None ∷ []; taken = core.taken ++ None ∷ []; live = core.live + 1; events = core.events + 1; ending = x }) b.ending
             ∙ ap (λ (rs : Rows). record core { rows = rs ++ Some (free_row (at (s.clock + 1) (code_begin code f args))) ∷ []; beds = core.beds ++ None ∷ []; taken = core.taken ++ None ∷ []; live = core.live + 1; events = core.events + 1 }) (sym (answered_is later Nothing e))

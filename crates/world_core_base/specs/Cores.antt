@@ -18,7 +18,7 @@ use Rattle.word.specs.declared.request.Request.TheVariants as asking
 use Rattle.word.specs.Kinds.{asks, at, told}
 use Rattle.word.specs.Requests.{Deed, Fate, GoesOn, Dozes, Leaves, Stays, asked, no_channel}
 use Rattle.word.specs.declared.value.Word.{Word}
-use Rattle.word.specs.declared.limits.TheConstants.{MAX_GOROUTINES}
+use Rattle.logical_clock.specs.declared.limits.TheConstants.{MAX_GOROUTINES}
 use Rattle.word.specs.Values.{Request, Close, End, Exit, Exhausted, Go, Panic, Reply, Nothing, EventOutcome, Done, Sleeps, Panics, Event, Sleeper, Shared}
 use Rattle.word.specs.Views.{event_of}
 use Rattle.word.specs.Worlds.{Bed, Rest, in_bed, rules}

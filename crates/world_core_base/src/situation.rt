@@ -22,7 +22,7 @@ use std::alloc::{AllocError, Global};
 use std::marker::Model;
 use verifier::Verified;
 use word::end::End;
-use word::limits::MAX_GOROUTINES;
+use logical_clock::limits::MAX_GOROUTINES;
 use word::panic::Panic;
 use word::request::{Event, EventOutcome, Reply, Request};
 

@@ -1,3 +1,4 @@
+use Rattle.logical_clock.specs.declared.limits.TheConstants.{MAX_GOROUTINES}
 use Rattle.std.proofs.Common.{◌∙◌}
 use Rattle.clock_table.specs.Seats.{rows as words_of}
 use Rattle.book.proofs.Homes.{all_home, as_many}
@@ -10,6 +11,6 @@ invariant_of-result g c =
     record {
       table_is = c.requires;
       seat_is = blank.own ∙ c.requires;
-      size = as_many 1024 used (words_of blank.seat) (c.in_ok-used.ensures.items_if_clones_equal (λ y e. e)) blank.home;
-      free = all_home 1024 used (words_of blank.seat) blank.home;
+      size = as_many MAX_GOROUTINES used (words_of blank.seat) (c.in_ok-used.ensures.items_if_clones_equal (λ y e. e)) blank.home;
+      free = all_home MAX_GOROUTINES used (words_of blank.seat) blank.home;
     }

@@ -1,3 +1,4 @@
+use Rattle.logical_clock.specs.declared.limits.TheConstants.{MAX_GOROUTINES}
 use Rattle.std.proofs.Common.{◌≡◌, ◌≢◌, ◌++◌, [], ◌∷◌, length, refl, sym, ap, subst, ◌∙◌, arith}
 use Rattle.bytecode.specs.Machine.{code_begin}
 use Rattle.word.specs.Kinds.{at}
@@ -26,7 +27,7 @@ pub returns-then-self-eq-MAX_GOROUTINES-clause-performs : goal.returns-then-self
 returns-then-self-eq-MAX_GOROUTINES-clause-performs c =
     let core = c.args.self.now in
     let event : Recorded = record c.args.event.now { outcome = came.Panics TooManyGoroutines 0 } in
-    let full : core.live ≡ 1024 = sym (ap (λ (x : CoreValue). x.live) c.self.view_is) ∙ c.if-self-eq-MAX_GOROUTINES.true in
+    let full : core.live ≡ MAX_GOROUTINES = sym (ap (λ (x : CoreValue). x.live) c.self.view_is) ∙ c.if-self-eq-MAX_GOROUTINES.true in
     (made_full c.args.code.now c.args.limit core event c.stop.new.self c.requires.asked c.requires.fits c.requires.events c.requires.go full refl c.requires.alone c.stop.ensures).performs
 
 pub returns-then-self-eq-MAX_GOROUTINES-clause-bytes : goal.returns-then-self-eq-MAX_GOROUTINES-clause-bytes
@@ -36,7 +37,7 @@ pub returns-then-self-eq-MAX_GOROUTINES-clause-fits : goal.returns-then-self-eq-
 returns-then-self-eq-MAX_GOROUTINES-clause-fits c =
     let core = c.args.self.now in
     let event : Recorded = record c.args.event.now { outcome = came.Panics TooManyGoroutines 0 } in
-    let full : core.live ≡ 1024 = sym (ap (λ (x : CoreValue). x.live) c.self.view_is) ∙ c.if-self-eq-MAX_GOROUTINES.true in
+    let full : core.live ≡ MAX_GOROUTINES = sym (ap (λ (x : CoreValue). x.live) c.self.view_is) ∙ c.if-self-eq-MAX_GOROUTINES.true in
     (made_full c.args.code.now c.args.limit core event c.stop.new.self c.requires.asked c.requires.fits c.requires.events c.requires.go full refl c.requires.alone c.stop.ensures).fits
 
 pub returns-then-self-eq-MAX_GOROUTINES-clause-partners : goal.returns-then-self-eq-MAX_GOROUTINES-clause-partners
@@ -51,7 +52,7 @@ returns-clause-performs c =
     let args = c.in-Go.args.items in
     let later = c.next_time-later.result in
     let new = c.go_on.new.self in
-    let room : core.live ≢ 1024 = λ e. c.if-self-eq-MAX_GOROUTINES.false (ap (λ (x : CoreValue). x.live) c.self.view_is ∙ e) in
+    let room : core.live ≢ MAX_GOROUTINES = λ e. c.if-self-eq-MAX_GOROUTINES.false (ap (λ (x : CoreValue). x.live) c.self.view_is ∙ e) in
     let state : c.in_ok-state.state ≡ at later (code_begin code f args) = c.in_ok-state.ensures.begins ∙ ap (λ ws. at later (code_begin code f ws)) c.as_slice.ensures.value in
     let is = added_core code ev.number later c.in_ok-state.state (at later (code_begin code f args)) core c.add.new.self new state c.in_ok-add.ensures.ok c.go_on.ensures in
     let count : c.len.result ≡ length core.rows = c.len.ensures ∙ ap (λ (x : CoreValue). length x.rows) c.self.view_is in
@@ -71,7 +72,7 @@ returns-clause-fits c =
     let args = c.in-Go.args.items in
     let later = c.next_time-later.result in
     let new = c.go_on.new.self in
-    let room : core.live ≢ 1024 = λ e. c.if-self-eq-MAX_GOROUTINES.false (ap (λ (x : CoreValue). x.live) c.self.view_is ∙ e) in
+    let room : core.live ≢ MAX_GOROUTINES = λ e. c.if-self-eq-MAX_GOROUTINES.false (ap (λ (x : CoreValue). x.live) c.self.view_is ∙ e) in
     let state : c.in_ok-state.state ≡ at later (code_begin code f args) = c.in_ok-state.ensures.begins ∙ ap (λ ws. at later (code_begin code f ws)) c.as_slice.ensures.value in
     let is = added_core code ev.number later c.in_ok-state.state (at later (code_begin code f args)) core c.add.new.self new state c.in_ok-add.ensures.ok c.go_on.ensures in
     let count : c.len.result ≡ length core.rows = c.len.ensures ∙ ap (λ (x : CoreValue). length x.rows) c.self.view_is in
