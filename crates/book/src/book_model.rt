@@ -88,7 +88,7 @@ impl<B: BookName> Model for Book<B> {
 
     ghost view = { λ b. record { code = arc_value b.program; limit = b.limit; core = b.core; taken = b.taken; pending = b.pending.items; traces = b.traces; traced = b.traced; lines = b.lines.items; words = words_of b.slots.seat; looks = seat_looks b.slots.seat } };
 
-    ghost invariant = { λ b. IsBook B.code B.limit (record { code = arc_value b.program; limit = b.limit; core = b.core; taken = b.taken; pending = b.pending.items; traces = b.traces; traced = b.traced; lines = b.lines.items; words = words_of b.slots.seat; looks = seat_looks b.slots.seat }) b.slots.places.items };
+    ghost invariant = { λ b. IsBook B.code B.limit (record { code = arc_value b.program; limit = b.limit; core = b.core; taken = b.taken; pending = b.pending.items; traces = b.traces; traced = b.traced; lines = b.lines.items; words = words_of b.slots.seat; looks = seat_looks b.slots.seat }) b.slots.places };
 }
 
 impl<B: BookName> Book<B> {
@@ -209,7 +209,7 @@ impl<B: BookName> Book<B> {
         let parked = lease.is_asking();
         let number = lease.number();
         let (program, present, seat) = lease.into_parts();
-        self.slots.take_back(program, seat);
+        self.slots.take_back(program, number, seat);
         match self.core.ending() {
             None => self.core.take_back(number, present, parked),
             Some(_) => {}
