@@ -73,41 +73,32 @@ seen_now old mid new n only s = subst (λ (d : Desk). IsSeen old d n) (sym s.3) 
 pub seen_ending : (mid new : Desk) (n : ℕ) → mid.core.ending ≡ None → (x : Sighting) × (x.number ≡ n) × IsSight mid x × (new ≡ seen_desk x mid) → new.core.ending ≡ None
 seen_ending mid new n going s = ap (λ (d : Desk). d.core.ending) s.3 ∙ going
 
--- the others stand where they stood
-other_before : (rows : Rows) (n p k : ℕ) (key : Key) → k ≢ n → IsBefore (raised_rows rows n p) key k → IsBefore rows key k
-other_before rows n p k key ne b = (b.0, sym (get_or-set_other rows n k (option_map (raised_row p) (slice_index_or rows n None)) None ne) ∙ b.1, b.2, b.3)
+-- how far the floor of one that is awake lies below the clock behind the key's
+pub behind : Key → Option (Row State) → ℕ
+behind k None = 0
+behind k (Some row) = k.clock + 1 - row.floor
 
-other_lent : (rows : Rows) (n p k : ℕ) → HasLease (raised_rows rows n p) k → HasLease rows k
-other_lent rows n p k lent =
-    let w = was_there rows n p k lent.0 lent.1 in
-    (w.0, w.1, ap is_some (sym w.2.lease) ∙ lent.2)
+-- a floor above which the key is, and one below which it is
+rises : (k : Key) (n floor found : ℕ) → is_before k (record { clock = floor; number = n }) ≡ false → (is_before k (record { clock = found; number = n }) ≡ false → ⊥) → k.clock + 1 - found < k.clock + 1 - floor
+rises k n floor found e past = by (is_before k (record { clock = found; number = n })) refl
+  where
+    by : (t : Bool) → is_before k (record { clock = found; number = n }) ≡ t → k.clock + 1 - found < k.clock + 1 - floor
+    by true q = grind (arith, nat_tests, e, q)
+    by false q = absurd (past q)
 
--- those up to n are clear, once n, which was looked at, stands before the key no longer
-pub clear_seen : (mid new : Desk) (n : ℕ) (key : Key) → (x : Sighting) × (x.number ≡ n) × IsSight mid x × (new ≡ seen_desk x mid) → (IsBefore new.core.rows key n → ⊥) → ((k : ℕ) → k < n → HasLease mid.core.rows k → IsBefore mid.core.rows key k → ⊥)
-    → (k : ℕ) → k < n + 1 → HasLease new.core.rows k → IsBefore new.core.rows key k → ⊥
-clear_seen mid new n key s past all k lt lent before = elim (cases_eq k n) [
-  | inl same ↦ past (subst (IsBefore new.core.rows key) same before)
-  | inr other ↦
-      let x = s.0 in
-      let ne : k ≢ x.number = λ q. other (q ∙ s.1) in
-      let lent' : HasLease (raised_rows mid.core.rows x.number x.found) k = subst (λ (d : Desk). HasLease d.core.rows k) s.3 lent in
-      let before' : IsBefore (raised_rows mid.core.rows x.number x.found) key k = subst (λ (d : Desk). IsBefore d.core.rows key k) s.3 before in
-      all k (omega (arith, lt, other)) (other_lent mid.core.rows x.number x.found k lent') (other_before mid.core.rows x.number x.found k key ne before')
-]
-
--- or n is not lent, or does not stand before the key
-pub clear_more : (d : Desk) (n : ℕ) (key : Key) → (HasLease d.core.rows n → IsBefore d.core.rows key n → ⊥) → ((k : ℕ) → k < n → HasLease d.core.rows k → IsBefore d.core.rows key k → ⊥)
-    → (k : ℕ) → k < n + 1 → HasLease d.core.rows k → IsBefore d.core.rows key k → ⊥
-clear_more d n key past all k lt lent before = elim (cases_eq k n) [
-  | inl same ↦ past (subst (HasLease d.core.rows) same lent) (subst (IsBefore d.core.rows key) same before)
-  | inr other ↦ all k (omega (arith, lt, other)) lent before
-]
-
--- so nobody who is lent is left, once all are passed
-pub clear_all : (d : Desk) (size : ℕ) (key : Key) → length d.core.rows ≡ size → ((k : ℕ) → k < size → HasLease d.core.rows k → IsBefore d.core.rows key k → ⊥) → IsNobodyLent d.core.rows key
-clear_all d size key same all k lent before =
-    let l = within d.core.rows k lent.0 lent.1 in
-    all k (omega (arith, l, same)) lent before
+-- one that was looked at and stands before the key no longer has risen
+pub looked_rises : (mid new : Desk) (n : ℕ) (key : Key) → IsBefore mid.core.rows key n → (x : Sighting) × (x.number ≡ n) × IsSight mid x × (new ≡ seen_desk x mid) → (IsBefore new.core.rows key n → ⊥) → sum_by (behind key) new.core.rows < sum_by (behind key) mid.core.rows
+looked_rises mid new n key b s past =
+    let x = s.0 in
+    let row = b.0 in
+    let l = within mid.core.rows n row b.1 in
+    let there = get_or-set_same mid.core.rows n (Some (raised_row x.found row)) None l in
+    let rows : new.core.rows ≡ slice_set mid.core.rows n (Some (raised_row x.found row)) = ap (λ (d : Desk). d.core.rows) s.3 ∙ subst (λ (k : ℕ). slice_set mid.core.rows k (option_map (raised_row x.found) (slice_index_or mid.core.rows k None)) ≡ slice_set mid.core.rows n (Some (raised_row x.found row))) (sym s.1) (ap (λ (o : Option (Row State)). slice_set mid.core.rows n (option_map (raised_row x.found) o)) b.1) in
+    let rose = rises key n row.floor x.found b.3 (λ e. past (raised_row x.found row, ap (λ (rs : Rows). slice_index_or rs n None) rows ∙ there, b.2, e)) in
+    let sum = sum_by-set (behind key) mid.core.rows n (Some (raised_row x.found row)) None l in
+    let was : behind key (slice_index_or mid.core.rows n None) ≡ key.clock + 1 - row.floor = ap (behind key) b.1 in
+    let is : sum_by (behind key) new.core.rows ≡ sum_by (behind key) (slice_set mid.core.rows n (Some (raised_row x.found row))) = ap (sum_by (behind key)) rows in
+    grind (arith, rose, sum, was, is)
 
 -- one that is not lent is waited for without a look
 pub waits_first : (d : Desk) (n : ℕ) (k : Key) → IsDesk d → d.core.ending ≡ None → least (keys waiting_clock 0 d.core.rows) ≡ Some k → IsBefore d.core.rows k n → (HasLease d.core.rows n → ⊥) → Waits d n d
@@ -119,9 +110,9 @@ waits_seen old new n k h going e seen before =
     let only : OnlyLooks old new = (seen.sight ∷ seen.earlier, seen.looks) in
     waits_by old new n k (looks_desk old only.0 new h only.1) only (looks_ending old new only going) (looks_least old new (Some k) only e) before (λ lent. seen)
 
--- one that is not lent, where no lent one stands before the key any longer
-pub waits_other : (old new : Desk) (n : ℕ) (k : Key) → IsDesk new → old.core.ending ≡ None → least (keys waiting_clock 0 old.core.rows) ≡ Some k → OnlyLooks old new → IsNobodyLent new.core.rows k → IsBefore new.core.rows k n → Waits old n new
-waits_other old new n k h going e only nobody before = waits_by old new n k h only (looks_ending old new only going) (looks_least old new (Some k) only e) before (λ lent. absurd (nobody n lent before))
+-- one that is not lent, after looks at others
+pub waits_other : (old new : Desk) (n : ℕ) (k : Key) → IsDesk new → old.core.ending ≡ None → least (keys waiting_clock 0 old.core.rows) ≡ Some k → OnlyLooks old new → (HasLease new.core.rows n → ⊥) → IsBefore new.core.rows k n → Waits old n new
+waits_other old new n k h going e only unlent before = waits_by old new n k h only (looks_ending old new only going) (looks_least old new (Some k) only e) before (λ lent. absurd (unlent lent))
 
 pub turn_after : (old new : Desk) (k : Key) → old.core.ending ≡ None → least (keys waiting_clock 0 old.core.rows) ≡ Some k → OnlyLooks old new → has_turn k 0 new.core.rows ≡ true → HasTurn new.core k.number
 turn_after old new k going e only turn = turn_by new k (looks_ending old new only going) (looks_least old new (Some k) only e) turn

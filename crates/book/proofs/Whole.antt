@@ -12,6 +12,7 @@ use Rattle.clock_table.specs.Clocks.{IsFree, IsLentOn, WasLent, loan_for, row as
 use Rattle.goroutine_vm.specs.Advance.{IsStateOf}
 use Rattle.logical_clock.specs.declared.key.Key.{Key}
 use Rattle.logical_clock.specs.Order.{keys, least}
+use Rattle.slot_index.specs.Numbers.{Numbered, slot_of}
 use Rattle.turn_rule.specs.declared.Row.{Row}
 use Rattle.turn_rule.specs.Schedule.{has_turn}
 use Rattle.turn_rule.specs.Turns.{Leads}
@@ -21,10 +22,10 @@ use Rattle.word.specs.Worlds.{rules}
 use Rattle.world_core_base.specs.Cores.{CoreValue, HasLease, HasTurn, IsFreeIn, Works}
 use Rattle.world_core_base.specs.Slots.{State, Rows, FitsRow, IsBefore, back_row, free_row, lent_row, waiting_clock}
 use Rattle.book.specs.Desks.{CommitsNext, Desk, Held, IsDesk, IsLent, IsSeen, IsSight, KeepsLeases, OnlyLooks, Sighting, Waits, back_core, brought, lent_desk, opened_desk, seen_desk}
-use Rattle.book.specs.Slots.{IsBook, IsPlaced, SamePlaces, place_of}
+use Rattle.book.specs.Slots.{IsBook, IsPlaced, IsTakenOut, SamePlaces, place_of}
 use Rattle.book.proofs.Books.{brought_by, brought_is_desk, lent_is_desk, opened_is_desk, output_taken, trace_taken, waits_key}
 use Rattle.book.proofs.Looks.{looks_keep, seen_is_desk}
-use Rattle.book.proofs.Ties.{brought_tied, committed_tied, here_leases, here_tied, is_out, lent_tied, opened_tied, same_tied, seen_tied, taken_tied, was_on}
+use Rattle.book.proofs.Ties.{brought_tied, committed_tied, here_leases, here_tied, is_out, lent_tied, opened_tied, same_tied, seen_tied, slot_out, taken_tied, unplaced, was_on}
 
 -- ---- work without a lease
 
@@ -45,10 +46,10 @@ works_as {E} (Ok (Some asking)) N W none some err = inr (Some asking, some)
 works_as {E} (Err e) N W none some err = inr (None, err)
 
 module _ (code : Code) (limit : ℕ) where
-  pub book_opens : (traces : Bool) → limit ≤ 2 ^ 62 → IsVerified code → IsBook code limit (opened_desk code limit traces) []
-  book_opens traces le v = record { desk = opened_is_desk code limit traces v le; tied = opened_tied code limit traces; code_is = refl; limit_is = refl }
+  pub book_opens : (traces : Bool) (places : Numbered) → ((n : ℕ) → slot_of places n ≡ None) → limit ≤ 2 ^ 62 → IsVerified code → IsBook code limit (opened_desk code limit traces) places
+  book_opens traces places nobody le v = record { desk = opened_is_desk code limit traces v le; tied = opened_tied code limit traces places nobody; code_is = refl; limit_is = refl }
 
-  pub book_lends : (d : Desk) (places new : List ℕ) (l : Held) → IsBook code limit d places → IsFreeIn d.core.rows l.number l.base → l.slot < length d.words → IsFree (word_at d.words l.slot) → IsPlaced places new l.number l.slot → IsBook code limit (lent_desk d l) new
+  pub book_lends : (d : Desk) (places new : Numbered) (l : Held) → IsBook code limit d places → IsFreeIn d.core.rows l.number l.base → l.slot < length d.words → IsFree (word_at d.words l.slot) → IsPlaced places new l.number l.slot → IsBook code limit (lent_desk d l) new
   book_lends d places new l h free size home placed = record {
     desk = lent_is_desk d l h.desk free;
     tied = lent_tied d places new l h.tied free size home placed;
@@ -57,27 +58,34 @@ module _ (code : Code) (limit : ℕ) where
   }
 
   -- the state that is lent fits
-  pub lent_fits : (d : Desk) (places : List ℕ) (n : ℕ) (s : State) → IsBook code limit d places → IsFreeIn d.core.rows n s → IsStateOf d.code d.limit s
+  pub lent_fits : (d : Desk) (places : Numbered) (n : ℕ) (s : State) → IsBook code limit d places → IsFreeIn d.core.rows n s → IsStateOf d.code d.limit s
   lent_fits d places n s h free = (subst (FitsRow d.code d.limit) free (h.desk.fits.rows n)).state
 
-  pub book_places : (d : Desk) (places new : List ℕ) → SamePlaces places new → IsBook code limit d places → IsBook code limit d new
+  pub book_places : (d : Desk) (places new : Numbered) → SamePlaces places new → IsBook code limit d places → IsBook code limit d new
   book_places d places new same h = record { desk = h.desk; tied = same_tied d places new same h.tied; code_is = h.code_is; limit_is = h.limit_is }
 
   -- who has a seat is out, and comes back
-  pub book_out : (d : Desk) (places : List ℕ) (l : Held) → IsBook code limit d places → l.code ≡ code → l.limit ≡ limit → WasLent (loan_for l.code l.limit l.number l.base) l.published (word_at d.words l.slot) → IsLent d l
+  pub book_out : (d : Desk) (places : Numbered) (l : Held) → IsBook code limit d places → l.code ≡ code → l.limit ≡ limit → WasLent (loan_for l.code l.limit l.number l.base) l.published (word_at d.words l.slot) → IsLent d l
   book_out d places l h c m was =
       let same : loan_for l.code l.limit l.number l.base ≡ loan_for d.code d.limit l.number l.base = (λ i. loan_for ((c ∙ sym h.code_is) i) ((m ∙ sym h.limit_is) i) l.number l.base) in
       is_out d places l h.tied (c ∙ sym h.code_is) (m ∙ sym h.limit_is) (was_on (loan_for d.code d.limit l.number l.base) l.published (word_at d.words l.slot) (subst (λ x. WasLent x l.published (word_at d.words l.slot)) same was))
 
-  pub book_brings : (d : Desk) (places : List ℕ) (l : Held) → IsBook code limit d places → IsLent d l → IsStateOf l.code l.limit l.present → Leads (rules (code_kind l.code) l.limit) l.base l.present → IsBook code limit (brought d l) places
-  book_brings d places l h out fits leads = record {
+  -- a slot is free for one that may be lent, and is taken by one that is out
+  pub book_unplaced : (d : Desk) (places : Numbered) (n : ℕ) (s : State) → IsBook code limit d places → IsFreeIn d.core.rows n s → slot_of places n ≡ None
+  book_unplaced d places n s h free = unplaced d places n s h.tied free
+
+  pub book_slot : (d : Desk) (places : Numbered) (l : Held) → IsBook code limit d places → IsLent d l → slot_of places l.number ≡ Some l.slot
+  book_slot d places l h out = slot_out d places l h.tied out
+
+  pub book_brings : (d : Desk) (places new : Numbered) (l : Held) → IsBook code limit d places → IsLent d l → IsTakenOut places new l.number → IsStateOf l.code l.limit l.present → Leads (rules (code_kind l.code) l.limit) l.base l.present → IsBook code limit (brought d l) new
+  book_brings d places new l h out taken fits leads = record {
     desk = brought_by d l (is_some d.core.ending) refl h.desk out (rw (out.code, out.limit) fits) (rw (out.code, out.limit) leads);
-    tied = brought_tied d places l (is_some d.core.ending) refl h.tied out;
+    tied = brought_tied d places new l (is_some d.core.ending) refl h.tied out taken;
     code_is = h.code_is;
     limit_is = h.limit_is;
   }
 
-  pub book_works : (d : Desk) (places : List ℕ) (quantum : ℕ) (answer : Option Bool) (core : CoreValue) → IsBook code limit d places → Works d.code d.limit quantum d.core answer core → IsBook code limit (record d { core = core }) places
+  pub book_works : (d : Desk) (places : Numbered) (quantum : ℕ) (answer : Option Bool) (core : CoreValue) → IsBook code limit d places → Works d.code d.limit quantum d.core answer core → IsBook code limit (record d { core = core }) places
   book_works d places quantum answer core h w =
       let made = brought_is_desk d w.key.number (free_row w.worked.0) w.worked.1.state h.desk w.worked.2 (w.worked.3.0.0, w.worked.3.0.2) w.worked.3.1 in
       let row = back_row w.worked.1.state (is_some (asks (code_kind d.code) d.limit w.worked.1.state)) in
@@ -88,21 +96,21 @@ module _ (code : Code) (limit : ℕ) where
         limit_is = h.limit_is;
       })
 
-  pub book_looks : (d : Desk) (places : List ℕ) (x : Sighting) → IsBook code limit d places → IsSight d x → IsBook code limit (seen_desk x d) places
+  pub book_looks : (d : Desk) (places : Numbered) (x : Sighting) → IsBook code limit d places → IsSight d x → IsBook code limit (seen_desk x d) places
   book_looks d places x h s = record { desk = seen_is_desk d x h.desk s; tied = seen_tied d places x h.tied; code_is = h.code_is; limit_is = h.limit_is }
 
-  pub book_commits : (d : Desk) (places : List ℕ) (event : Recorded) (core : CoreValue) (pending lines : List ℕ) → IsBook code limit d places → IsDesk (record d { core = core; pending = pending; lines = lines }) → CommitsNext d event (record d { core = core; pending = pending; lines = lines })
+  pub book_commits : (d : Desk) (places : Numbered) (event : Recorded) (core : CoreValue) (pending lines : List ℕ) → IsBook code limit d places → IsDesk (record d { core = core; pending = pending; lines = lines }) → CommitsNext d event (record d { core = core; pending = pending; lines = lines })
       → IsBook code limit (record d { core = core; pending = pending; lines = lines }) places
   book_commits d places event core pending lines h new c = record { desk = new; tied = committed_tied d places event core pending lines h.desk c h.tied; code_is = h.code_is; limit_is = h.limit_is }
 
-  pub book_takes_output : (d : Desk) (places : List ℕ) (count : ℕ) (left : List ℕ) → IsBook code limit d places → count ≡ length d.pending → left ≡ [] → IsBook code limit (record d { taken = d.taken + count; pending = left }) places
+  pub book_takes_output : (d : Desk) (places : Numbered) (count : ℕ) (left : List ℕ) → IsBook code limit d places → count ≡ length d.pending → left ≡ [] → IsBook code limit (record d { taken = d.taken + count; pending = left }) places
   book_takes_output d places count left h whole none = record { desk = output_taken d count left h.desk whole none; tied = taken_tied d places (d.taken + count) d.traced left d.lines h.tied; code_is = h.code_is; limit_is = h.limit_is }
 
-  pub book_takes_trace : (d : Desk) (places : List ℕ) (count : ℕ) (left : List ℕ) → IsBook code limit d places → count ≡ length d.lines → left ≡ [] → IsBook code limit (record d { traced = d.traced + count; lines = left }) places
+  pub book_takes_trace : (d : Desk) (places : Numbered) (count : ℕ) (left : List ℕ) → IsBook code limit d places → count ≡ length d.lines → left ≡ [] → IsBook code limit (record d { traced = d.traced + count; lines = left }) places
   book_takes_trace d places count left h whole none = record { desk = trace_taken d count left h.desk whole none; tied = taken_tied d places d.taken (d.traced + count) d.pending left h.tied; code_is = h.code_is; limit_is = h.limit_is }
 
   -- the word at a lent goroutine's place
-  pub book_words : (d : Desk) (places : List ℕ) (n : ℕ) → IsBook code limit d places → d.core.ending ≡ None → (lent : HasLease d.core.rows n) → IsLentOn (loan_for d.code d.limit n lent.0.state) (word_at d.words (place_of places n))
+  pub book_words : (d : Desk) (places : Numbered) (n : ℕ) → IsBook code limit d places → d.core.ending ≡ None → (lent : HasLease d.core.rows n) → IsLentOn (loan_for d.code d.limit n lent.0.state) (word_at d.words (place_of places n))
   book_words d places n h going lent = h.tied.lent (ap is_some going) n lent.0 lent.1 lent.2
 
 -- a state that was lent and comes back at once

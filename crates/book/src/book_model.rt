@@ -88,7 +88,7 @@ impl<B: BookName> Model for Book<B> {
 
     ghost view = { λ b. record { code = arc_value b.program; limit = b.limit; core = b.core; taken = b.taken; pending = b.pending.items; traces = b.traces; traced = b.traced; lines = b.lines.items; words = words_of b.slots.seat; looks = seat_looks b.slots.seat } };
 
-    ghost invariant = { λ b. IsBook B.code B.limit (record { code = arc_value b.program; limit = b.limit; core = b.core; taken = b.taken; pending = b.pending.items; traces = b.traces; traced = b.traced; lines = b.lines.items; words = words_of b.slots.seat; looks = seat_looks b.slots.seat }) b.slots.places.items };
+    ghost invariant = { λ b. IsBook B.code B.limit (record { code = arc_value b.program; limit = b.limit; core = b.core; taken = b.taken; pending = b.pending.items; traces = b.traces; traced = b.traced; lines = b.lines.items; words = words_of b.slots.seat; looks = seat_looks b.slots.seat }) b.slots.places };
 }
 
 impl<B: BookName> Book<B> {
@@ -147,7 +147,7 @@ impl<B: BookName> Book<B> {
     pub fn next_number(&self) -> u64
         ensures { result ≡ length self.now.core.rows }
     {
-        self.count() as u64
+        self.core.count()
     }
 
     /// The state of goroutine `number`, if it is awake and not lent.
@@ -209,7 +209,7 @@ impl<B: BookName> Book<B> {
         let parked = lease.is_asking();
         let number = lease.number();
         let (program, present, seat) = lease.into_parts();
-        self.slots.take_back(program, seat);
+        self.slots.take_back(program, number, seat);
         match self.core.ending() {
             None => self.core.take_back(number, present, parked),
             Some(_) => {}
@@ -307,26 +307,25 @@ impl<B: BookName> Book<B> {
         if !self.is_lent(number) {
             return Some(number);
         }
-        if let Some(lent) = self.look_before(key) {
-            return Some(lent);
-        }
-        self.blocker(key)
+        self.look_before(key)
     }
 
-    /// Looks at the clocks of those who are lent and stand before the key, up to one that then still does.
+    /// The same, where somebody who is lent stands before the key by what was published of it when it was last looked at. Nobody
+    /// is looked at twice.
     #[inline(never)]
     fn look_before(&mut self, key: &Key) -> Option<u64>
-        requires { self.old.core.ending ≡ None }
-        ensures none { IfNone result (OnlyLooks self.old self.new × IsNobodyLent self.new.core.rows key.now) }
-        ensures some { IfSome result (λ n. IsSeen self.old self.new n × IsBefore self.new.core.rows key.now n) }
+        requires ending { self.old.core.ending ≡ None }
+        requires least { least (keys waiting_clock 0 self.old.core.rows) ≡ Some key.now }
+        ensures none { IfNone result (OnlyLooks self.old self.new × HasTurn self.new.core key.now.number) }
+        ensures some { IfSome result (λ n. Waits self.old n self.new) }
     {
-        for place in 0..self.count() {
-            let number = place as u64;
-            if self.is_lent(number) && self.stands_before(number, key) {
-                self.look(number);
-                if self.stands_before(number, key) {
-                    return Some(number);
-                }
+        while let Some(number) = self.blocker(key) {
+            if !self.is_lent(number) {
+                return Some(number);
+            }
+            self.look(number);
+            if self.stands_before(number, key) {
+                return Some(number);
             }
         }
         None
@@ -339,14 +338,6 @@ impl<B: BookName> Book<B> {
         ensures blocker { MatchOption result (has_turn key.now 0 self.now.core.rows ≡ true) (λ n. IsBefore self.now.core.rows key.now n) }
     {
         self.core.blocker(*key)
-    }
-
-    /// How many places the rows of goroutines have.
-    #[inline(always)]
-    fn count(&self) -> usize
-        ensures { result ≡ length self.now.core.rows }
-    {
-        self.core.count() as usize
     }
 
     /// Whether goroutine `number` is awake, and lent.

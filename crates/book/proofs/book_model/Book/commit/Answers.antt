@@ -36,7 +36,7 @@ invariant_of-self-2 g c =
     let room : length pending.items < 2 ^ 64 = few pending.len pending.cap pending.items pending.ok.0 pending.ok.1 pending.small in
     let trace_room : length lines.items < 2 ^ 64 = few lines.len lines.cap lines.items lines.ok.0 lines.ok.1 lines.small in
     let r = committed d c.args.number event new pending.items lines.items c.self.invariant.desk turn done fits c.in_ok-perform.ensures.output line room trace_room in
-    book_commits g.B.BookName.code g.B.BookName.limit d b.slots.places.items event new pending.items lines.items c.self.invariant r.0 r.1
+    book_commits g.B.BookName.code g.B.BookName.limit d b.slots.places event new pending.items lines.items c.self.invariant r.0 r.1
 
 pub returns : goal.returns
 returns g c =

@@ -16,7 +16,7 @@ look-found-requires g c =
     let d : Desk = record { code = arc_value b.program; limit = b.limit; core = b.core; taken = b.taken; pending = b.pending.items; traces = b.traces; traced = b.traced; lines = b.lines.items; words = words_of b.slots.seat; looks = seat_looks b.slots.seat } in
     let h = c.self.invariant in
     let n = c.args.number in
-    let places = b.slots.places.items in
+    let places = b.slots.places in
     let going : d.core.ending ≡ None = subst (λ (x : Desk). x.core.ending ≡ None) (sym c.self.view_is) c.requires.ending in
     let lent : HasLease d.core.rows n = subst (λ (x : Desk). HasLease x.core.rows n) (sym c.self.view_is) c.requires.lent in
     let word = book_words g.B.BookName.code g.B.BookName.limit d places n h going lent in
@@ -28,7 +28,7 @@ at-requires g c =
     let d : Desk = record { code = arc_value b.program; limit = b.limit; core = b.core; taken = b.taken; pending = b.pending.items; traces = b.traces; traced = b.traced; lines = b.lines.items; words = words_of b.slots.seat; looks = seat_looks b.slots.seat } in
     let h = c.self.invariant in
     let n = c.args.number in
-    let places = b.slots.places.items in
+    let places = b.slots.places in
     let going : d.core.ending ≡ None = subst (λ (x : Desk). x.core.ending ≡ None) (sym c.self.view_is) c.requires.ending in
     let lent : HasLease d.core.rows n = subst (λ (x : Desk). HasLease x.core.rows n) (sym c.self.view_is) c.requires.lent in
     let word = book_words g.B.BookName.code g.B.BookName.limit d places n h going lent in
@@ -43,7 +43,7 @@ invariant_of-self g c =
     let d : Desk = record { code = arc_value b.program; limit = b.limit; core = b.core; taken = b.taken; pending = b.pending.items; traces = b.traces; traced = b.traced; lines = b.lines.items; words = words_of b.slots.seat; looks = seat_looks b.slots.seat } in
     let h = c.self.invariant in
     let n = c.args.number in
-    let places = b.slots.places.items in
+    let places = b.slots.places in
     let going : d.core.ending ≡ None = subst (λ (x : Desk). x.core.ending ≡ None) (sym c.self.view_is) c.requires.ending in
     let lent : HasLease d.core.rows n = subst (λ (x : Desk). HasLease x.core.rows n) (sym c.self.view_is) c.requires.lent in
     let word = book_words g.B.BookName.code g.B.BookName.limit d places n h going lent in
@@ -57,7 +57,7 @@ returns g c =
     let d : Desk = record { code = arc_value b.program; limit = b.limit; core = b.core; taken = b.taken; pending = b.pending.items; traces = b.traces; traced = b.traced; lines = b.lines.items; words = words_of b.slots.seat; looks = seat_looks b.slots.seat } in
     let h = c.self.invariant in
     let n = c.args.number in
-    let places = b.slots.places.items in
+    let places = b.slots.places in
     let going : d.core.ending ≡ None = subst (λ (x : Desk). x.core.ending ≡ None) (sym c.self.view_is) c.requires.ending in
     let lent : HasLease d.core.rows n = subst (λ (x : Desk). HasLease x.core.rows n) (sym c.self.view_is) c.requires.lent in
     let word = book_words g.B.BookName.code g.B.BookName.limit d places n h going lent in

@@ -1,12 +1,14 @@
-use Rattle.std.proofs.Common.{◌≡◌, ℕ, ◌<◌, None}
+use Rattle.std.proofs.Common.{◌≡◌, ℕ, None}
+use Rattle.std.specs.Prelude.{sum_by}
 use Rattle.book.specs.Desks.{OnlyLooks}
-use Rattle.world_core_base.specs.Cores.{HasLease}
-use Rattle.world_core_base.specs.Slots.{IsBefore}
+use Rattle.book.proofs.Settling.{behind}
 use Rattle.book.proofs.book_model.Book.look_before.Given as goal
 
-abbrev pub invariant-loop-place : goal.invariant-loop-place
-invariant-loop-place g l = record {
+abbrev pub invariant-loop-number : goal.invariant-loop-number
+invariant-loop-number g l = record {
   only : OnlyLooks l.initial.self l.self;
   going : l.self.core.ending ≡ None;
-  clear : (n : ℕ) → n < l.place → HasLease l.self.core.rows n → IsBefore l.self.core.rows l.key n → ⊥;
 }
+
+abbrev pub decreases-loop-number : goal.decreases-loop-number
+decreases-loop-number g l = sum_by (behind l.key) l.self.core.rows

@@ -13,7 +13,7 @@ invariant_of-self g c =
     let d : Desk = record { code = arc_value b.program; limit = b.limit; core = b.core; taken = b.taken; pending = b.pending.items; traces = b.traces; traced = b.traced; lines = b.lines.items; words = words_of b.slots.seat; looks = seat_looks b.slots.seat } in
     let count : c.len.result ≡ length b.lines.items = c.len.ensures ∙ ap (λ (v : Vec ℕ). vec_len v) c.replace-lines.ensures.value ∙ b.lines.ok.0 in
     let left : c.replace-lines.new.dest.items ≡ [] = ap (λ (v : Vec ℕ). v.items) c.replace-lines.ensures.after ∙ c.new.ensures.items in
-    book_takes_trace g.B.BookName.code g.B.BookName.limit d b.slots.places.items c.len.result c.replace-lines.new.dest.items c.self.invariant count left
+    book_takes_trace g.B.BookName.code g.B.BookName.limit d b.slots.places c.len.result c.replace-lines.new.dest.items c.self.invariant count left
 
 pub returns-clause-stands : goal.returns-clause-stands
 returns-clause-stands g c =

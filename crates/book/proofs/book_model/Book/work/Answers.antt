@@ -14,7 +14,7 @@ invariant_of-self g c =
     let d : Desk = record { code = arc_value b.program; limit = b.limit; core = b.core; taken = b.taken; pending = b.pending.items; traces = b.traces; traced = b.traced; lines = b.lines.items; words = words_of b.slots.seat; looks = seat_looks b.slots.seat } in
     let core = c.work_least.new.self in
     let is = c.work_least.ensures in
-    let places = b.slots.places.items in
+    let places = b.slots.places in
     elim (works_as c.work_least.result ((to_lend d.core ≡ None) × (core ≡ d.core)) (λ answer. Works c.deref.result.now d.limit c.args.quantum d.core answer core) is.none is.works is.memory) [
       | inl nobody ↦ subst (λ (x : CoreValue). IsBook g.B.BookName.code g.B.BookName.limit (record d { core = x }) places) (sym nobody.1) c.self.invariant
       | inr worked ↦ book_works g.B.BookName.code g.B.BookName.limit d places c.args.quantum worked.0 core c.self.invariant (subst (λ (code : Code). Works code d.limit c.args.quantum d.core worked.0 core) c.deref.ensures worked.1)
