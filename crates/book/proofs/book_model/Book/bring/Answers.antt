@@ -18,7 +18,7 @@ take_back-requires-in-None g c =
     let l = c.args.lease in
     let parts = c.into_parts-program.ensures in
     let was : WasLent (loan_for l.code l.limit l.number l.base) l.published (word_at d.words l.slot) = rw (← parts.seat.1, ← parts.seat.2, ← parts.seat.3) c.take_back.ensures.was in
-    let out = book_out g.B.BookName.code g.B.BookName.limit d b.slots.places.items l h parts.program.1 parts.program.2 was in
+    let out = book_out g.B.BookName.code g.B.BookName.limit d b.slots.places l h parts.program.1 parts.program.2 was in
     rw c.number-number.ensures (ap is_some out.row.1)
 
 pub invariant_of-self : goal.invariant_of-self
