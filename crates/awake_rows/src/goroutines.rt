@@ -144,19 +144,20 @@ impl Goroutines {
         Ok(())
     }
 
-    /// Ends goroutine `number`, if it is awake.
-    pub fn end(&mut self, number: u64)
+    /// Ends goroutine `number`, if it is awake. Returns its state, in whose room another one may start; contracts don't see it.
+    pub fn end(&mut self, number: u64) -> Option<GoState>
         ensures { self.new ≡ record self.old { rows = slice_set self.old.rows number None } }
     {
         if self.row(number).is_none() {
-            return;
+            return None;
         }
         let Some(slot) = self.slots.free(number) else {
             unreachable!()
         };
         self.slots.is_inverse();
-        take_at(self.items.as_mut_slice(), slot);
+        let ended = take_at(self.items.as_mut_slice(), slot);
         note(&mut self.orders, &self.slots, &self.items, slot);
+        room_of(ended)
     }
 
     /// Puts goroutine `number`, which is awake, back in this state, parked or not.
@@ -363,5 +364,13 @@ impl Goroutines {
             Some(floor) => Some(floor.number),
             None => None,
         }
+    }
+}
+
+/// The state of a goroutine that has ended, if it was not lent.
+fn room_of(ended: Option<Goroutine>) -> Option<GoState> {
+    match ended {
+        Some(Goroutine::Awake(slot)) => slot.into_room(),
+        _ => None,
     }
 }

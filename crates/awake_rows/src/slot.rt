@@ -183,6 +183,15 @@ impl Slot {
         state
     }
 
+    /// The state of a goroutine that has ended, if it is here.
+    pub(crate) fn into_room(self) -> Option<GoState> {
+        let Slot { held, .. } = self;
+        match held {
+            Held::Here(state) => Some(state),
+            _ => None,
+        }
+    }
+
     /// Lends it, if it may be lent: its state is moved out.
     #[inline(always)]
     pub fn lend(&mut self) -> Option<GoState>

@@ -1,6 +1,7 @@
 -- What the core does for each shape of outcome is what the deed leaves.
 use Rattle.logical_clock.specs.declared.limits.TheConstants.{MAX_GOROUTINES}
 use Rattle.std.proofs.Common.{◌≡◌, ◌≢◌, ℕ, ◌+◌, ◌-◌, ◌<◌, ◌≤◌, max, cond, List, [], ◌∷◌, ◌++◌, map, length, Option, Some, None, refl, sym, ap, ◌∙◌, subst, arith}
+use Rattle.std.proofs.Math.Nat.{le-min}
 use Rattle.std.specs.Prelude.{slice_index_or, slice_set, option_map}
 use Rattle.std.proofs.lemmas.Bool.{ne_eqb}
 use Rattle.std.proofs.lemmas.List.{append-nil, get_or_append_left, length-map, set-append_left}
@@ -217,7 +218,7 @@ most_within Exhausted ss = omega arith
 -- and at most as many as offer something there
 pub most_met : (means : Request) (ss : List Sleeper) → most_woken means ss ≤ most_offered means ss
 most_met (Close None) ss = omega arith
-most_met (Close (Some k)) ss = partners_few k ss
+most_met (Close (Some k)) ss = le-min (partners_few k ss) (length-partners k ss)
 most_met (Make size zero) ss = omega arith
 most_met (Go f args) ss = omega arith
 most_met (Send c item) ss = omega arith

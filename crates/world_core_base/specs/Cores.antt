@@ -1,5 +1,5 @@
 -- A world of goroutines without its lists of events and bytes.
-use Rattle.std.specs.Prelude.{◌≡◌, ◌≢◌, ℕ, ◌+◌, ◌<◌, ◌≤◌, ◌^◌, ◌==◌, Bool, false, true, cond, List, [], ◌∷◌, ◌++◌, length, map, max, Option, Some, None, slice_index_or, slice_set}
+use Rattle.std.specs.Prelude.{◌≡◌, ◌≢◌, ℕ, ◌+◌, ◌<◌, ◌≤◌, ◌^◌, ◌==◌, Bool, false, true, cond, List, [], ◌∷◌, ◌++◌, length, map, max, min, Option, Some, None, slice_index_or, slice_set}
 use Rattle.std.specs.Option.{is_some, option_map}
 use Rattle.bytecode.specs.Code.{Code}
 use Rattle.bytecode.specs.Machine.{Frames, code_begin, code_kind}
@@ -140,10 +140,10 @@ most_woken (Close None) asleep = 0
 most_woken (Close (Some k)) asleep = length (partners k asleep)
 most_woken q asleep = 1
 
--- how many offers it meets at most
+-- how many offers of different goroutines it meets at most
 abbrev pub most_offered : Request → List Sleeper → ℕ
 most_offered (Close None) asleep = 0
-most_offered (Close (Some k)) asleep = offers_at k asleep
+most_offered (Close (Some k)) asleep = min (offers_at k asleep) (length asleep)
 most_offered q asleep = 1
 
 -- how many partners the next event has at most: all that are asleep, or one that is started

@@ -11,7 +11,7 @@ ghost use Rattle.world_core_base.specs.Cores.{Asks, FitsCore, HasLease, Performs
 ghost use Rattle.awake_rows.specs.Slots.{FitsAll, FitsRow, State, IsAwake, IsBefore, IsFreeIn, IsNobodyAwake, back_row, lent_row, raised_row, stepped_rows, waiting_clock};
 
 use crate::situation::Situation;
-use crate::waking::Spare;
+use crate::spare::Spare;
 use awake_rows::Among;
 use go_text::Memory;
 use goroutine_vm::{GoState, Sleeping};

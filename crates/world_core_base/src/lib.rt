@@ -3,6 +3,7 @@
 
 mod core_model;
 mod situation;
+mod spare;
 mod waking;
 
 pub use awake_rows::Slot;

@@ -12,7 +12,8 @@ ghost use Rattle.word.specs.Views.{outcome_of, reply_of, request_of};
 ghost use Rattle.world_core_base.specs.Cores.{Asks, FitsCore, IsAsked, IsGo, IsLast, Performs, Works, bytes_of, ended_as, left_beds, meant_after, most_offered, most_partners, most_woken, opened_core, to_lend, woken_rows};
 ghost use Rattle.awake_rows.specs.Slots.{IsFreeIn, IsUnlent, answered_rows, free_clock, free_row, lent_row};
 
-use crate::waking::{Spare, doze, make_rooms, wake};
+use crate::spare::{Spare, begin_state, keep_state, make_rooms};
+use crate::waking::{doze, wake};
 use awake_rows::{Among, Goroutines};
 use channel_core::{Channels, Woken};
 use go_text::Memory;
@@ -166,9 +167,9 @@ impl Situation {
                 self.print(code, limit, event);
                 Ok(())
             }
-            Request::Go(_, _) => self.start(alloc, code, limit, event),
+            Request::Go(_, _) => self.start(alloc, code, limit, event, &mut spare.states),
             Request::End => {
-                self.leave(code, limit, event);
+                self.leave(code, limit, event, &mut spare.states);
                 Ok(())
             }
             Request::Exit => {
@@ -258,6 +259,7 @@ impl Situation {
         code: &Verified,
         limit: u64,
         event: &mut Event,
+        states: &mut Vec<GoState>,
     ) -> Result<(), Memory>
         requires asked { IsAsked code.now limit self.old event.old.number event.old.clock (request_of event.old.request) }
         requires go { IsGo (request_of event.old.request) }
@@ -279,7 +281,14 @@ impl Situation {
             unreachable!()
         };
         let later = next_time(event.clock, limit);
-        let state = spawn_state(alloc, code, *function as usize, args.as_slice(), later)?;
+        let state = begin_state(
+            alloc,
+            code,
+            *function as usize,
+            args.as_slice(),
+            later,
+            states,
+        )?;
         event.partners.push(self.goroutines.count())?;
         self.add(state)?;
         self.go_on(code, event.number, &Reply::Nothing, later);
@@ -335,7 +344,7 @@ impl Situation {
     }
 
     /// The goroutine has ended.
-    fn leave(&mut self, code: &Verified, limit: u64, event: &mut Event)
+    fn leave(&mut self, code: &Verified, limit: u64, event: &mut Event, states: &mut Vec<GoState>)
         requires asked { IsAsked code.now limit self.old event.old.number event.old.clock (request_of event.old.request) }
         requires end { request_of event.old.request ≡ EndRequest }
         requires alone { event.old.partners.items ≡ [] }
@@ -346,7 +355,8 @@ impl Situation {
         ensures fits { FitsCore code.now limit self.new }
         ensures partners { event.new.partners.items ≡ [] }
     {
-        self.take_out(event.number);
+        let ended = self.take_out(event.number);
+        keep_state(states, ended);
         event.outcome = EventOutcome::Done(Reply::Nothing);
     }
 
@@ -395,14 +405,15 @@ impl Situation {
         self.ending = Some(end);
     }
 
-    /// Goroutine `number` is no more.
-    fn take_out(&mut self, number: u64)
+    /// Goroutine `number` is no more. Returns its state, in whose room another one may start.
+    fn take_out(&mut self, number: u64) -> Option<GoState>
         requires { self.old.events < 2 ^ 62 }
         ensures { self.new ≡ record self.old { rows = slice_set self.old.rows number None; live = self.old.live - 1; events = self.old.events + 1 } }
     {
-        self.goroutines.end(number);
+        let ended = self.goroutines.end(number);
         self.live = self.live.saturating_sub(1);
         self.events += 1;
+        ended
     }
 
     /// A new goroutine in this state.
@@ -507,14 +518,14 @@ fn next_time(clock: Clock, limit: u64) -> Clock
     Clock::at(clock.time() + 1)
 }
 
-/// How many offers a request meets at most: at least as many as the goroutines that it wakes.
+/// How many offers of different goroutines a request meets at most: at least as many as the goroutines that it wakes.
 #[tactic(auto, using(crate::proofs::Shapes::most_met))]
 fn most_offered(channels: &Channels, request: &Request) -> usize
     ensures offers { result ≡ most_offered (request_of request.now) channels.now.asleep }
     ensures woken { most_woken (request_of request.now) channels.now.asleep ≤ result }
 {
     match request {
-        Request::Close(Some(chan)) => channels.offers_at(*chan),
+        Request::Close(Some(chan)) => channels.offers_at(*chan).min(channels.asleep()),
         Request::Close(None) => 0,
         _ => 1,
     }

@@ -1,58 +1,18 @@
 //! Goroutines that fall asleep, and that are woken.
 
-ghost use Rattle.std.specs.Prelude.{◌≡◌, ℕ, ◌+◌, ◌≤◌, ◌++◌, IfSome, IsSome, OnOk, None, length, map, option_map, slice_index_or, slice_set, vec_capacity, vec_len};
+ghost use Rattle.std.specs.Prelude.{◌≡◌, ℕ, ◌+◌, ◌≤◌, ◌++◌, IfSome, IsSome, None, length, map, option_map, slice_index_or, slice_set, vec_capacity, vec_len};
 ghost use Rattle.bytecode.specs.Rules.{IsFrameOf};
 ghost use Rattle.goroutine_vm.specs.Advance.{IsQuiet};
 ghost use Rattle.word.specs.Values.{Reply as AnyReply};
 ghost use Rattle.world_core_base.specs.Cores.{left_beds, woken_rows};
 ghost use Rattle.awake_rows.specs.Slots.{IsUnlent};
 
+use crate::spare::MOST_SPARE;
 use awake_rows::Goroutines;
 use channel_core::Woken;
-use go_text::Memory;
 use goroutine_vm::Room;
 use logical_clock::Clock;
-use std::alloc::Global;
 use verifier::Verified;
-
-/// How many rooms of those who fell asleep are kept for those who get up.
-const MOST_SPARE: usize = 64;
-
-/// What an event leaves to those behind it. Contracts don't see it.
-pub(crate) struct Spare {
-    /// Rooms of those who fell asleep, for those who get up.
-    pub rooms: Vec<Room>,
-    /// Where an event lists whom it wakes.
-    pub woken: Vec<Woken>,
-}
-
-impl Drop for Spare {
-    fn drop(self) {
-        let Spare { rooms, woken } = self;
-        drop(rooms);
-        drop(woken);
-    }
-}
-
-impl Spare {
-    /// No rooms.
-    pub fn none(alloc: Global) -> Spare {
-        Spare {
-            rooms: Vec::new(alloc),
-            woken: Vec::new(alloc),
-        }
-    }
-}
-
-/// Makes sure that there are so many rooms.
-pub(crate) fn make_rooms(alloc: Global, rooms: &mut Vec<Room>, count: usize) -> Result<(), Memory>
-    ensures { OnOk result (count ≤ length rooms.new.items) }
-{
-    while rooms.len() < count {
-        rooms.push(Room::new(alloc)?)?;
-    }
-    Ok(())
-}
 
 /// Those who are woken get up with their replies, at this clock, each in one of these rooms; their numbers are put behind the
 /// others.

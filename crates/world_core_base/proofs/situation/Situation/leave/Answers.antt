@@ -8,7 +8,7 @@ use Rattle.world_core_base.proofs.situation.Situation.leave.Goals as goal
 pub returns-clause-performs : goal.returns-clause-performs
 returns-clause-performs c =
     let event : Recorded = record c.args.event.now { outcome = came.Done replies.Nothing } in
-    (made_ended c.args.code.now c.args.limit c.args.self.now event c.take_out.new.self c.requires.asked c.requires.fits c.requires.events c.requires.end refl c.requires.alone c.take_out.ensures).performs
+    (made_ended c.args.code.now c.args.limit c.args.self.now event c.take_out-ended.new.self c.requires.asked c.requires.fits c.requires.events c.requires.end refl c.requires.alone c.take_out-ended.ensures).performs
 
 pub returns-clause-bytes : goal.returns-clause-bytes
 returns-clause-bytes c = end_quiet c.args.event.now.request c.requires.end
@@ -16,4 +16,4 @@ returns-clause-bytes c = end_quiet c.args.event.now.request c.requires.end
 pub returns-clause-fits : goal.returns-clause-fits
 returns-clause-fits c =
     let event : Recorded = record c.args.event.now { outcome = came.Done replies.Nothing } in
-    (made_ended c.args.code.now c.args.limit c.args.self.now event c.take_out.new.self c.requires.asked c.requires.fits c.requires.events c.requires.end refl c.requires.alone c.take_out.ensures).fits
+    (made_ended c.args.code.now c.args.limit c.args.self.now event c.take_out-ended.new.self c.requires.asked c.requires.fits c.requires.events c.requires.end refl c.requires.alone c.take_out-ended.ensures).fits

@@ -18,8 +18,8 @@ next_time-later-requires-clause-below c =
     let ev = c.args.event.now in
     go_below c.args.code.now c.args.limit c.args.self.now ev.number ev.clock (request_of ev.request) c.requires.asked c.requires.go
 
-pub spawn_state-requires : goal.spawn_state-requires
-spawn_state-requires c =
+pub begin_state-requires : goal.begin_state-requires
+begin_state-requires c =
     let ev = c.args.event.now in
     subst (StartsWithin c.args.code.now) (ap request_of c.in-Go.is) (starts_within c.args.code.now c.args.limit c.args.self.now ev.number ev.clock (request_of ev.request) c.requires.asked)
 
