@@ -185,10 +185,10 @@ impl Slot {
 
     /// The state of a goroutine that has ended, if it is here.
     pub(crate) fn into_room(self) -> Option<GoState> {
-        let Slot { held, .. } = self;
-        match held {
+        let Slot { held: ended, .. } = self;
+        match ended {
             Held::Here(state) => Some(state),
-            _ => None,
+            Held::Lent(_) | Held::Ahead(_) => None,
         }
     }
 
