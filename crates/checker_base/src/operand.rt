@@ -372,7 +372,7 @@ fn make_sized<'a>(
 }
 
 /// What an integer is worth, if it is not too large.
-fn worth_literal<'a>(value: Option<u128>) -> Option<Worth<'a>>
+pub fn worth_literal<'a>(value: Option<u128>) -> Option<Worth<'a>>
     ensures worth { (types : List (List ℕ)) → option_map (worth_of types) result ≡ option_map Constant (literal value) }
     ensures small { IfSome result IsSmall }
 {
@@ -383,7 +383,7 @@ fn worth_literal<'a>(value: Option<u128>) -> Option<Worth<'a>>
 }
 
 /// What a composite literal of this name is worth, if the name is a struct type's.
-fn worth_composite<'a>(
+pub fn worth_composite<'a>(
     table: &TypeTable<'a>,
     visible: &Visible<'a>,
     name: &[u8],
@@ -398,7 +398,7 @@ fn worth_composite<'a>(
 }
 
 /// What a field of an operand is worth, if the operand is worth something.
-fn worth_selected<'a>(
+pub fn worth_selected<'a>(
     table: &TypeTable<'a>,
     whole: Option<Worth<'_>>,
     field: &[u8],
@@ -413,7 +413,7 @@ fn worth_selected<'a>(
 }
 
 /// What an operator makes of an operand, if the operand is worth something.
-fn worth_before<'a>(operator: UnaryOperator, operand: Option<Worth<'_>>) -> Option<Worth<'a>>
+pub fn worth_before<'a>(operator: UnaryOperator, operand: Option<Worth<'_>>) -> Option<Worth<'a>>
     requires { IfSome operand IsSmall }
     ensures worth { (types : List (List ℕ)) → option_map (worth_of types) result ≡ option_and_then (λ a. result_ok (unary_worth operator a)) (option_map (worth_of types) operand.entry) }
     ensures small { IfSome result IsSmall }
@@ -425,7 +425,7 @@ fn worth_before<'a>(operator: UnaryOperator, operand: Option<Worth<'_>>) -> Opti
 }
 
 /// What an operator makes of two operands, if both are worth something.
-fn worth_between<'a>(
+pub fn worth_between<'a>(
     table: &TypeTable<'_>,
     operator: BinaryOperator,
     left: Option<Worth<'_>>,

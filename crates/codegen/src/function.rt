@@ -7,9 +7,10 @@ ghost use Rattle.type_table.specs.declared.table.TypeTable.{TypeTable as OneTabl
 ghost use Rattle.type_table.specs.Views.{yield_of};
 ghost use Rattle.codegen_base.specs.Generated.{result_kinds};
 ghost use Rattle.codegen_base.specs.Layouts.{empty};
-ghost use Rattle.codegen_base.specs.Program.{first_layout, function_code, label, made_function};
+ghost use Rattle.codegen_base.specs.Program.{first_layout, function_code, label, made_function, result_of};
 ghost use Rattle.codegen_emission.specs.Layouts.{layout_in, layout_of};
 ghost use Rattle.codegen_expression.specs.Contexts.{elements_of, globals_of, types_in};
+ghost use Rattle.codegen.specs.Codes.{IsKnown};
 
 use crate::head::{declare_parameters, result_type};
 use bytecode::{Function, WordKind};
@@ -19,7 +20,6 @@ use codegen_emission::context::FunctionContext;
 use codegen_emission::emitter::Emitter;
 use codegen_emission::layout::Layout;
 use codegen_expression::context::Context;
-use codegen_expression::halt::Halt;
 use codegen_expression::operand::number;
 use codegen_expression::shape::put_kinds;
 use std::alloc::{AllocError, Global};
@@ -67,7 +67,7 @@ fn begin_function<'a>(
     context: &Context<'_, 'a>,
     emitter: &mut Emitter<'a>,
     function: &'a FunctionNode,
-) -> Result<u32, Halt>
+) -> Result<u32, AllocError>
     ensures params { IfOk result (λ params. params ≡ length (first_layout (globals_of context.now) (elements_of context.now) (function_of function.now)).locals) }
     ensures code { OnOk result (emitter.new.code.items ≡ []) }
     ensures layout { OnOk result (layout_in context.now emitter.new.layout ≡ first_layout (globals_of context.now) (elements_of context.now) (function_of function.now)) }
@@ -89,7 +89,7 @@ fn finished<'a>(
     function: &'a FunctionNode,
     params: u32,
     kind: Option<ValueType<'a>>,
-) -> Result<Function, Halt>
+) -> Result<Function, AllocError>
     ensures code { IfOk result (λ code. code ≡ record { name = label (function_of function.now).name; params = params; locals = emitter.old.layout.locals.items; results = result_kinds (globals_of context.now) (elements_of context.now) (yield_of (types_in context.now) kind.entry); instrs = emitter.old.code.items }) }
     ensures prints { OnOk result (emitter.new.prints.items ≡ emitter.old.prints.items) }
     ensures selects { OnOk result (emitter.new.selects.items ≡ emitter.old.selects.items) }
@@ -103,19 +103,20 @@ fn finished<'a>(
 
 /// The code of a function, whose tables are appended.
 ///
-/// Errors: something is wrong with the function; want of memory.
+/// Errors: want of memory.
 pub(crate) fn function_code<'a>(
     context: &Context<'_, 'a>,
     blank: &'a Blank,
     emitter: &mut Emitter<'a>,
     function: &'a FunctionNode,
-) -> Result<Function, Halt>
+) -> Result<Function, AllocError>
+    requires known { IsKnown (result_of (globals_of context.now) (elements_of context.now) (function_of function.now)) }
     ensures code { IfOk result (λ code. code ≡ function_code (globals_of context.now) (elements_of context.now) (function_of function.now) (made_function (globals_of context.now) (elements_of context.now) (length emitter.old.prints.items) (length emitter.old.selects.items) (function_of function.now))) }
     ensures prints { OnOk result (emitter.new.prints.items ≡ emitter.old.prints.items ++ (made_function (globals_of context.now) (elements_of context.now) (length emitter.old.prints.items) (length emitter.old.selects.items) (function_of function.now)).prints) }
     ensures selects { OnOk result (emitter.new.selects.items ≡ emitter.old.selects.items ++ tables 0 (made_function (globals_of context.now) (elements_of context.now) (length emitter.old.prints.items) (length emitter.old.selects.items) (function_of function.now)).plan) }
 {
     let params = begin_function(context, emitter, function)?;
-    let result_type = result_type(context.table, function.result.as_ref())?;
+    let result_type = result_type(context.table, function.result.as_ref());
     let within = FunctionContext {
         program: context,
         blank,

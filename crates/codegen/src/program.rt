@@ -1,6 +1,6 @@
 //! The code of a file.
 
-ghost use Rattle.std.specs.Prelude.{◌≡◌, ◌++◌, ◌∷◌, ◌<◌, ◌^◌, [], IfOk, List, OnOk, length, map, sum_by};
+ghost use Rattle.std.specs.Prelude.{◌≡◌, ◌++◌, ◌∷◌, ◌<◌, ◌^◌, [], All, IfOk, List, OnOk, length, map, sum_by};
 ghost use Rattle.syntax.specs.Measures.{top_size};
 ghost use Rattle.syntax.specs.Spans.{tree_of};
 ghost use Rattle.syntax.specs.Tree.{Top};
@@ -9,8 +9,8 @@ ghost use Rattle.type_table.specs.Visible.{globals_in, types_of};
 ghost use Rattle.typing_rules.specs.Files.{IsTyped};
 ghost use Rattle.checker.specs.Trees.{tree_in};
 ghost use Rattle.codegen_base.specs.Program.{all_prints, all_selects, code_of, functions_code, noting_tops};
-ghost use Rattle.codegen_expression.specs.Contexts.{elements_of, globals_of};
-ghost use Rattle.codegen.specs.Codes.{code_with};
+ghost use Rattle.codegen_expression.specs.Contexts.{elements_of, globals_of, types_in};
+ghost use Rattle.codegen.specs.Codes.{HasKnownResult, code_with};
 
 use crate::function::function_code;
 use crate::shapes::shapes_of;
@@ -21,9 +21,8 @@ use codegen_emission::emitter::Emitter;
 use codegen_emission::layout::Layout;
 use codegen_emission::marks::Marks;
 use codegen_expression::context::Context;
-use codegen_expression::halt::Halt;
 use codegen_expression::noting::elements_in;
-use std::alloc::Global;
+use std::alloc::{AllocError, Global};
 use syntax::TopNode;
 use type_table::table::TypeTable;
 
@@ -35,7 +34,8 @@ fn put_top<'a>(
     emitter: &mut Emitter<'a>,
     functions: &mut Vec<Function>,
     top: &'a TopNode,
-) -> Result<(), Halt>
+) -> Result<(), AllocError>
+    requires known { HasKnownResult (types_in context.now) (top_of top.now) }
     ensures functions { OnOk result ((rest : List Top) → functions.new.items ++ functions_code (globals_of context.now) (elements_of context.now) (length emitter.new.prints.items) (length emitter.new.selects.items) rest ≡ functions.old.items ++ functions_code (globals_of context.now) (elements_of context.now) (length emitter.old.prints.items) (length emitter.old.selects.items) (top_of top.now ∷ rest)) }
     ensures prints { OnOk result ((rest : List Top) → emitter.new.prints.items ++ all_prints (globals_of context.now) (elements_of context.now) (length emitter.new.prints.items) (length emitter.new.selects.items) rest ≡ emitter.old.prints.items ++ all_prints (globals_of context.now) (elements_of context.now) (length emitter.old.prints.items) (length emitter.old.selects.items) (top_of top.now ∷ rest)) }
     ensures selects { OnOk result ((rest : List Top) → emitter.new.selects.items ++ all_selects (globals_of context.now) (elements_of context.now) (length emitter.new.prints.items) (length emitter.new.selects.items) rest ≡ emitter.old.selects.items ++ all_selects (globals_of context.now) (elements_of context.now) (length emitter.old.prints.items) (length emitter.old.selects.items) (top_of top.now ∷ rest)) }
@@ -54,7 +54,8 @@ fn put_tops<'a>(
     emitter: &mut Emitter<'a>,
     functions: &mut Vec<Function>,
     tops: &'a [TopNode],
-) -> Result<(), Halt>
+) -> Result<(), AllocError>
+    requires known { All (λ (top : _). HasKnownResult (types_in context.now) (top_of top)) tops.now }
     ensures functions { OnOk result (functions.new.items ≡ functions.old.items ++ functions_code (globals_of context.now) (elements_of context.now) (length emitter.old.prints.items) (length emitter.old.selects.items) (map top_of tops.now)) }
     ensures prints { OnOk result (emitter.new.prints.items ≡ emitter.old.prints.items ++ all_prints (globals_of context.now) (elements_of context.now) (length emitter.old.prints.items) (length emitter.old.selects.items) (map top_of tops.now)) }
     ensures selects { OnOk result (emitter.new.selects.items ≡ emitter.old.selects.items ++ all_selects (globals_of context.now) (elements_of context.now) (length emitter.old.prints.items) (length emitter.old.selects.items) (map top_of tops.now)) }
@@ -71,8 +72,9 @@ fn generate<'a>(
     table: &TypeTable<'a>,
     blank: &'a Blank,
     tops: &'a [TopNode],
-) -> Result<(Code, Marks), Halt>
+) -> Result<(Code, Marks), AllocError>
     requires small { sum_by top_size (map top_of tops.now) < 2 ^ 32 }
+    requires known { All (λ (top : _). HasKnownResult (types_of table.now) (top_of top)) tops.now }
     ensures { IfOk result (λ made. made.0 ≡ code_with (globals_in table.now) (noting_tops (types_of table.now) (map top_of tops.now) []) (map top_of tops.now)) }
 {
     let elements = elements_in(alloc, table, tops)?;
@@ -96,7 +98,7 @@ fn generate<'a>(
 }
 
 /// The code of a checked file and its marks, with a name under which ranges keep their channels.
-fn file_code<'a>(alloc: Global, typed: &'a Typed, blank: &'a Blank) -> Result<(Code, Marks), Halt>
+fn file_code<'a>(alloc: Global, typed: &'a Typed, blank: &'a Blank) -> Result<(Code, Marks), AllocError>
     ensures code { IfOk result (λ made. made.0 ≡ code_of (tree_of (tree_in typed.now))) }
     ensures typed { IfOk result (λ _. IsTyped (tree_of (tree_in typed.now))) }
 {
@@ -108,8 +110,8 @@ fn file_code<'a>(alloc: Global, typed: &'a Typed, blank: &'a Blank) -> Result<(C
 
 /// The code of a checked file, and its marks.
 ///
-/// Errors: out of memory, or a number of the code over 2^32.
-pub(crate) fn code_of(alloc: Global, typed: &Typed) -> Result<(Code, Marks), Halt>
+/// Errors: want of memory, as which a number of the code of 2^32 or more counts.
+pub(crate) fn code_of(alloc: Global, typed: &Typed) -> Result<(Code, Marks), AllocError>
     ensures code { IfOk result (λ made. made.0 ≡ code_of (tree_of (tree_in typed.now))) }
     ensures typed { IfOk result (λ _. IsTyped (tree_of (tree_in typed.now))) }
 {

@@ -7,13 +7,13 @@ ghost use Rattle.codegen_expression.specs.Contexts.{elements_of, globals_of};
 use bytecode::{Shape, WordKind};
 use codegen_base::element::Element;
 use codegen_expression::context::Context;
-use codegen_expression::halt::Halt;
 use codegen_expression::operand::number;
 use codegen_expression::shape::put_kinds;
+use std::alloc::AllocError;
 use type_table::value_type::ValueType;
 
 /// The kinds of the words that a channel carries.
-fn element_kinds(context: &Context<'_, '_>, element: Element) -> Result<Vec<WordKind>, Halt>
+fn element_kinds(context: &Context<'_, '_>, element: Element) -> Result<Vec<WordKind>, AllocError>
     ensures { IfOk result (λ kinds. kinds.items ≡ element_kinds (globals_of context.now).structs (elements_of context.now) element) }
 {
     let mut kinds = Vec::new(context.alloc);
@@ -36,7 +36,7 @@ fn element_kinds(context: &Context<'_, '_>, element: Element) -> Result<Vec<Word
 }
 
 /// The shapes of what channels carry, in the order of their numbers.
-pub(crate) fn shapes_of(context: &Context<'_, '_>) -> Result<Vec<Shape>, Halt>
+pub(crate) fn shapes_of(context: &Context<'_, '_>) -> Result<Vec<Shape>, AllocError>
     ensures { IfOk result (λ shapes. shapes.items ≡ shapes_of (globals_of context.now).structs (elements_of context.now)) }
 {
     let mut shapes = Vec::new(context.alloc);

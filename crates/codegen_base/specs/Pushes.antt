@@ -1,6 +1,6 @@
 -- The instructions that push the values of expressions.
 use Rattle.std.specs.Int.{w64, int_wrap}
-use Rattle.std.specs.Prelude.{ℕ, zero, suc, ℤ, pos, true, false, List, [], ◌∷◌, map, length, Option, Some, None, Ok, Err, if◌then◌else◌, bytes_eq, codes}
+use Rattle.std.specs.Prelude.{ℕ, zero, suc, ℤ, pos, true, false, List, [], ◌∷◌, map, length, Option, Some, None, Ok, if◌then◌else◌, bytes_eq, codes}
 use Rattle.syntax.specs.declared.node.UnaryOperator.{UnaryOperator}
 use Rattle.syntax.specs.declared.node.UnaryOperator.TheVariants as signs
 use Rattle.syntax.specs.declared.node.BinaryOperator.{BinaryOperator}
@@ -8,8 +8,7 @@ use Rattle.syntax.specs.declared.node.BinaryOperator.TheVariants as symbols
 use Rattle.syntax.specs.Tree.{TypeExpression, Expression, Integer, Named, Parenthesized, Selection, Composite, Unary, Binary, Call, Receive, Make, MakeSized, Length, Capacity, Expressions, NoMore, Behind, expressions}
 use Rattle.word.specs.declared.apply.Op.{Op}
 use Rattle.word.specs.declared.apply.Op.TheVariants as ops
-use Rattle.word.specs.declared.value.Word.{Word}
-use Rattle.word.specs.declared.value.Word.TheVariants.{Int, Bool as Truth, Chan}
+use Rattle.word.specs.declared.value.Word.TheVariants.{Int, Bool as Truth}
 use Rattle.word.specs.Apply.{Valued, value as applied}
 use Rattle.bytecode.specs.declared.instr.Instr.{Instr}
 use Rattle.bytecode.specs.declared.instr.Instr.TheVariants as instrs
@@ -60,15 +59,10 @@ abbrev pub drops : ℕ → Plan → Plan
 drops zero rest = rest
 drops (suc count) rest = Do (instrs.Discard (suc count)) rest
 
-abbrev pub literal : Word → Instr
-literal (Int n) = instrs.Int n
-literal (Truth b) = instrs.Bool b
-literal (Chan c) = instrs.Nil 0
-
+-- the truth of a comparison; for what is no truth, which is never used, stands `false`
 abbrev pub valued : Valued → Instr
-valued (Some (Ok word)) = literal word
-valued (Some (Err cause)) = instrs.Bool false
-valued None = instrs.Bool false
+valued (Some (Ok (Truth b))) = instrs.Bool b
+valued other = instrs.Bool false
 
 -- two constants are compared here and now
 abbrev pub compared : BinaryOperator → ℤ → ℤ → Instr

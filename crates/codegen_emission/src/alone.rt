@@ -12,21 +12,21 @@ ghost use Rattle.codegen_emission.specs.Contexts.{of_program, table_of};
 use crate::context::FunctionContext;
 use crate::emitter::Emitter;
 use crate::marks::Part;
-use codegen_expression::halt::Halt;
 use codegen_expression::operand::number;
 use codegen_header::layout::{enter, leave};
 use codegen_header::print::put_prints;
 use codegen_header::simple::emit_simple;
+use std::alloc::AllocError;
 use syntax::{IfHeader, SimpleNode};
 
 /// A simple statement.
 ///
-/// Errors: something is wrong with the statement; want of memory.
+/// Errors: want of memory.
 pub fn emit_alone<'a>(
     context: &FunctionContext<'_, 'a>,
     emitter: &mut Emitter<'a>,
     simple: &'a SimpleNode,
-) -> Result<(), Halt>
+) -> Result<(), AllocError>
     ensures { OnOk result (Emits (table_of context.now) emitter.old emitter.new through (of_program context.now made_simple (site_of (table_of context.now) emitter.old) (simple_of simple.now))) }
 {
     let first = number(emitter.prints.len())?;
@@ -40,14 +40,14 @@ pub fn emit_alone<'a>(
 
 /// A simple statement of a header, with its marks.
 ///
-/// Errors: something is wrong with the statement; out of memory.
+/// Errors: want of memory.
 #[tactic(auto, using(crate::proofs::Emitting::emits_marked))]
 fn emit_marked<'a>(
     context: &FunctionContext<'_, 'a>,
     emitter: &mut Emitter<'a>,
     part: Part,
     simple: &'a SimpleNode,
-) -> Result<(), Halt>
+) -> Result<(), AllocError>
     ensures { OnOk result (Emits (table_of context.now) emitter.old emitter.new through (of_program context.now made_simple (site_of (table_of context.now) emitter.old) (simple_of simple.now))) }
 {
     emitter.marks.begin(part, emitter.code.len())?;
@@ -60,7 +60,7 @@ fn emit_inside<'a>(
     context: &FunctionContext<'_, 'a>,
     emitter: &mut Emitter<'a>,
     simple: &'a SimpleNode,
-) -> Result<(), Halt>
+) -> Result<(), AllocError>
     ensures { OnOk result (Emits (table_of context.now) emitter.old emitter.new through (ended (layout_of (table_of context.now) emitter.old.layout) (of_program context.now made_simple (inside (site_of (table_of context.now) emitter.old)) (simple_of simple.now)))) }
 {
     let mark = enter(&mut emitter.layout);
@@ -71,13 +71,13 @@ fn emit_inside<'a>(
 
 /// A simple statement that may be left out.
 ///
-/// Errors: something is wrong with the statement; want of memory.
+/// Errors: want of memory.
 #[tactic(auto, using(crate::proofs::Emitting::emits_none))]
 pub fn emit_any<'a>(
     context: &FunctionContext<'_, 'a>,
     emitter: &mut Emitter<'a>,
     simple: Option<&'a SimpleNode>,
-) -> Result<(), Halt>
+) -> Result<(), AllocError>
     ensures { OnOk result (Emits (table_of context.now) emitter.old emitter.new through (of_program context.now made_any (site_of (table_of context.now) emitter.old) (option_map (λ (s : _). simple_of s.now) simple.entry))) }
 {
     match simple {
@@ -88,13 +88,13 @@ pub fn emit_any<'a>(
 
 /// What stands before the condition of an `if`.
 ///
-/// Errors: something is wrong with a statement; want of memory.
+/// Errors: want of memory.
 #[tactic(auto, using(crate::proofs::Emitting::emits_none))]
 pub fn emit_head<'a>(
     context: &FunctionContext<'_, 'a>,
     emitter: &mut Emitter<'a>,
     header: &'a IfHeader,
-) -> Result<(), Halt>
+) -> Result<(), AllocError>
     ensures { OnOk result (Emits (table_of context.now) emitter.old emitter.new through (of_program context.now made_any (site_of (table_of context.now) emitter.old) (head_simple (if_head_of header.now)))) }
 {
     match header {
@@ -105,13 +105,13 @@ pub fn emit_head<'a>(
 
 /// What is done behind each turn of a loop.
 ///
-/// Errors: something is wrong with the statement; want of memory.
+/// Errors: want of memory.
 #[tactic(auto, using(crate::proofs::Emitting::emits_none))]
 pub fn emit_post<'a>(
     context: &FunctionContext<'_, 'a>,
     emitter: &mut Emitter<'a>,
     post: Option<&'a SimpleNode>,
-) -> Result<(), Halt>
+) -> Result<(), AllocError>
     ensures { OnOk result (Emits (table_of context.now) emitter.old emitter.new through (of_program context.now made_post (layout_of (table_of context.now) emitter.old.layout) (site_of (table_of context.now) emitter.old) (option_map (λ (s : _). simple_of s.now) post.entry))) }
 {
     match post {

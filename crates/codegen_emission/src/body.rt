@@ -15,15 +15,15 @@ use crate::context::FunctionContext;
 use crate::emitter::Emitter;
 use crate::statement::emit_statements;
 use bytecode::Instr;
-use codegen_expression::halt::Halt;
 use codegen_expression::operand::push_zeros;
 use codegen_flow::flow::{Flow, join};
 use codegen_flow::waits::fill;
+use std::alloc::AllocError;
 use syntax::StatementNode;
 
 /// Pushes the zero value of a function's result, if it has one.
 #[tactic(auto, using(codegen_expression::proofs::Operating::puts_zeros))]
-fn push_zero_result(context: &FunctionContext<'_, '_>, code: &mut Vec<Instr>) -> Result<(), Halt>
+fn push_zero_result(context: &FunctionContext<'_, '_>, code: &mut Vec<Instr>) -> Result<(), AllocError>
     ensures { OnOk result (Puts code.old.items code.new.items (pushes_zeros (of_program context.now result_kinds (result_of context.now)))) }
 {
     if let Some(kind) = context.result_type {
@@ -33,7 +33,7 @@ fn push_zero_result(context: &FunctionContext<'_, '_>, code: &mut Vec<Instr>) ->
 }
 
 /// The end of a body: it returns zeros.
-fn emit_end<'a>(context: &FunctionContext<'_, 'a>, emitter: &mut Emitter<'a>) -> Result<Flow, Halt>
+fn emit_end<'a>(context: &FunctionContext<'_, 'a>, emitter: &mut Emitter<'a>) -> Result<Flow, AllocError>
     ensures { IfOk result (λ flow. Emits (table_of context.now) emitter.old emitter.new (control flow) (made_of (pushes_zeros (of_program context.now result_kinds (result_of context.now)) Stop) [] (layout_of (table_of context.now) emitter.old.layout))) }
 {
     push_zero_result(context, &mut emitter.code)?;
@@ -47,7 +47,7 @@ fn emit_all<'a>(
     context: &FunctionContext<'_, 'a>,
     emitter: &mut Emitter<'a>,
     body: &'a [StatementNode],
-) -> Result<Flow, Halt>
+) -> Result<Flow, AllocError>
     ensures { IfOk result (λ flow. Emits (table_of context.now) emitter.old emitter.new (control flow) (of_function context.now made_body (site_of (table_of context.now) emitter.old) (body_of body.now))) }
 {
     let mut flow = emit_statements(context, emitter, body)?;
@@ -61,12 +61,12 @@ fn emit_all<'a>(
 
 /// Emits the body of a function. At its end it returns zeros.
 ///
-/// Errors: something is wrong with a statement; want of memory.
+/// Errors: want of memory.
 pub fn emit_body<'a>(
     context: &FunctionContext<'_, 'a>,
     emitter: &mut Emitter<'a>,
     body: &'a [StatementNode],
-) -> Result<(), Halt>
+) -> Result<(), AllocError>
     ensures { OnOk result (Finishes (table_of context.now) emitter.old emitter.new (of_function context.now made_body (site_of (table_of context.now) emitter.old) (body_of body.now))) }
 {
     let flow = emit_all(context, emitter, body)?;

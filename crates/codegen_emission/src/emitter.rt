@@ -5,9 +5,9 @@ ghost use Rattle.bytecode.specs.declared.instr.Instr.TheVariants as instrs;
 
 use crate::marks::Marks;
 use bytecode::{Instr, PrintTable, SelectTable};
-use codegen_expression::halt::Halt;
 use codegen_expression::operand::{number, put};
 use codegen_header::layout::Layout;
+use std::alloc::AllocError;
 
 /// What is emitted of a function, the tables and marks of those before it, and where its variables lie.
 #[derive(Drop)]
@@ -23,7 +23,7 @@ impl Emitter<'_> {
     /// The place of the next instruction.
     ///
     /// Errors: it would pass 2^32.
-    pub(crate) fn next_place(&self) -> Result<u32, Halt>
+    pub(crate) fn next_place(&self) -> Result<u32, AllocError>
         ensures { IfOk result (λ place. place ≡ length self.now.code.items) }
     {
         number(self.code.len())
@@ -33,7 +33,7 @@ impl Emitter<'_> {
 /// Puts a test whose target is known later, and answers its place.
 ///
 /// Errors: want of memory.
-pub(crate) fn hold_test(code: &mut Vec<Instr>) -> Result<usize, Halt>
+pub(crate) fn hold_test(code: &mut Vec<Instr>) -> Result<usize, AllocError>
     ensures place { IfOk result (λ test. test ≡ length code.old.items) }
     ensures held { OnOk result (code.new.items ≡ code.old.items ++ instrs.Unless 0 ∷ []) }
 {

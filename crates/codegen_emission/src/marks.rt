@@ -1,8 +1,7 @@
 //! Which part of the source each instruction comes from.
 
-use codegen_expression::halt::Halt;
 use codegen_expression::operand::number;
-use std::alloc::Global;
+use std::alloc::{AllocError, Global};
 
 /// A part of a function that has marks of its own.
 #[derive(Clone, Copy, PartialEq, Eq)]
@@ -52,7 +51,7 @@ impl Marks {
     /// The next function begins.
     ///
     /// Errors: out of memory.
-    pub fn begin_function(&mut self) -> Result<(), Halt> {
+    pub fn begin_function(&mut self) -> Result<(), AllocError> {
         self.list.push(Mark::Function)?;
         Ok(())
     }
@@ -60,7 +59,7 @@ impl Marks {
     /// A part begins, when the function has `at` instructions.
     ///
     /// Errors: out of memory, or `at` is 2^32 or more.
-    pub(crate) fn begin(&mut self, part: Part, at: usize) -> Result<(), Halt> {
+    pub(crate) fn begin(&mut self, part: Part, at: usize) -> Result<(), AllocError> {
         let at = number(at)?;
         self.list.push(Mark::Begin { part, at })?;
         Ok(())
@@ -69,7 +68,7 @@ impl Marks {
     /// A part ends, when the function has `at` instructions.
     ///
     /// Errors: out of memory, or `at` is 2^32 or more.
-    pub(crate) fn end(&mut self, at: usize) -> Result<(), Halt> {
+    pub(crate) fn end(&mut self, at: usize) -> Result<(), AllocError> {
         let at = number(at)?;
         self.list.push(Mark::End { at })?;
         Ok(())

@@ -13,24 +13,23 @@ use crate::alone::emit_alone;
 use crate::context::FunctionContext;
 use crate::emitter::Emitter;
 use bytecode::Instr;
-use codegen_expression::halt::Halt;
 use codegen_flow::flow::Flow;
 use codegen_header::returned::emit_return;
 use codegen_header::start::emit_go;
 use codegen_header::variables::{emit_typed, emit_untyped};
-use std::alloc::Global;
+use std::alloc::{AllocError, Global};
 use syntax::{ArgumentsNode, ExpressionNode, Name, ReturnNode, StatementNode, TypeNode};
 
 /// Variables of a type are declared.
 ///
-/// Errors: something is wrong with the type or the right side; want of memory.
+/// Errors: want of memory.
 fn declare_typed<'a>(
     context: &FunctionContext<'_, 'a>,
     emitter: &mut Emitter<'a>,
     names: &'a [Name],
     kind: &'a TypeNode,
     right: &'a Option<Vec<ExpressionNode>>,
-) -> Result<(), Halt>
+) -> Result<(), AllocError>
     ensures { (yields : Yield) → OnOk result (Emits (table_of context.now) emitter.old emitter.new through (of_program context.now made yields (site_of (table_of context.now) emitter.old) (VarTyped (map name_of names.now) (type_of kind.now) (option_map right_of right.now)))) }
 {
     let layout = &mut emitter.layout;
@@ -41,13 +40,13 @@ fn declare_typed<'a>(
 
 /// Variables are declared, with the types of what they are given.
 ///
-/// Errors: something is wrong with the right side; want of memory.
+/// Errors: want of memory.
 fn declare_untyped<'a>(
     context: &FunctionContext<'_, 'a>,
     emitter: &mut Emitter<'a>,
     names: &'a [Name],
     right: &'a [ExpressionNode],
-) -> Result<(), Halt>
+) -> Result<(), AllocError>
     ensures { (yields : Yield) → OnOk result (Emits (table_of context.now) emitter.old emitter.new through (of_program context.now made yields (site_of (table_of context.now) emitter.old) (VarUntyped (map name_of names.now) (map expression_of right.now)))) }
 {
     let layout = &mut emitter.layout;
@@ -58,13 +57,13 @@ fn declare_untyped<'a>(
 
 /// Another goroutine starts.
 ///
-/// Errors: something is wrong with the call; want of memory.
+/// Errors: want of memory.
 fn start<'a>(
     context: &FunctionContext<'_, 'a>,
     emitter: &mut Emitter<'a>,
     name: &'a Name,
     arguments: &'a ArgumentsNode,
-) -> Result<(), Halt>
+) -> Result<(), AllocError>
     ensures { (yields : Yield) → OnOk result (Emits (table_of context.now) emitter.old emitter.new through (of_program context.now made yields (site_of (table_of context.now) emitter.old) (Go (name_of name.now) (arguments_of arguments.now)))) }
 {
     let visible = &emitter.layout.visible;
@@ -74,12 +73,12 @@ fn start<'a>(
 
 /// The function returns.
 ///
-/// Errors: something is wrong with what is returned; want of memory.
+/// Errors: want of memory.
 fn give_back<'a>(
     context: &FunctionContext<'_, 'a>,
     emitter: &mut Emitter<'a>,
     returned: &'a ReturnNode,
-) -> Result<Flow, Halt>
+) -> Result<Flow, AllocError>
     ensures { IfOk result (λ flow. Emits (table_of context.now) emitter.old emitter.new (control flow) (of_function context.now made (site_of (table_of context.now) emitter.old) (Return (returned_of returned.now)))) }
 {
     let layout = &emitter.layout;
@@ -91,7 +90,7 @@ fn give_back<'a>(
 /// A break, or a continue.
 ///
 /// Errors: want of memory.
-fn emit_jump(alloc: Global, leaves: bool, emitter: &mut Emitter<'_>) -> Result<Flow, Halt>
+fn emit_jump(alloc: Global, leaves: bool, emitter: &mut Emitter<'_>) -> Result<Flow, AllocError>
     ensures { IfOk result (λ flow. Jumps leaves emitter.old emitter.new (control flow)) }
 {
     let flow = Flow::from_jump(alloc, leaves, emitter.code.len())?;
@@ -101,13 +100,13 @@ fn emit_jump(alloc: Global, leaves: bool, emitter: &mut Emitter<'_>) -> Result<F
 
 /// A statement that holds no other one.
 ///
-/// Errors: something is wrong with the statement; want of memory.
+/// Errors: want of memory.
 #[tactic(auto, using(crate::proofs::Emitting::emits_nothing))]
 pub fn emit_single<'a>(
     context: &FunctionContext<'_, 'a>,
     emitter: &mut Emitter<'a>,
     statement: &'a StatementNode,
-) -> Result<Flow, Halt>
+) -> Result<Flow, AllocError>
     requires { IsSingle (statement_of statement.now) }
     ensures { IfOk result (λ flow. Emits (table_of context.now) emitter.old emitter.new (control flow) (of_function context.now made (site_of (table_of context.now) emitter.old) (statement_of statement.now))) }
 {

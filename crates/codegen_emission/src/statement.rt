@@ -25,7 +25,6 @@ use crate::marks::Part;
 use crate::single::emit_single;
 use crate::turn::{come_round, emit_round};
 use bytecode::Instr;
-use codegen_expression::halt::Halt;
 use codegen_flow::flow::{Flow, join, join_way, may_end};
 use codegen_flow::select::{
     WayList, add_way, close, end_ways, from_ways, hold, hold_select, leave_select, set_table,
@@ -37,6 +36,7 @@ use codegen_header::layout::{enter, leave};
 use codegen_header::range::{Ranged, declare_kept, emit_kept, emit_next, emit_unused, take_item};
 use codegen_header::select::{push_clauses, select_table};
 use codegen_header::test::push_test;
+use std::alloc::AllocError;
 use syntax::{
     ClauseNode, CommNode, ElseNode, ExpressionNode, ForHeader, IfNode, RangeTarget, SimpleNode,
     StatementNode,
@@ -50,7 +50,7 @@ pub(crate) fn emit_statements<'t, 'm, 'a>(
     context: &'t FunctionContext<'t, 'a>,
     emitter: &'m mut Emitter<'a>,
     body: &'a [StatementNode],
-) -> Result<Flow, Halt>
+) -> Result<Flow, AllocError>
     ensures { IfOk result (λ flow. Emits (table_of context.now) emitter.old emitter.new (control flow) (of_function context.now made_all (site_of (table_of context.now) emitter.old) (body_of body.now))) }
 {
     let mut flow = Flow::through(context.program.alloc);
@@ -71,7 +71,7 @@ fn emit_block<'t, 'm, 'a>(
     context: &'t FunctionContext<'t, 'a>,
     emitter: &'m mut Emitter<'a>,
     body: &'a [StatementNode],
-) -> Result<Flow, Halt>
+) -> Result<Flow, AllocError>
     ensures { IfOk result (λ flow. Emits (table_of context.now) emitter.old emitter.new (control flow) (ended (layout_of (table_of context.now) emitter.old.layout) (of_function context.now made_all (inside (site_of (table_of context.now) emitter.old)) (body_of body.now)))) }
 {
     let mark = enter(&mut emitter.layout);
@@ -87,7 +87,7 @@ fn emit_endless<'t, 'm, 'a>(
     emitter: &'m mut Emitter<'a>,
     body: &'a [StatementNode],
     post: Option<&'a SimpleNode>,
-) -> Result<Flow, Halt>
+) -> Result<Flow, AllocError>
     ensures { IfOk result (λ flow. Emits (table_of context.now) emitter.old emitter.new (control flow) (of_function context.now made_turns (site_of (table_of context.now) emitter.old) None (body_of body.now) (option_map (λ (s : _). simple_of s.now) post.entry))) }
 {
     let head = emitter.next_place()?;
@@ -108,7 +108,7 @@ fn emit_tested<'t, 'm, 'c, 'a>(
     body: &'a [StatementNode],
     condition: &'c ExpressionNode,
     post: Option<&'a SimpleNode>,
-) -> Result<Flow, Halt>
+) -> Result<Flow, AllocError>
     ensures { IfOk result (λ flow. Emits (table_of context.now) emitter.old emitter.new (control flow) (of_function context.now made_turns (site_of (table_of context.now) emitter.old) (Some (expression_of condition.now)) (body_of body.now) (option_map (λ (s : _). simple_of s.now) post.entry))) }
 {
     let head = emitter.next_place()?;
@@ -134,7 +134,7 @@ fn emit_turns<'t, 'm, 'c, 'a>(
     body: &'a [StatementNode],
     condition: Option<&'c ExpressionNode>,
     post: Option<&'a SimpleNode>,
-) -> Result<Flow, Halt>
+) -> Result<Flow, AllocError>
     ensures { IfOk result (λ flow. Emits (table_of context.now) emitter.old emitter.new (control flow) (of_function context.now made_turns (site_of (table_of context.now) emitter.old) (option_map (λ (e : _). expression_of e.now) condition.entry) (body_of body.now) (option_map (λ (s : _). simple_of s.now) post.entry))) }
 {
     match condition {
@@ -152,7 +152,7 @@ fn emit_clauses<'t, 'm, 'c, 'a>(
     first: Option<&'a SimpleNode>,
     condition: Option<&'c ExpressionNode>,
     post: Option<&'a SimpleNode>,
-) -> Result<Flow, Halt>
+) -> Result<Flow, AllocError>
     ensures { IfOk result (λ flow. Emits (table_of context.now) emitter.old emitter.new (control flow) (of_function context.now made (site_of (table_of context.now) emitter.old) (For (ForClauses (option_map (λ (s : _). simple_of s.now) first.entry) (option_map (λ (e : _). expression_of e.now) condition.entry) (option_map (λ (s : _). simple_of s.now) post.entry)) (body_of body.now)))) }
 {
     let mark = enter(&mut emitter.layout);
@@ -171,7 +171,7 @@ fn emit_header_clauses<'t, 'm, 'a>(
     first: &'a Option<SimpleNode>,
     condition: &'a Option<ExpressionNode>,
     post: &'a Option<SimpleNode>,
-) -> Result<Flow, Halt>
+) -> Result<Flow, AllocError>
     ensures { IfOk result (λ flow. Emits (table_of context.now) emitter.old emitter.new (control flow) (of_function context.now made (site_of (table_of context.now) emitter.old) (For (ForClauses (option_map simple_of first.now) (option_map expression_of condition.now) (option_map simple_of post.now)) (body_of body.now)))) }
 {
     emit_clauses(
@@ -192,7 +192,7 @@ fn emit_loop<'t, 'm, 'a>(
     emitter: &'m mut Emitter<'a>,
     header: &'a ForHeader,
     body: &'a [StatementNode],
-) -> Result<Flow, Halt>
+) -> Result<Flow, AllocError>
     ensures { IfOk result (λ flow. Emits (table_of context.now) emitter.old emitter.new (control flow) (of_function context.now made (site_of (table_of context.now) emitter.old) (For (for_head_of header.now) (body_of body.now)))) }
 {
     match header {
@@ -212,7 +212,7 @@ fn emit_other<'t, 'm, 'a>(
     context: &'t FunctionContext<'t, 'a>,
     emitter: &'m mut Emitter<'a>,
     otherwise: &'a ElseNode,
-) -> Result<Flow, Halt>
+) -> Result<Flow, AllocError>
     ensures { IfOk result (λ flow. Emits (table_of context.now) emitter.old emitter.new (control flow) (of_function context.now made_other (site_of (table_of context.now) emitter.old) (otherwise_of otherwise.now))) }
 {
     match otherwise {
@@ -232,7 +232,7 @@ fn emit_marked_other<'t, 'm, 'a>(
     context: &'t FunctionContext<'t, 'a>,
     emitter: &'m mut Emitter<'a>,
     otherwise: &'a ElseNode,
-) -> Result<Flow, Halt>
+) -> Result<Flow, AllocError>
     ensures { IfOk result (λ flow. Emits (table_of context.now) emitter.old emitter.new (control flow) (of_function context.now made_other (site_of (table_of context.now) emitter.old) (otherwise_of otherwise.now))) }
 {
     emitter.marks.begin(Part::Else, emitter.code.len())?;
@@ -247,7 +247,7 @@ fn emit_two_ways<'t, 'm, 'a>(
     context: &'t FunctionContext<'t, 'a>,
     emitter: &'m mut Emitter<'a>,
     branch: &'a IfNode,
-) -> Result<Flow, Halt>
+) -> Result<Flow, AllocError>
     ensures { IfOk result (λ flow. Emits (table_of context.now) emitter.old emitter.new (control flow) (of_function context.now made_two_ways (site_of (table_of context.now) emitter.old) (expression_of branch.now.condition) (body_of branch.now.body.items) (otherwise_of branch.now.otherwise))) }
 {
     let layout = &emitter.layout;
@@ -272,7 +272,7 @@ fn emit_one_way<'t, 'm, 'a>(
     context: &'t FunctionContext<'t, 'a>,
     emitter: &'m mut Emitter<'a>,
     branch: &'a IfNode,
-) -> Result<Flow, Halt>
+) -> Result<Flow, AllocError>
     ensures { IfOk result (λ flow. Emits (table_of context.now) emitter.old emitter.new (control flow) (of_function context.now made_one_way (site_of (table_of context.now) emitter.old) (expression_of branch.now.condition) (body_of branch.now.body.items))) }
 {
     let layout = &emitter.layout;
@@ -294,7 +294,7 @@ fn emit_ways<'t, 'm, 'a>(
     context: &'t FunctionContext<'t, 'a>,
     emitter: &'m mut Emitter<'a>,
     branch: &'a IfNode,
-) -> Result<Flow, Halt>
+) -> Result<Flow, AllocError>
     ensures { IfOk result (λ flow. Emits (table_of context.now) emitter.old emitter.new (control flow) (of_function context.now made_condition (site_of (table_of context.now) emitter.old) (expression_of branch.now.condition) (body_of branch.now.body.items) (otherwise_of branch.now.otherwise))) }
 {
     if has_other(&branch.otherwise) {
@@ -310,7 +310,7 @@ fn emit_branch<'t, 'm, 'a>(
     context: &'t FunctionContext<'t, 'a>,
     emitter: &'m mut Emitter<'a>,
     branch: &'a IfNode,
-) -> Result<Flow, Halt>
+) -> Result<Flow, AllocError>
     ensures { IfOk result (λ flow. Emits (table_of context.now) emitter.old emitter.new (control flow) (of_function context.now made_branch (site_of (table_of context.now) emitter.old) (branch_of branch.now))) }
 {
     let mark = enter(&mut emitter.layout);
@@ -328,7 +328,7 @@ fn emit_item<'t, 'm, 'a>(
     body: &'a [StatementNode],
     kind: ValueType<'a>,
     target: &'a RangeTarget,
-) -> Result<Flow, Halt>
+) -> Result<Flow, AllocError>
     ensures { IfOk result (λ flow. Emits (table_of context.now) emitter.old emitter.new (control flow) (of_function context.now made_item (site_of (table_of context.now) emitter.old) (kind_of (types_of (table_of context.now)) kind.entry) (target_of target.now) (body_of body.now))) }
 {
     let mark = enter(&mut emitter.layout);
@@ -348,7 +348,7 @@ fn emit_items<'t, 'm, 'a>(
     body: &'a [StatementNode],
     ranged: Ranged<'a>,
     target: &'a RangeTarget,
-) -> Result<Flow, Halt>
+) -> Result<Flow, AllocError>
     ensures { IfOk result (λ flow. (around : OneLayout) (channel : Expression) → ranged.entry.place ≡ around.scope.words → of_program context.now carried around.scope channel ≡ kind_of (types_of (table_of context.now)) ranged.entry.item → Emits (table_of context.now) emitter.old emitter.new (control flow) (of_function context.now made_items around channel (site_of (table_of context.now) emitter.old) (target_of target.now) (body_of body.now))) }
 {
     let head = emitter.next_place()?;
@@ -374,7 +374,7 @@ fn emit_range<'t, 'm, 'a>(
     body: &'a [StatementNode],
     target: &'a RangeTarget,
     channel: &'a ExpressionNode,
-) -> Result<Flow, Halt>
+) -> Result<Flow, AllocError>
     ensures { IfOk result (λ flow. Emits (table_of context.now) emitter.old emitter.new (control flow) (of_function context.now made (site_of (table_of context.now) emitter.old) (For (Range (target_of target.now) (expression_of channel.now)) (body_of body.now)))) }
 {
     let layout = &emitter.layout;
@@ -394,7 +394,7 @@ fn emit_way<'t, 'm, 'a>(
     emitter: &'m mut Emitter<'a>,
     body: &'a [StatementNode],
     comm: &'a CommNode,
-) -> Result<Flow, Halt>
+) -> Result<Flow, AllocError>
     ensures { IfOk result (λ flow. Emits (table_of context.now) emitter.old emitter.new (control flow) (of_function context.now made_way (site_of (table_of context.now) emitter.old) (comm_of comm.now) (body_of body.now))) }
 {
     let mark = enter(&mut emitter.layout);
@@ -414,7 +414,7 @@ fn emit_marked_way<'t, 'm, 'a>(
     emitter: &'m mut Emitter<'a>,
     body: &'a [StatementNode],
     comm: &'a CommNode,
-) -> Result<Flow, Halt>
+) -> Result<Flow, AllocError>
     ensures { IfOk result (λ flow. Emits (table_of context.now) emitter.old emitter.new (control flow) (of_function context.now made_way (site_of (table_of context.now) emitter.old) (comm_of comm.now) (body_of body.now))) }
 {
     emitter.marks.begin(Part::Clause, emitter.code.len())?;
@@ -430,7 +430,7 @@ fn emit_clause<'t, 'm, 'w, 'a>(
     emitter: &'m mut Emitter<'a>,
     clause: &'a ClauseNode,
     list: &'w mut WayList,
-) -> Result<(), Halt>
+) -> Result<(), AllocError>
     ensures { OnOk result ((whole left all : Clauses) (first : OneEmitter) → Reaches (globals_of context.now.program.now) (elements_of context.now.program.now) (result_of context.now) (table_of context.now) whole first emitter.old list.old (Clause (clause_of clause.now).comm (clause_of clause.now).body left) all → Reaches (globals_of context.now.program.now) (elements_of context.now.program.now) (result_of context.now) (table_of context.now) whole first emitter.new list.new left all) }
 {
     let Some(comm) = &clause.comm else {
@@ -450,7 +450,7 @@ fn emit_each_way<'t, 'm, 'a>(
     context: &'t FunctionContext<'t, 'a>,
     emitter: &'m mut Emitter<'a>,
     all: &'a [ClauseNode],
-) -> Result<WayList, Halt>
+) -> Result<WayList, AllocError>
     ensures { IfOk result (λ list. (whole : Clauses) → Reaches (globals_of context.now.program.now) (elements_of context.now.program.now) (result_of context.now) (table_of context.now) whole emitter.old emitter.new list NoClause (clauses (map clause_of all.now))) }
 {
     let mut list = WayList::new(context.program.alloc);
@@ -467,7 +467,7 @@ fn emit_default<'t, 'm, 'a>(
     context: &'t FunctionContext<'t, 'a>,
     emitter: &'m mut Emitter<'a>,
     all: &'a [ClauseNode],
-) -> Result<Option<Flow>, Halt>
+) -> Result<Option<Flow>, AllocError>
     ensures { IfOk result (λ flow. (noted : List ℕ) → Ways (table_of context.now) emitter.old emitter.new.code.items emitter.new noted (default_start noted emitter.old (option_map control flow)) (option_map control flow) (of_function context.now made_default (site_of (table_of context.now) emitter.old) (clauses (map clause_of all.now)))) }
 {
     for clause in all {
@@ -486,7 +486,7 @@ fn emit_all_ways<'t, 'm, 'a>(
     context: &'t FunctionContext<'t, 'a>,
     emitter: &'m mut Emitter<'a>,
     all: &'a [ClauseNode],
-) -> Result<WayList, Halt>
+) -> Result<WayList, AllocError>
     ensures { IfOk result (λ list. Ways (table_of context.now) emitter.old emitter.new.code.items emitter.new [] list.places.items (option_map control list.flow) (of_function context.now ways_left (clauses (map clause_of all.now)) (site_of (table_of context.now) emitter.old) (clauses (map clause_of all.now)))) }
 {
     let mut list = emit_each_way(context, emitter, all)?;
@@ -504,7 +504,7 @@ fn emit_select<'t, 'm, 'a>(
     context: &'t FunctionContext<'t, 'a>,
     emitter: &'m mut Emitter<'a>,
     all: &'a [ClauseNode],
-) -> Result<Flow, Halt>
+) -> Result<Flow, AllocError>
     ensures { IfOk result (λ flow. Emits (table_of context.now) emitter.old emitter.new (control flow) (of_function context.now made (site_of (table_of context.now) emitter.old) (Select (clauses (map clause_of all.now))))) }
 {
     let layout = &emitter.layout;
@@ -531,7 +531,7 @@ fn emit_statement<'t, 'm, 'a>(
     context: &'t FunctionContext<'t, 'a>,
     emitter: &'m mut Emitter<'a>,
     statement: &'a StatementNode,
-) -> Result<Flow, Halt>
+) -> Result<Flow, AllocError>
     ensures { IfOk result (λ flow. Emits (table_of context.now) emitter.old emitter.new (control flow) (of_function context.now made (site_of (table_of context.now) emitter.old) (statement_of statement.now))) }
 {
     match statement {
@@ -556,7 +556,7 @@ fn emit_marked<'t, 'm, 'a>(
     context: &'t FunctionContext<'t, 'a>,
     emitter: &'m mut Emitter<'a>,
     statement: &'a StatementNode,
-) -> Result<Flow, Halt>
+) -> Result<Flow, AllocError>
     ensures { IfOk result (λ flow. Emits (table_of context.now) emitter.old emitter.new (control flow) (of_function context.now made (site_of (table_of context.now) emitter.old) (statement_of statement.now))) }
 {
     emitter.marks.begin(Part::Statement, emitter.code.len())?;

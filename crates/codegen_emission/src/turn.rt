@@ -13,11 +13,11 @@ use crate::alone::emit_post;
 use crate::context::FunctionContext;
 use crate::emitter::Emitter;
 use bytecode::Instr;
-use codegen_expression::halt::Halt;
+use std::alloc::AllocError;
 use syntax::SimpleNode;
 
 /// Leads back to the head of a loop. Where its body never comes round again, nothing stays that stands behind it.
-fn come_back(comes_round: bool, behind: usize, head: u32, code: &mut Vec<Instr>) -> Result<(), Halt>
+fn come_back(comes_round: bool, behind: usize, head: u32, code: &mut Vec<Instr>) -> Result<(), AllocError>
     ensures { OnOk result (code.new.items ≡ cond comes_round (code.old.items ++ instrs.Loop head ∷ []) (take behind code.old.items)) }
 {
     if !comes_round {
@@ -29,7 +29,7 @@ fn come_back(comes_round: bool, behind: usize, head: u32, code: &mut Vec<Instr>)
 /// Leads back to the head of a loop, where its body comes round again.
 ///
 /// Errors: want of memory.
-pub fn come_round(comes_round: bool, head: u32, code: &mut Vec<Instr>) -> Result<(), Halt>
+pub fn come_round(comes_round: bool, head: u32, code: &mut Vec<Instr>) -> Result<(), AllocError>
     ensures { OnOk result (code.new.items ≡ code.old.items ++ cond comes_round (instrs.Loop head ∷ []) []) }
 {
     if comes_round {
@@ -41,14 +41,14 @@ pub fn come_round(comes_round: bool, head: u32, code: &mut Vec<Instr>) -> Result
 /// What is done behind each turn of a loop, and the way back to its head. Where its body never comes round again, there are
 /// no instructions.
 ///
-/// Errors: something is wrong with the statement; want of memory.
+/// Errors: want of memory.
 pub fn emit_round<'a>(
     context: &FunctionContext<'_, 'a>,
     emitter: &mut Emitter<'a>,
     comes_round: bool,
     head: u32,
     post: Option<&'a SimpleNode>,
-) -> Result<(), Halt>
+) -> Result<(), AllocError>
     ensures { OnOk result (Rounds (table_of context.now) comes_round head emitter.old emitter.new (of_program context.now made_post (layout_of (table_of context.now) emitter.old.layout) (site_of (table_of context.now) emitter.old) (option_map (λ (s : _). simple_of s.now) post.entry))) }
 {
     let behind = emitter.code.len();

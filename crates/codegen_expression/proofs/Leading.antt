@@ -17,10 +17,10 @@ use Rattle.codegen_base.specs.Layouts.{type_of}
 use Rattle.codegen_base.specs.Pushes.{argument_types, between, emits, emits_all, literal_types, makes, operates, pushes_zeros, settled, signed}
 use Rattle.plan.specs.Plan.{Plan, Skip, Do, Seq, IfElse, reaches_end}
 
-abbrev Reaches : Plan → Type 0
+abbrev pub Reaches : Plan → Type 0
 Reaches plan = reaches_end plan ≡ true
 
-abbrev Leads : (Plan → Plan) → Type 0
+abbrev pub Leads : (Plan → Plan) → Type 0
 Leads part = (rest : Plan) → Reaches rest → Reaches (part rest)
 
 leads_signed : (operator : UnaryOperator) → Leads (signed operator)
@@ -33,7 +33,7 @@ leads_zeros : (kinds : List WordKind) → Leads (pushes_zeros kinds)
 leads_zeros [] rest is = is
 leads_zeros (kind ∷ kinds) rest is = leads_zeros kinds rest is
 
-leads_settled : (elements : List Element) (w : Option Worth) (kind : ValueType) (emitted rest : Plan) → Reaches emitted → Reaches rest → Reaches (settled elements w kind emitted rest)
+pub leads_settled : (elements : List Element) (w : Option Worth) (kind : ValueType) (emitted rest : Plan) → Reaches emitted → Reaches rest → Reaches (settled elements w kind emitted rest)
 leads_settled elements None kind emitted rest e is = e
 leads_settled elements (Some (Typed t)) kind emitted rest e is = e
 leads_settled elements (Some (Constant v)) kind emitted rest e is = is

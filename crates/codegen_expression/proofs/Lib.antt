@@ -5,6 +5,6 @@ pub mod Operating
 pub mod Requesting
 pub mod Pushed
 pub mod Leading
-pub mod Choosing
+pub mod Selecting
 pub mod Widths
 pub mod Counting

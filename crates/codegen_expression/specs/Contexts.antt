@@ -1,8 +1,11 @@
 -- What a program's code is emitted with.
-use Rattle.std.specs.Prelude.{ℕ, List}
+use Rattle.std.specs.Prelude.{ℕ, List, Option, option_map}
 use Rattle.type_table.specs.declared.visible.Visible.{Visible}
 use Rattle.type_table.specs.Scopes.{Globals, Scope}
 use Rattle.type_table.specs.Visible.{globals_in, scope_of, types_of}
+use Rattle.typing_rules.specs.Worths.{Worth}
+use Rattle.checker_base.specs.declared.worth.Worth.{Worth as InMemory}
+use Rattle.checker_base.specs.Views.{worth_of}
 use Rattle.codegen_base.specs.declared.element.Element.{Element}
 use Rattle.codegen_expression.specs.declared.context.Context.{Context}
 
@@ -21,3 +24,7 @@ elements_of context = context.elements.now
 -- the variables that are visible somewhere in it
 abbrev pub scope_in : Context → Visible → Scope
 scope_in context visible = scope_of context.table.now visible
+
+-- what an operand is worth
+abbrev pub worth_in : Context → Option InMemory → Option Worth
+worth_in context operand = option_map (worth_of (types_in context)) operand

@@ -1,69 +1,69 @@
 //! The instructions of calls and of operations on channels ("Calls", "Receive operator" and others of the Go specification).
 
-ghost use Rattle.std.specs.Prelude.{◌≡◌, ◌++◌, ◌∷◌, [], IfOk, OnOk, Some, map, option_copied, option_map, slice_get};
+ghost use Rattle.std.specs.Prelude.{◌≡◌, ◌++◌, ◌∷◌, [], IfOk, IfSome, OnOk, map, option_map};
 ghost use Rattle.syntax.specs.Tree.{Make};
 ghost use Rattle.syntax.specs.View.{expression_of, name_of, type_of as written_of};
-ghost use Rattle.type_table.specs.Types.{IntType, element_type};
+ghost use Rattle.type_table.specs.Types.{element_type};
 ghost use Rattle.type_table.specs.Views.{kind_of};
 ghost use Rattle.type_table.specs.Visible.{globals_in, types_of};
 ghost use Rattle.checker_base.specs.Views.{IsSmall, worth_of};
 ghost use Rattle.typing_rules.specs.Calls.{parameters_of};
-ghost use Rattle.typing_rules.specs.Worths.{Typed, element_of, worth};
+ghost use Rattle.typing_rules.specs.Worths.{element_of, worth};
 ghost use Rattle.meaning.specs.Expressions.{number_of};
 ghost use Rattle.meaning.specs.Values.{known};
 ghost use Rattle.codegen_base.specs.Layouts.{carried};
 ghost use Rattle.codegen_base.specs.Pushes.{pushes_own};
 ghost use Rattle.codegen_base.specs.Statements.{pushes_arguments, pushes_received};
-ghost use Rattle.codegen_expression.specs.Emission.{IsTyped, Puts, making, receiving};
-ghost use Rattle.codegen_expression.specs.Contexts.{elements_of, globals_of, scope_in, types_in};
+ghost use Rattle.codegen_expression.specs.Emission.{Puts, making, receiving};
+ghost use Rattle.codegen_expression.specs.Contexts.{elements_of, globals_of, scope_in, types_in, worth_in};
 
 use crate::context::Context;
-use crate::emission::{emit, emit_all};
-use crate::halt::Halt;
-use crate::operand::{carried_shape, number, put};
+use crate::emission::{emit, emit_arguments};
+use crate::operand::{carried_shape, kind_in, put};
 use crate::shape::shape_of;
 use crate::value::push_own;
 use bytecode::Instr;
 use checker_base::operand::worth_made;
 use checker_base::worth::Worth;
+use std::alloc::AllocError;
 use syntax::{ArgumentsNode, ExpressionNode, Name, TypeNode};
-use type_table::entry::FunctionEntry;
 use type_table::layout::function_number;
 use type_table::scope::Visible;
 use type_table::table::TypeTable;
 use type_table::value_type::{ValueType, element_in, type_in};
 
-/// The number of the function of this name.
-pub fn callee(table: &TypeTable<'_>, name: &Name) -> Result<usize, Halt>
-    ensures { IfOk result (λ n. n ≡ number_of (globals_in table.now) (name_of name.now)) }
+/// The number of the function of this name; where there is none, 0.
+pub(crate) fn callee(table: &TypeTable<'_>, name: &Name) -> usize
+    ensures { result ≡ number_of (globals_in table.now) (name_of name.now) }
 {
-    match function_number(table, name.bytes.as_slice()) {
-        Some(number) => Ok(number),
-        None => Err(Halt::Flawed),
-    }
+    function_number(table, name.bytes.as_slice()).unwrap_or(0)
 }
 
-/// The function with this number, if there is one.
-fn function_at<'a, 't>(table: &'a TypeTable<'t>, number: usize) -> Option<&'a FunctionEntry<'t>>
-    ensures { option_copied result ≡ slice_get table.now.functions.items number }
-{
-    table.functions.get(number)
-}
-
-/// The types of the parameters of the function with this number.
-pub fn parameters_at<'a, 't>(
+/// The types of the parameters of the function with this number; where there is none, no types.
+pub(crate) fn parameters_at<'a, 't>(
     table: &'a TypeTable<'t>,
     number: usize,
-) -> Result<&'a [ValueType<'t>], Halt>
-    ensures { IfOk result (λ kinds. map (kind_of (types_of table.now)) kinds.now ≡ map known (parameters_of (globals_in table.now) number)) }
+) -> &'a [ValueType<'t>]
+    ensures { map (kind_of (types_of table.now)) result.now ≡ map known (parameters_of (globals_in table.now) number) }
 {
-    match function_at(table, number) {
-        Some(function) => Ok(function.parameters.as_slice()),
-        None => Err(Halt::Flawed),
+    if number < table.functions.len() {
+        table.functions[number].parameters.as_slice()
+    } else {
+        &[]
     }
 }
 
-/// The type of what a channel of this type carries.
+/// A type, if it is known; otherwise an int.
+pub fn known<'t>(kind: Option<ValueType<'t>>) -> ValueType<'t>
+    ensures { (types : _) → kind_of types result ≡ known (option_map (kind_of types) kind.entry) }
+{
+    match kind {
+        Some(kind) => kind,
+        None => ValueType::Int,
+    }
+}
+
+/// The type of what a channel of this type carries; of what is no channel, an int.
 fn carried_by<'t>(table: &TypeTable<'t>, kind: ValueType<'t>) -> ValueType<'t>
     ensures { kind_of (types_of table.now) result ≡ known (element_type (kind_of (types_of table.now) kind.entry)) }
 {
@@ -73,22 +73,26 @@ fn carried_by<'t>(table: &TypeTable<'t>, kind: ValueType<'t>) -> ValueType<'t>
     }
 }
 
-/// Receives from a channel, which is pushed: its item and whether it was sent are pushed. Returns what the item is.
-pub fn put_receive<'k>(
-    context: &Context<'_, 'k>,
-    channel: Worth<'k>,
-    code: &mut Vec<Instr>,
-) -> Result<Worth<'k>, Halt>
-    ensures item { IfOk result (λ w. option_map Typed (element_of (Some (worth_of (types_in context.now) channel.entry))) ≡ Some (worth_of (types_in context.now) w)) }
-    ensures small { IfOk result IsSmall }
-    ensures received { OnOk result (code.new.items ≡ code.old.items ++ receiving (elements_of context.now) (worth_of (types_in context.now) channel.entry) ∷ []) }
+/// The type of what a channel carries.
+#[tactic(auto, using(crate::proofs::Requesting::carried_in))]
+pub fn carried_in<'t>(table: &TypeTable<'t>, channel: Option<Worth<'t>>) -> ValueType<'t>
+    ensures { kind_of (types_of table.now) result ≡ known (element_of (option_map (worth_of (types_of table.now)) channel.entry)) }
 {
-    let Worth::Typed(ValueType::Channel(_, carried)) = channel else {
-        return Err(Halt::Flawed);
-    };
-    let item = element_in(context.table, carried);
+    carried_by(table, kind_in(channel))
+}
+
+/// Receives from a channel, which is pushed: its item and whether it was sent are pushed. Returns the item's type.
+pub(crate) fn put_receive<'k>(
+    context: &Context<'_, 'k>,
+    channel: Option<Worth<'k>>,
+    code: &mut Vec<Instr>,
+) -> Result<ValueType<'k>, AllocError>
+    ensures kind { IfOk result (λ kind. kind_of (types_in context.now) kind ≡ known (element_of (worth_in context.now channel.entry))) }
+    ensures received { OnOk result (code.new.items ≡ code.old.items ++ receiving (elements_of context.now) (worth_in context.now channel.entry) ∷ []) }
+{
+    let item = carried_in(context.table, channel);
     put(code, Instr::Receive(shape_of(context, item)))?;
-    Ok(Worth::Typed(item))
+    Ok(item)
 }
 
 /// Makes a channel of this type, the size of whose buffer is pushed.
@@ -97,46 +101,25 @@ pub(crate) fn put_make<'k>(
     visible: &Visible<'k>,
     kind: &'k TypeNode,
     code: &mut Vec<Instr>,
-) -> Result<Worth<'k>, Halt>
-    ensures made { IfOk result (λ w. worth (globals_of context.now) (scope_in context.now visible.now) (Make (written_of kind.now)) ≡ Some (worth_of (types_in context.now) w)) }
-    ensures small { IfOk result IsSmall }
+) -> Result<Option<Worth<'k>>, AllocError>
+    ensures worth { IfOk result (λ made. worth_in context.now made ≡ worth (globals_of context.now) (scope_in context.now visible.now) (Make (written_of kind.now))) }
+    ensures small { IfOk result (λ made. IfSome made IsSmall) }
     ensures put { OnOk result (code.new.items ≡ code.old.items ++ making (globals_of context.now) (elements_of context.now) (scope_in context.now visible.now) (written_of kind.now) ∷ []) }
 {
-    let Some(channel) = type_in(context.table, visible, kind) else {
-        return Err(Halt::Flawed);
-    };
-    let Some(made) = worth_made(context.table, visible, kind) else {
-        return Err(Halt::Flawed);
-    };
+    let channel = known(type_in(context.table, visible, kind));
     put(code, Instr::Make(carried_shape(context, channel)))?;
-    Ok(made)
-}
-
-/// Does `len` or `cap`, whose instruction this is, of a channel, which is pushed.
-pub(crate) fn put_measure<'k>(
-    channel: Worth<'k>,
-    instr: Instr,
-    code: &mut Vec<Instr>,
-) -> Result<Worth<'k>, Halt>
-    ensures made { IfOk result (λ w. (types : _) → Typed IntType ≡ worth_of types w) }
-    ensures small { IfOk result IsSmall }
-    ensures typed { OnOk result ((types : _) → IsTyped (worth_of types channel.entry)) }
-    ensures put { OnOk result (code.new.items ≡ code.old.items ++ instr ∷ []) }
-{
-    let Worth::Typed(_) = channel else {
-        return Err(Halt::Flawed);
-    };
-    put(code, instr)?;
-    Ok(Worth::Typed(ValueType::Int))
+    Ok(worth_made(context.table, visible, kind))
 }
 
 /// Pushes a channel, and returns the type of what it carries.
+///
+/// Errors: want of memory.
 pub fn push_channel<'k>(
     context: &Context<'_, 'k>,
     visible: &Visible<'k>,
     channel: &'k ExpressionNode,
     code: &mut Vec<Instr>,
-) -> Result<ValueType<'k>, Halt>
+) -> Result<ValueType<'k>, AllocError>
     ensures kind { IfOk result (λ kind. carried (globals_of context.now) (elements_of context.now) (scope_in context.now visible.now) (expression_of channel.now) ≡ kind_of (types_in context.now) kind) }
     ensures pushed { OnOk result (Puts code.old.items code.new.items (pushes_own (globals_of context.now) (elements_of context.now) (scope_in context.now visible.now) (expression_of channel.now))) }
 {
@@ -145,38 +128,34 @@ pub fn push_channel<'k>(
 }
 
 /// Receives from a channel: the item and whether it was sent are pushed. Returns the item's type.
+///
+/// Errors: want of memory.
 pub fn push_received<'k>(
     context: &Context<'_, 'k>,
     visible: &Visible<'k>,
     channel: &'k ExpressionNode,
     code: &mut Vec<Instr>,
-) -> Result<ValueType<'k>, Halt>
+) -> Result<ValueType<'k>, AllocError>
     ensures kind { IfOk result (λ kind. carried (globals_of context.now) (elements_of context.now) (scope_in context.now visible.now) (expression_of channel.now) ≡ kind_of (types_in context.now) kind) }
     ensures pushed { OnOk result (Puts code.old.items code.new.items (pushes_received (globals_of context.now) (elements_of context.now) (scope_in context.now visible.now) (expression_of channel.now))) }
 {
     let channel = emit(context, visible, channel, code)?;
-    match put_receive(context, channel, code)? {
-        Worth::Typed(kind) => Ok(kind),
-        _ => Err(Halt::Flawed),
-    }
+    put_receive(context, channel, code)
 }
 
 /// Pushes the arguments of a call of the function of this name, and returns its number.
 ///
-/// Errors: something is wrong with the call; out of memory.
+/// Errors: want of memory.
 pub fn push_arguments<'k>(
     context: &Context<'_, 'k>,
     visible: &Visible<'k>,
     name: &Name,
     arguments: &'k ArgumentsNode,
     code: &mut Vec<Instr>,
-) -> Result<u32, Halt>
+) -> Result<u32, AllocError>
     ensures number { IfOk result (λ n. n ≡ number_of (globals_of context.now) (name_of name.now)) }
     ensures pushed { OnOk result (Puts code.old.items code.new.items (pushes_arguments (globals_of context.now) (elements_of context.now) (scope_in context.now visible.now) (number_of (globals_of context.now) (name_of name.now)) (map expression_of arguments.now.values.items))) }
 {
-    let function = callee(context.table, name)?;
-    let kinds = parameters_at(context.table, function)?;
     let values = arguments.values.as_slice();
-    emit_all(context, visible, kinds, values, code)?;
-    number(function)
+    emit_arguments(context, visible, name, values, code)
 }

@@ -1,42 +1,42 @@
 //! Operands: names, fields, zeros, and constants that are used as values.
 
-ghost use Rattle.std.specs.Prelude.{◌≡◌, ◌++◌, ◌∷◌, [], ◌≤◌, IfOk, IfSome, OnOk, Some, length, map, option_map};
-ghost use Rattle.syntax.specs.View.{name_of};
+ghost use Rattle.std.specs.Prelude.{◌≡◌, ◌++◌, ◌∷◌, [], ◌<◌, ◌≤◌, ◌^◌, IfErr, IfOk, IfSome, OnOk, map, option_map};
+ghost use Rattle.type_table.specs.Scopes.{variable_named};
 ghost use Rattle.type_table.specs.Views.{field_in, kind_of};
-ghost use Rattle.type_table.specs.Visible.{globals_in, scope_of, types_of};
-ghost use Rattle.checker_base.specs.Views.{IsSmall, worth_of};
-ghost use Rattle.typing_rules.specs.Worths.{literal_struct, named_worth, selected_worth};
-ghost use Rattle.type_table.specs.Containment.{fields_of};
+ghost use Rattle.type_table.specs.Visible.{globals_in, types_of};
+ghost use Rattle.checker_base.specs.Views.{worth_of};
 ghost use Rattle.codegen_base.specs.Elements.{kinds_of};
-ghost use Rattle.codegen_base.specs.Pushes.{elements_shape, named, words_of, zero_instr};
-ghost use Rattle.codegen_expression.specs.Emission.{Emits, at_once, settling};
-ghost use Rattle.codegen_expression.specs.Contexts.{elements_of, globals_of, scope_in, types_in};
+ghost use Rattle.codegen_base.specs.Pushes.{elements_shape, kinds_in, literal_types, named, words_of, zero_instr};
+ghost use Rattle.codegen_expression.specs.Emission.{kind_in, settling};
+ghost use Rattle.codegen_expression.specs.Contexts.{elements_of, globals_of, scope_in, types_in, worth_in};
 
 use crate::context::Context;
-use crate::halt::Halt;
 use crate::operator::wrapped;
 use crate::shape::{put_kinds, shape_of};
 use bytecode::{Instr, WordKind};
 use checker_base::worth::Worth;
 use std::alloc::AllocError;
 use type_table::entry::FieldEntry;
-use type_table::layout::number_of;
-use type_table::scope::{Entry, Visible, is_truth, variable_named};
+use type_table::scope::{Visible, is_truth, variable_named};
 use type_table::table::TypeTable;
 use type_table::value_type::{ValueType, element_in};
 
-/// A number of the code, which is below 2^32.
-pub fn number(wide: usize) -> Result<u32, Halt>
-    ensures { IfOk result (λ narrow. narrow ≡ wide) }
+/// A number of the code.
+///
+/// Errors: it is 2^32 or larger, which counts as want of memory.
+pub fn number(wide: usize) -> Result<u32, AllocError>
+    ensures fits { IfOk result (λ narrow. narrow ≡ wide) }
+    ensures small { IfOk result (λ _. wide < 2 ^ 32) }
+    ensures large { IfErr result (λ _. 2 ^ 32 ≤ wide) }
 {
     match u32::try_from(wide) {
         Ok(narrow) => Ok(narrow),
-        Err(_) => Err(Halt::Memory),
+        Err(_) => Err(AllocError),
     }
 }
 
 /// Puts an instruction behind the others.
-pub fn put(code: &mut Vec<Instr>, instr: Instr) -> Result<(), Halt>
+pub fn put(code: &mut Vec<Instr>, instr: Instr) -> Result<(), AllocError>
     ensures { OnOk result (code.new.items ≡ code.old.items ++ instr ∷ []) }
 {
     code.push(instr)?;
@@ -88,12 +88,15 @@ pub fn push_zeros<'t>(
 }
 
 /// The instruction that pushes the value of a name.
+///
+/// Errors: its variable lies at a place of 2^32 or more.
 pub(crate) fn named<'k>(
     context: &Context<'_, 'k>,
     visible: &Visible<'k>,
     name: &[u8],
-) -> Result<Instr, Halt>
-    ensures { IfOk result (λ i. i ≡ named (globals_of context.now) (elements_of context.now) (scope_in context.now visible.now) name.now) }
+) -> Result<Instr, AllocError>
+    ensures instr { IfOk result (λ i. i ≡ named (globals_of context.now) (elements_of context.now) (scope_in context.now visible.now) name.now) }
+    ensures far { IfErr result (λ _. IfSome (variable_named (scope_in context.now visible.now) name.now) (λ v. 2 ^ 32 ≤ v.place)) }
 {
     if is_truth(name) {
         return Ok(Instr::Bool(name == b"true".as_slice()));
@@ -103,66 +106,57 @@ pub(crate) fn named<'k>(
             let place = number(entry.place)?;
             Ok(Instr::Load(place, words_of(context, entry.kind)))
         }
-        None => Err(Halt::Flawed),
+        None => Ok(Instr::Load(0, 0)),
     }
 }
 
-/// The number of the struct that a literal's name stands for; where a variable hides it, none.
-pub(crate) fn literal_struct<'k>(
-    table: &TypeTable<'k>,
-    visible: &Visible<'k>,
-    name: &[u8],
-) -> Option<usize>
-    ensures { result ≡ literal_struct (globals_in table.now) (scope_of table.now visible.now) name.now }
+/// The fields of a value of this type.
+pub(crate) fn fields_of<'a, 't>(
+    table: &'a TypeTable<'t>,
+    kind: ValueType<'t>,
+) -> &'a [FieldEntry<'t>]
+    ensures { (elements : _) (scope : _) → kinds_in (map (field_in (types_of table.now)) result.now) ≡ literal_types (globals_in table.now) elements scope (kind_of (types_of table.now) kind.entry) }
 {
-    match variable_named(table, visible, name) {
-        Some(_) => None,
-        None => number_of(table, name),
-    }
-}
-
-/// The fields of the struct with this number.
-pub(crate) fn fields_at<'a, 't>(table: &'a TypeTable<'t>, number: usize) -> &'a [FieldEntry<'t>]
-    ensures { map (field_in (types_of table.now)) result.now ≡ fields_of (globals_in table.now).structs number }
-{
-    if number < table.structs.len() {
-        table.structs[number].fields.as_slice()
-    } else {
-        &[]
-    }
-}
-
-/// Pushes a constant that stands to the left of an operator.
-pub(crate) fn push_constant(worth: Worth<'_>, code: &mut Vec<Instr>) -> Result<(), AllocError>
-    ensures { (types : _) → OnOk result (code.new.items ≡ code.old.items ++ at_once (worth_of types worth.entry)) }
-{
-    match worth {
-        Worth::Constant(value) => {
-            code.push(Instr::Int(wrapped(value)))?;
-            Ok(())
+    match kind {
+        ValueType::Struct(number) if number < table.structs.len() => {
+            table.structs[number].fields.as_slice()
         }
-        _ => Ok(()),
+        _ => &[],
     }
 }
 
-/// Pushes a constant, or `nil`, that is used as a value of this type.
+/// The type of an operand; of what has none, an int.
+pub fn kind_in<'t>(operand: Option<Worth<'t>>) -> ValueType<'t>
+    ensures { (types : _) → kind_of types result ≡ kind_in (option_map (worth_of types) operand.entry) }
+{
+    match operand {
+        Some(Worth::Typed(kind)) => kind,
+        _ => ValueType::Int,
+    }
+}
+
+/// An operand is used as a value of this type: where it is a constant, or `nil`, that is pushed in place of its own
+/// instructions, which begin at `first`.
+///
+/// Errors: want of memory.
 pub fn settle<'k>(
     context: &Context<'_, 'k>,
-    worth: Worth<'k>,
+    operand: Option<Worth<'k>>,
     kind: ValueType<'k>,
+    first: usize,
     code: &mut Vec<Instr>,
 ) -> Result<(), AllocError>
-    ensures { OnOk result (code.new.items ≡ code.old.items ++ settling (elements_of context.now) (worth_of (types_in context.now) worth.entry) (kind_of (types_in context.now) kind.entry)) }
+    ensures { OnOk result (code.new.items ≡ settling (elements_of context.now) (worth_in context.now operand.entry) (kind_of (types_in context.now) kind.entry) first code.old.items) }
 {
-    match worth {
-        Worth::Constant(value) => {
-            code.push(Instr::Int(wrapped(value)))?;
-            Ok(())
+    match operand {
+        Some(Worth::Constant(value)) => {
+            code.truncate(first);
+            put(code, Instr::Int(wrapped(value)))
         }
-        Worth::Nil => {
-            code.push(Instr::Nil(carried_shape(context, kind)))?;
-            Ok(())
+        Some(Worth::Nil) => {
+            code.truncate(first);
+            put(code, Instr::Nil(carried_shape(context, kind)))
         }
-        Worth::Typed(_) => Ok(()),
+        Some(Worth::Typed(_)) | None => Ok(()),
     }
 }

@@ -1,7 +1,7 @@
 //! The operators of the machine, and what is known of constants.
 
 ghost use Rattle.std.specs.Int.{w64, int_wrap};
-ghost use Rattle.std.specs.Prelude.{◌≡◌, ℕ, List, IfSome, option_map};
+ghost use Rattle.std.specs.Prelude.{◌≡◌, ℕ, List, option_map};
 ghost use Rattle.type_table.specs.Views.{kind_of};
 ghost use Rattle.codegen_base.specs.Pushes.{compared, operator_of};
 ghost use Rattle.codegen_expression.specs.Emission.{signing};
@@ -71,18 +71,18 @@ pub(crate) fn sign_of(operator: UnaryOperator) -> Option<Op>
     }
 }
 
-/// What comes of the comparison of two constants; of another operator nothing.
-pub(crate) fn compared(operator: BinaryOperator, a: i128, b: i128) -> Option<bool>
-    ensures { IfSome result (λ truth. compared operator a b ≡ Instr.Bool truth) }
+/// What comes of the comparison of two constants; of another operator `false`.
+pub(crate) fn compared(operator: BinaryOperator, a: i128, b: i128) -> bool
+    ensures { compared operator a b ≡ Instr.Bool result }
 {
     match operator {
-        BinaryOperator::Equal => Some(a == b),
-        BinaryOperator::NotEqual => Some(a != b),
-        BinaryOperator::Less => Some(a < b),
-        BinaryOperator::LessEqual => Some(a <= b),
-        BinaryOperator::Greater => Some(a > b),
-        BinaryOperator::GreaterEqual => Some(a >= b),
-        _ => None,
+        BinaryOperator::Equal => a == b,
+        BinaryOperator::NotEqual => a != b,
+        BinaryOperator::Less => a < b,
+        BinaryOperator::LessEqual => a <= b,
+        BinaryOperator::Greater => a > b,
+        BinaryOperator::GreaterEqual => a >= b,
+        _ => false,
     }
 }
 

@@ -4,8 +4,7 @@ ghost use Rattle.std.specs.Prelude.{◌≡◌, ◌||◌, IfOk, OnOk};
 ghost use Rattle.codegen_flow.specs.Controls.{control, either, joined, jumping, leading, may_end, never, through};
 
 use crate::waits::Wait;
-use codegen_expression::halt::Halt;
-use std::alloc::Global;
+use std::alloc::{AllocError, Global};
 
 /// Where control goes from what was emitted: the jumps that wait, oldest first, and what can be reached.
 #[derive(Drop)]
@@ -20,7 +19,7 @@ impl Flow {
     /// Only to where a break, or a continue, leads.
     ///
     /// Errors: want of memory.
-    pub fn from_jump(alloc: Global, leaves: bool, place: usize) -> Result<Flow, Halt>
+    pub fn from_jump(alloc: Global, leaves: bool, place: usize) -> Result<Flow, AllocError>
         ensures { IfOk result (λ flow. control flow ≡ jumping place leaves) }
     {
         let mut waits = Vec::new(alloc);
@@ -80,7 +79,7 @@ impl Flow {
 /// What comes behind is emitted too.
 ///
 /// Errors: want of memory.
-pub fn join(flow: &mut Flow, mut behind: Flow) -> Result<(), Halt>
+pub fn join(flow: &mut Flow, mut behind: Flow) -> Result<(), AllocError>
     ensures { OnOk result (control flow.new ≡ joined (control flow.old) (control behind)) }
 {
     flow.waits.append(&mut behind.waits)?;
@@ -93,7 +92,7 @@ pub fn join(flow: &mut Flow, mut behind: Flow) -> Result<(), Halt>
 /// There is another way beside it.
 ///
 /// Errors: want of memory.
-pub fn join_way(flow: &mut Flow, mut other: Flow) -> Result<(), Halt>
+pub fn join_way(flow: &mut Flow, mut other: Flow) -> Result<(), AllocError>
     ensures { OnOk result (control flow.new ≡ either (control flow.old) (control other)) }
 {
     flow.waits.append(&mut other.waits)?;

@@ -11,9 +11,8 @@ ghost use Rattle.std.specs.Option.{is_some};
 use crate::flow::{Flow, join_way};
 use crate::waits::{Wait, aim};
 use bytecode::{Instr, SelectTable};
-use codegen_expression::halt::Halt;
 use codegen_expression::operand::number;
-use std::alloc::Global;
+use std::alloc::{AllocError, Global};
 
 /// A way of a select that leads on, or doesn't, and where the jump over the ways behind it stands.
 #[derive(Clone, Copy)]
@@ -33,7 +32,7 @@ pub struct WayList {
 /// Holds the place of a jump over the ways behind one that leads on.
 ///
 /// Errors: want of memory.
-pub fn hold(leads: bool, code: &mut Vec<Instr>) -> Result<Held, Halt>
+pub fn hold(leads: bool, code: &mut Vec<Instr>) -> Result<Held, AllocError>
     ensures place { IfOk result (λ held. held.place ≡ length code.old.items) }
     ensures leads { IfOk result (λ held. held.leads ≡ leads) }
     ensures held { OnOk result (code.new.items ≡ code.old.items ++ cond leads (instrs.Jump 0 ∷ []) []) }
@@ -47,7 +46,7 @@ pub fn hold(leads: bool, code: &mut Vec<Instr>) -> Result<Held, Halt>
 }
 
 /// The ways behind one have ended: the jump over them gets its target. Where there are none, it is taken back.
-fn close_one(held: Held, are_there: bool, code: &mut Vec<Instr>) -> Result<(), Halt>
+fn close_one(held: Held, are_there: bool, code: &mut Vec<Instr>) -> Result<(), AllocError>
     ensures { OnOk result (code.new.items ≡ closed_one held are_there code.old.items) }
 {
     if !are_there {
@@ -66,7 +65,7 @@ fn close_one(held: Held, are_there: bool, code: &mut Vec<Instr>) -> Result<(), H
 ///
 /// Errors: a number of the code would pass 2^32.
 #[tactic(auto, using(crate::proofs::Closing::closed_last))]
-pub fn close(all: &[Held], are_there: bool, code: &mut Vec<Instr>) -> Result<(), Halt>
+pub fn close(all: &[Held], are_there: bool, code: &mut Vec<Instr>) -> Result<(), AllocError>
     ensures { OnOk result (code.new.items ≡ closed all.now are_there code.old.items) }
 {
     let mut left = all;
@@ -87,7 +86,7 @@ pub fn hold_select(
     at: usize,
     code: &mut Vec<Instr>,
     tables: &mut Vec<SelectTable>,
-) -> Result<(), Halt>
+) -> Result<(), AllocError>
     ensures code { OnOk result (code.new.items ≡ code.old.items ++ instrs.Select at ∷ []) }
     ensures tables { OnOk result (tables.new.items ≡ tables.old.items ++ no_table ∷ []) }
 {
@@ -127,7 +126,7 @@ fn settle(waits: &[Wait], stop: u32, code: &mut Vec<Instr>)
 }
 
 /// A continue still waits.
-fn keep_waiting(wait: Wait, left: &mut Vec<Wait>) -> Result<(), Halt>
+fn keep_waiting(wait: Wait, left: &mut Vec<Wait>) -> Result<(), AllocError>
     ensures { OnOk result (left.new.items ≡ left.old.items ++ cond wait.leaves [] (wait ∷ [])) }
 {
     if !wait.leaves {
@@ -138,7 +137,7 @@ fn keep_waiting(wait: Wait, left: &mut Vec<Wait>) -> Result<(), Halt>
 
 /// The continues.
 #[tactic(auto, using(crate::proofs::Settling::continues_more))]
-fn left_waiting(alloc: Global, waits: &[Wait]) -> Result<Vec<Wait>, Halt>
+fn left_waiting(alloc: Global, waits: &[Wait]) -> Result<Vec<Wait>, AllocError>
     ensures { IfOk result (λ left. left.items ≡ continues waits.now) }
 {
     let mut left = Vec::new(alloc);
@@ -151,7 +150,7 @@ fn left_waiting(alloc: Global, waits: &[Wait]) -> Result<Vec<Wait>, Halt>
 /// A select has ended: the breaks of its ways lead behind it.
 ///
 /// Errors: want of memory.
-pub fn leave_select(alloc: Global, ways: &Flow, code: &mut Vec<Instr>) -> Result<Flow, Halt>
+pub fn leave_select(alloc: Global, ways: &Flow, code: &mut Vec<Instr>) -> Result<Flow, AllocError>
     ensures flow { IfOk result (λ flow. control flow ≡ behind_select (control ways.now)) }
     ensures settled { OnOk result (code.new.items ≡ settled ways.now.waits.items (length code.old.items) code.old.items) }
 {
@@ -192,7 +191,7 @@ impl WayList {
 }
 
 /// Control goes there from one more way.
-fn with_way(before: Option<Flow>, flow: Flow) -> Result<Flow, Halt>
+fn with_way(before: Option<Flow>, flow: Flow) -> Result<Flow, AllocError>
     ensures { IfOk result (λ joined. Some (control joined) ≡ together (option_map control before) (Some (control flow))) }
 {
     match before {
@@ -207,7 +206,7 @@ fn with_way(before: Option<Flow>, flow: Flow) -> Result<Flow, Halt>
 /// One more way, which begins at a place.
 ///
 /// Errors: want of memory.
-pub fn add_way(list: &mut WayList, place: u32, held: Held, flow: Flow) -> Result<(), Halt>
+pub fn add_way(list: &mut WayList, place: u32, held: Held, flow: Flow) -> Result<(), AllocError>
     ensures flow { OnOk result (option_map control list.new.flow ≡ together (option_map control list.old.flow) (Some (control flow))) }
     ensures places { OnOk result (list.new.places.items ≡ list.old.places.items ++ place ∷ []) }
     ensures held { OnOk result (list.new.held.items ≡ list.old.held.items ++ held ∷ []) }
@@ -222,7 +221,7 @@ pub fn add_way(list: &mut WayList, place: u32, held: Held, flow: Flow) -> Result
 /// All ways have ended, that of a default last, which begins at a place.
 ///
 /// Errors: want of memory.
-pub fn end_ways(list: &mut WayList, place: u32, default: Option<Flow>) -> Result<(), Halt>
+pub fn end_ways(list: &mut WayList, place: u32, default: Option<Flow>) -> Result<(), AllocError>
     ensures flow { OnOk result (option_map control list.new.flow ≡ together (option_map control list.old.flow) (option_map control default)) }
     ensures places { OnOk result (list.new.places.items ≡ list.old.places.items ++ cond (is_some default) (place ∷ []) []) }
 {

@@ -7,8 +7,8 @@ ghost use Rattle.bytecode.specs.declared.instr.Instr.TheVariants as instrs;
 
 use crate::waits::aim;
 use bytecode::Instr;
-use codegen_expression::halt::Halt;
 use codegen_expression::operand::number;
+use std::alloc::AllocError;
 use syntax::ElseNode;
 
 /// Whether something stands behind `else`.
@@ -22,7 +22,7 @@ pub fn has_other(otherwise: &ElseNode) -> bool
 }
 
 /// Holds the place of a jump over the other way, where the first one leads on.
-fn hold_jump(leads: bool, code: &mut Vec<Instr>) -> Result<(), Halt>
+fn hold_jump(leads: bool, code: &mut Vec<Instr>) -> Result<(), AllocError>
     ensures { OnOk result (code.new.items ≡ code.old.items ++ cond leads (instrs.Jump 0 ∷ []) []) }
 {
     if leads {
@@ -34,7 +34,7 @@ fn hold_jump(leads: bool, code: &mut Vec<Instr>) -> Result<(), Halt>
 /// Leads the test at a place to what comes next.
 ///
 /// Errors: a number of the code would pass 2^32.
-pub fn end_test(test: usize, code: &mut Vec<Instr>) -> Result<(), Halt>
+pub fn end_test(test: usize, code: &mut Vec<Instr>) -> Result<(), AllocError>
     ensures { OnOk result (code.new.items ≡ slice_set code.old.items test (instrs.Unless (length code.old.items))) }
 {
     let next = number(code.len())?;
@@ -45,7 +45,7 @@ pub fn end_test(test: usize, code: &mut Vec<Instr>) -> Result<(), Halt>
 /// The other way begins, to which the test at a place leads; answers where the first one's jump over it stands, if it leads on.
 ///
 /// Errors: want of memory.
-pub fn begin_other(test: usize, leads: bool, code: &mut Vec<Instr>) -> Result<usize, Halt>
+pub fn begin_other(test: usize, leads: bool, code: &mut Vec<Instr>) -> Result<usize, AllocError>
     ensures over { IfOk result (λ over. over ≡ length code.old.items) }
     ensures begun { OnOk result (code.new.items ≡ slice_set (code.old.items ++ cond leads (instrs.Jump 0 ∷ []) []) test (instrs.Unless (length code.new.items))) }
 {
@@ -58,7 +58,7 @@ pub fn begin_other(test: usize, leads: bool, code: &mut Vec<Instr>) -> Result<us
 /// The other way has ended: the jump over it gets its target.
 ///
 /// Errors: a number of the code would pass 2^32.
-pub fn end_other(over: usize, leads: bool, code: &mut Vec<Instr>) -> Result<(), Halt>
+pub fn end_other(over: usize, leads: bool, code: &mut Vec<Instr>) -> Result<(), AllocError>
     ensures { OnOk result (code.new.items ≡ cond leads (slice_set code.old.items over (instrs.Jump (length code.old.items))) code.old.items) }
 {
     if leads {

@@ -20,13 +20,13 @@ ghost use Rattle.codegen_header.specs.Received.{unwanted};
 use crate::carried::carried;
 use bytecode::Instr;
 use codegen_expression::context::Context;
-use codegen_expression::halt::Halt;
 use codegen_expression::operand::{put, words_of};
 use codegen_simple::assignment::assign;
 use codegen_simple::define::name_spot;
 use codegen_simple::layout::{Layout, declare_new};
 use codegen_simple::place::place_spot;
 use codegen_simple::spot::Spot;
+use std::alloc::AllocError;
 use syntax::{CommNode, ExpressionNode, Name, PlaceNode};
 use type_table::value_type::ValueType;
 
@@ -37,7 +37,7 @@ fn define_received<'a>(
     kind: ValueType<'a>,
     item: &'a Name,
     sent: &'a Option<Name>,
-) -> Result<Vec<Spot>, Halt>
+) -> Result<Vec<Spot>, AllocError>
     ensures spots { IfOk result (λ spots. (yields : Yield) → map spot_in spots.items ≡ name_spots (globals_of context.now) (elements_of context.now) (layout_in context.now layout.old) (one_or_two (globals_of context.now) (elements_of context.now) yields (name_of item.now) (option_map name_of sent.now)) (kind_of (types_in context.now) kind.entry ∷ (BoolType ∷ []))) }
     ensures after { (yields : Yield) → OnOk result (layout_in context.now layout.new ≡ declaring_all (globals_of context.now) (elements_of context.now) (one_or_two (globals_of context.now) (elements_of context.now) yields (name_of item.now) (option_map name_of sent.now)) (kind_of (types_in context.now) kind.entry ∷ (BoolType ∷ [])) (layout_in context.now layout.old)) }
     ensures kept { OnOk result (Keeps layout.old.visible layout.new.visible) }
@@ -54,7 +54,7 @@ fn define_received<'a>(
 }
 
 /// Drops whether an item was sent, unless it is wanted.
-fn drop_sent(wanted: bool, code: &mut Vec<Instr>) -> Result<(), Halt>
+fn drop_sent(wanted: bool, code: &mut Vec<Instr>) -> Result<(), AllocError>
     ensures { OnOk result (code.new.items ≡ code.old.items ++ unwanted wanted) }
 {
     if !wanted {
@@ -71,12 +71,12 @@ fn emit_define<'a>(
     item: &'a Name,
     sent: &'a Option<Name>,
     code: &mut Vec<Instr>,
-) -> Result<(), Halt>
+) -> Result<(), AllocError>
     ensures emitted { (yields : Yield) → OnOk result (Appends code.old.items code.new.items (comm_plan (globals_of context.now) (elements_of context.now) yields (layout_in context.now layout.old) (CommDefine (name_of item.now) (option_map name_of sent.now) (expression_of channel.now)))) }
     ensures after { (yields : Yield) → OnOk result (layout_in context.now layout.new ≡ behind_comm (globals_of context.now) (elements_of context.now) yields (CommDefine (name_of item.now) (option_map name_of sent.now) (expression_of channel.now)) (layout_in context.now layout.old)) }
     ensures kept { OnOk result (Keeps layout.old.visible layout.new.visible) }
 {
-    let kind = carried(context.table, &layout.visible, channel)?;
+    let kind = carried(context.table, &layout.visible, channel);
     drop_sent(sent.is_some(), code)?;
     let spots = define_received(context, layout, kind, item, sent)?;
     assign(context.alloc, spots.as_slice(), code)
@@ -89,7 +89,7 @@ fn received_spots<'a>(
     kind: ValueType<'a>,
     item: &PlaceNode,
     sent: &Option<PlaceNode>,
-) -> Result<Vec<Spot>, Halt>
+) -> Result<Vec<Spot>, AllocError>
     ensures { IfOk result (λ spots. (yields : Yield) → map spot_in spots.items ≡ place_spots (globals_of context.now) (elements_of context.now) (scope_in context.now layout.now.visible) (one_or_two (globals_of context.now) (elements_of context.now) yields (place_of item.now) (option_map place_of sent.now)) (kind_of (types_in context.now) kind.entry ∷ (BoolType ∷ []))) }
 {
     let visible = &layout.visible;
@@ -110,10 +110,10 @@ fn emit_assign<'a>(
     item: &PlaceNode,
     sent: &Option<PlaceNode>,
     code: &mut Vec<Instr>,
-) -> Result<(), Halt>
+) -> Result<(), AllocError>
     ensures { (yields : Yield) → OnOk result (Appends code.old.items code.new.items (comm_plan (globals_of context.now) (elements_of context.now) yields (layout_in context.now layout.now) (CommAssign (place_of item.now) (option_map place_of sent.now) (expression_of channel.now)))) }
 {
-    let kind = carried(context.table, &layout.visible, channel)?;
+    let kind = carried(context.table, &layout.visible, channel);
     drop_sent(sent.is_some(), code)?;
     let spots = received_spots(context, layout, kind, item, sent)?;
     assign(context.alloc, spots.as_slice(), code)
@@ -125,25 +125,25 @@ fn emit_dropped<'a>(
     layout: &Layout<'a>,
     channel: &'a ExpressionNode,
     code: &mut Vec<Instr>,
-) -> Result<(), Halt>
+) -> Result<(), AllocError>
     ensures { (yields : Yield) → OnOk result (Appends code.old.items code.new.items (comm_plan (globals_of context.now) (elements_of context.now) yields (layout_in context.now layout.now) (CommReceive (expression_of channel.now)))) }
 {
-    let kind = carried(context.table, &layout.visible, channel)?;
+    let kind = carried(context.table, &layout.visible, channel);
     let Some(count) = words_of(context, kind).checked_add(1) else {
-        return Err(Halt::Memory);
+        return Err(AllocError);
     };
     put(code, Instr::Discard(count))
 }
 
 /// What was received goes where a clause wants it; names are declared for it.
 ///
-/// Errors: something is wrong with the clause; want of memory.
+/// Errors: want of memory.
 pub fn take_comm<'a>(
     context: &Context<'_, 'a>,
     layout: &mut Layout<'a>,
     comm: &'a CommNode,
     code: &mut Vec<Instr>,
-) -> Result<(), Halt>
+) -> Result<(), AllocError>
     ensures emitted { (yields : Yield) → OnOk result (Appends code.old.items code.new.items (comm_plan (globals_of context.now) (elements_of context.now) yields (layout_in context.now layout.old) (comm_of comm.now))) }
     ensures after { (yields : Yield) → OnOk result (layout_in context.now layout.new ≡ behind_comm (globals_of context.now) (elements_of context.now) yields (comm_of comm.now) (layout_in context.now layout.old)) }
     ensures kept { OnOk result (Keeps layout.old.visible layout.new.visible) }

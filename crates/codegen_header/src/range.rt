@@ -22,7 +22,6 @@ use crate::blank::Blank;
 use crate::carried::carried;
 use bytecode::Instr;
 use codegen_expression::context::Context;
-use codegen_expression::halt::Halt;
 use codegen_expression::operand::{number, put, words_of};
 use codegen_expression::shape::shape_of;
 use codegen_expression::value::push_own;
@@ -30,6 +29,7 @@ use codegen_simple::define::name_spot;
 use codegen_simple::layout::{Layout, declare, declare_new};
 use codegen_simple::place::place_spot;
 use codegen_simple::spot::{Spot, drop_words, store};
+use std::alloc::AllocError;
 use syntax::{ExpressionNode, Name, PlaceNode, RangeTarget};
 use type_table::value_type::ValueType;
 
@@ -43,20 +43,20 @@ pub struct Ranged<'a> {
 
 /// A channel goes to the next local.
 ///
-/// Errors: something is wrong with the channel; want of memory.
+/// Errors: want of memory.
 #[tactic(auto, using(crate::proofs::Ranging::appends_keeps))]
 pub fn emit_kept<'a>(
     context: &Context<'_, 'a>,
     layout: &Layout<'a>,
     channel: &'a ExpressionNode,
     code: &mut Vec<Instr>,
-) -> Result<Ranged<'a>, Halt>
+) -> Result<Ranged<'a>, AllocError>
     ensures emitted { (yields : Yield) → OnOk result (Appends code.old.items code.new.items (keeps (globals_of context.now) (elements_of context.now) yields (layout_in context.now layout.now) (expression_of channel.now))) }
     ensures channel { IfOk result (λ ranged. type_of (globals_of context.now) (elements_of context.now) (scope_in context.now layout.now.visible) (expression_of channel.now) ≡ kind_of (types_in context.now) ranged.channel) }
     ensures item { IfOk result (λ ranged. carried (globals_of context.now) (elements_of context.now) (scope_in context.now layout.now.visible) (expression_of channel.now) ≡ kind_of (types_in context.now) ranged.item) }
     ensures place { IfOk result (λ ranged. ranged.place ≡ layout.now.visible.words) }
 {
-    let item = carried(context.table, &layout.visible, channel)?;
+    let item = carried(context.table, &layout.visible, channel);
     let place = number(layout.visible.words)?;
     let channel = push_own(context, &layout.visible, channel, code)?;
     code.push(Instr::Store(place, 1))?;
@@ -75,7 +75,7 @@ pub fn declare_kept<'a>(
     hidden: &'a Blank,
     layout: &mut Layout<'a>,
     kind: ValueType<'a>,
-) -> Result<(), Halt>
+) -> Result<(), AllocError>
     ensures after { OnOk result (layout_in context.now layout.new ≡ declaring (globals_of context.now) (elements_of context.now) (kind_of (types_in context.now) kind.entry) blank (layout_in context.now layout.old)) }
     ensures kept { OnOk result (Keeps layout.old.visible layout.new.visible) }
 {
@@ -90,7 +90,7 @@ pub fn emit_next<'k>(
     context: &Context<'_, 'k>,
     ranged: Ranged<'k>,
     code: &mut Vec<Instr>,
-) -> Result<(), Halt>
+) -> Result<(), AllocError>
     ensures { (yields : Yield) (layout : OneLayout) (channel : Expression) → ranged.entry.place ≡ layout.scope.words → carried (globals_of context.now) (elements_of context.now) layout.scope channel ≡ kind_of (types_in context.now) ranged.entry.item → OnOk result (Appends code.old.items code.new.items (receives (globals_of context.now) (elements_of context.now) yields layout channel)) }
 {
     code.push(Instr::Load(ranged.place, 1))?;
@@ -104,7 +104,7 @@ pub fn emit_unused<'k>(
     context: &Context<'_, 'k>,
     kind: ValueType<'k>,
     code: &mut Vec<Instr>,
-) -> Result<(), Halt>
+) -> Result<(), AllocError>
     ensures { (scope : Scope) → OnOk result (Appends code.old.items code.new.items (drops (width (globals_of context.now) (elements_of context.now) scope (kind_of (types_in context.now) kind.entry)) Skip)) }
 {
     drop_words(words_of(context, kind), code)
@@ -112,7 +112,7 @@ pub fn emit_unused<'k>(
 
 /// A value goes to its spot, and the clock ticks.
 #[tactic(auto, using(crate::proofs::Ranging::appends_stored))]
-fn emit_stored(spot: Spot, code: &mut Vec<Instr>) -> Result<(), Halt>
+fn emit_stored(spot: Spot, code: &mut Vec<Instr>) -> Result<(), AllocError>
     ensures { OnOk result (Appends code.old.items code.new.items (stores (spot_in spot) (Do instrs.Tick Skip))) }
 {
     store(spot, code)?;
@@ -127,7 +127,7 @@ fn take_name<'a>(
     kind: ValueType<'a>,
     name: &'a Name,
     code: &mut Vec<Instr>,
-) -> Result<(), Halt>
+) -> Result<(), AllocError>
     ensures emitted { (yields : Yield) → OnOk result (Appends code.old.items code.new.items (takes (globals_of context.now) (elements_of context.now) yields (layout_in context.now layout.old) (kind_of (types_in context.now) kind.entry) (DefineTarget (name_of name.now)))) }
     ensures after { OnOk result (layout_in context.now layout.new ≡ declaring_new (globals_of context.now) (elements_of context.now) (kind_of (types_in context.now) kind.entry) (name_of name.now) (layout_in context.now layout.old)) }
     ensures kept { OnOk result (Keeps layout.old.visible layout.new.visible) }
@@ -146,7 +146,7 @@ fn take_place<'a>(
     kind: ValueType<'a>,
     place: &PlaceNode,
     code: &mut Vec<Instr>,
-) -> Result<(), Halt>
+) -> Result<(), AllocError>
     ensures { (yields : Yield) → OnOk result (Appends code.old.items code.new.items (takes (globals_of context.now) (elements_of context.now) yields (layout_in context.now layout.now) (kind_of (types_in context.now) kind.entry) (AssignTarget (place_of place.now)))) }
 {
     let spot = place_spot(context, &layout.visible, place, kind)?;
@@ -156,14 +156,14 @@ fn take_place<'a>(
 
 /// An item of this type goes where it is wanted; a name is declared for it.
 ///
-/// Errors: something is wrong with the place; want of memory.
+/// Errors: want of memory.
 pub fn take_item<'a>(
     context: &Context<'_, 'a>,
     layout: &mut Layout<'a>,
     kind: ValueType<'a>,
     target: &'a RangeTarget,
     code: &mut Vec<Instr>,
-) -> Result<(), Halt>
+) -> Result<(), AllocError>
     ensures emitted { (yields : Yield) → OnOk result (Appends code.old.items code.new.items (takes (globals_of context.now) (elements_of context.now) yields (layout_in context.now layout.old) (kind_of (types_in context.now) kind.entry) (target_of target.now))) }
     ensures after { OnOk result (layout_in context.now layout.new ≡ behind_target (globals_of context.now) (elements_of context.now) (kind_of (types_in context.now) kind.entry) (target_of target.now) (layout_in context.now layout.old)) }
     ensures kept { OnOk result (Keeps layout.old.visible layout.new.visible) }

@@ -12,10 +12,10 @@ ghost use Rattle.codegen_header.specs.Returned.{pushes_returned};
 
 use bytecode::Instr;
 use codegen_expression::context::Context;
-use codegen_expression::halt::Halt;
+use codegen_expression::emission::push;
 use codegen_expression::operand::put;
-use codegen_expression::value::push;
 use codegen_simple::layout::Layout;
+use std::alloc::AllocError;
 use syntax::ReturnNode;
 use type_table::scope::Visible;
 use type_table::value_type::ValueType;
@@ -37,7 +37,7 @@ fn push_returned<'k>(
     kind: Option<ValueType<'k>>,
     returned: &'k ReturnNode,
     code: &mut Vec<Instr>,
-) -> Result<(), Halt>
+) -> Result<(), AllocError>
     ensures { OnOk result (Puts code.old.items code.new.items (pushes_returned (globals_of context.now) (elements_of context.now) (yield_of (types_in context.now) kind.entry) (scope_in context.now visible.now) (returned_of returned.now))) }
 {
     match returned {
@@ -51,14 +51,14 @@ fn push_returned<'k>(
 
 /// A return from a function that has a result of this type, or none.
 ///
-/// Errors: something is wrong with what is returned; want of memory.
+/// Errors: want of memory.
 pub fn emit_return<'k>(
     context: &Context<'_, 'k>,
     layout: &Layout<'k>,
     kind: Option<ValueType<'k>>,
     returned: &'k ReturnNode,
     code: &mut Vec<Instr>,
-) -> Result<(), Halt>
+) -> Result<(), AllocError>
     ensures { OnOk result (Appends code.old.items code.new.items (return_plan (globals_of context.now) (elements_of context.now) (yield_of (types_in context.now) kind.entry) (layout_in context.now layout.now) (returned_of returned.now))) }
 {
     let visible = &layout.visible;

@@ -12,10 +12,11 @@ use crate::carried::carried;
 use bytecode::{Clause, Instr, SelectTable};
 use codegen_expression::channel::push_channel;
 use codegen_expression::context::Context;
-use codegen_expression::halt::Halt;
+use codegen_expression::emission::push;
 use codegen_expression::shape::shape_of;
-use codegen_expression::value::{push, push_own};
+use codegen_expression::value::push_own;
 use codegen_simple::layout::Layout;
+use std::alloc::AllocError;
 use syntax::{ClauseNode, CommNode};
 
 /// Pushes the channel of a clause, and what is sent on it.
@@ -24,7 +25,7 @@ fn push_comm<'k>(
     layout: &Layout<'k>,
     comm: &'k CommNode,
     code: &mut Vec<Instr>,
-) -> Result<(), Halt>
+) -> Result<(), AllocError>
     ensures { (yields : Yield) → OnOk result (Puts code.old.items code.new.items (pushes_comm (globals_of context.now) (elements_of context.now) yields (layout_in context.now layout.now) (comm_of comm.now))) }
 {
     let visible = &layout.visible;
@@ -48,7 +49,7 @@ fn push_clause<'k>(
     layout: &Layout<'k>,
     clause: &'k ClauseNode,
     code: &mut Vec<Instr>,
-) -> Result<(), Halt>
+) -> Result<(), AllocError>
     ensures { (yields : Yield) → OnOk result (Puts code.old.items code.new.items (pushes_clauses (globals_of context.now) (elements_of context.now) yields (layout_in context.now layout.now) (clauses (clause_of clause.now ∷ [])))) }
 {
     if let Some(comm) = &clause.comm {
@@ -59,13 +60,13 @@ fn push_clause<'k>(
 
 /// Pushes the channels of all clauses, and what is sent on them, in order.
 ///
-/// Errors: something is wrong with a channel or a value; want of memory.
+/// Errors: want of memory.
 pub fn push_clauses<'t, 'y, 'm, 'a>(
     context: &'t Context<'t, 'a>,
     layout: &'y Layout<'a>,
     all: &'a [ClauseNode],
     code: &'m mut Vec<Instr>,
-) -> Result<(), Halt>
+) -> Result<(), AllocError>
     ensures { (yields : Yield) → OnOk result (Puts code.old.items code.new.items (pushes_clauses (globals_of context.now) (elements_of context.now) yields (layout_in context.now layout.now) (clauses (map clause_of all.now)))) }
 {
     let Some((clause, all)) = all.split_first() else {
@@ -81,20 +82,20 @@ fn table_clause<'k>(
     layout: &Layout<'k>,
     comm: &'k CommNode,
     to: u32,
-) -> Result<Clause, Halt>
-    ensures { IfOk result (λ made. (yields : Yield) → made ≡ table_clause (globals_of context.now) (elements_of context.now) yields (layout_in context.now layout.now) (comm_of comm.now) to) }
+) -> Clause
+    ensures { (yields : Yield) → result ≡ table_clause (globals_of context.now) (elements_of context.now) yields (layout_in context.now layout.now) (comm_of comm.now) to }
 {
     let visible = &layout.visible;
     match comm {
         CommNode::Send(channel, _) => {
-            let shape = shape_of(context, carried(context.table, visible, channel)?);
-            Ok(Clause::Send(shape, to))
+            let shape = shape_of(context, carried(context.table, visible, channel));
+            Clause::Send(shape, to)
         }
         CommNode::Receive(channel)
         | CommNode::Define(_, _, channel)
         | CommNode::Assign(_, _, channel) => {
-            let shape = shape_of(context, carried(context.table, visible, channel)?);
-            Ok(Clause::Receive(shape, to))
+            let shape = shape_of(context, carried(context.table, visible, channel));
+            Clause::Receive(shape, to)
         }
     }
 }
@@ -105,7 +106,7 @@ fn table_clauses<'t, 'y, 'p, 'a>(
     layout: &'y Layout<'a>,
     all: &'a [ClauseNode],
     places: &'p [u32],
-) -> Result<Vec<Clause>, Halt>
+) -> Result<Vec<Clause>, AllocError>
     ensures { IfOk result (λ made. (yields : Yield) → made.items ≡ table_clauses (globals_of context.now) (elements_of context.now) yields (layout_in context.now layout.now) (clauses (map clause_of all.now)) places.now) }
 {
     let Some((clause, all)) = all.split_first() else {
@@ -118,7 +119,7 @@ fn table_clauses<'t, 'y, 'p, 'a>(
     let Some((to, places)) = places.split_first() else {
         return Ok(Vec::new(context.alloc));
     };
-    let first = table_clause(context, layout, comm, *to)?;
+    let first = table_clause(context, layout, comm, *to);
     let mut made = table_clauses(context, layout, all, places)?;
     made.insert(0, first)?;
     Ok(made)
@@ -142,13 +143,13 @@ fn default_place<'p>(all: &'p [ClauseNode], places: &'p [u32]) -> Option<u32>
 
 /// The table of a select whose ways begin at these places, that of the default last.
 ///
-/// Errors: something is wrong with a channel; want of memory.
+/// Errors: want of memory.
 pub fn select_table<'a>(
     context: &Context<'_, 'a>,
     layout: &Layout<'a>,
     all: &'a [ClauseNode],
     places: &[u32],
-) -> Result<SelectTable, Halt>
+) -> Result<SelectTable, AllocError>
     ensures { IfOk result (λ made. (yields : Yield) → made ≡ select_table (globals_of context.now) (elements_of context.now) yields (layout_in context.now layout.now) (clauses (map clause_of all.now)) places.now) }
 {
     let made = table_clauses(context, layout, all, places)?;

@@ -12,14 +12,14 @@ ghost use Rattle.codegen_expression.specs.Contexts.{elements_of, globals_of, sco
 use bytecode::Instr;
 use codegen_expression::channel::push_arguments;
 use codegen_expression::context::Context;
-use codegen_expression::halt::Halt;
 use codegen_expression::operand::put;
+use std::alloc::AllocError;
 use syntax::{ArgumentsNode, Name};
 use type_table::scope::Visible;
 
 /// Another goroutine starts with a call of the function of this name.
 ///
-/// Errors: something is wrong with the call; want of memory.
+/// Errors: want of memory.
 #[tactic(auto, using(crate::proofs::Starting::appends_go))]
 pub fn emit_go<'k>(
     context: &Context<'_, 'k>,
@@ -27,7 +27,7 @@ pub fn emit_go<'k>(
     name: &Name,
     arguments: &'k ArgumentsNode,
     code: &mut Vec<Instr>,
-) -> Result<(), Halt>
+) -> Result<(), AllocError>
     ensures { OnOk result (Appends code.old.items code.new.items (pushes_arguments (globals_of context.now) (elements_of context.now) (scope_in context.now visible.now) (number_of (globals_of context.now) (name_of name.now)) (map expression_of arguments.now.values.items) (Do (instrs.Go (number_of (globals_of context.now) (name_of name.now))) Skip))) }
 {
     let function = push_arguments(context, visible, name, arguments, code)?;

@@ -9,21 +9,21 @@ ghost use Rattle.codegen_expression.specs.Contexts.{elements_of, globals_of};
 
 use bytecode::Instr;
 use codegen_expression::context::Context;
-use codegen_expression::halt::Halt;
-use codegen_expression::value::push;
+use codegen_expression::emission::push;
 use codegen_simple::layout::Layout;
+use std::alloc::AllocError;
 use syntax::ExpressionNode;
 use type_table::value_type::ValueType;
 
 /// Pushes a condition.
 ///
-/// Errors: something is wrong with it; want of memory.
+/// Errors: want of memory.
 pub fn push_test<'k>(
     context: &Context<'_, 'k>,
     layout: &Layout<'k>,
     condition: &'k ExpressionNode,
     code: &mut Vec<Instr>,
-) -> Result<(), Halt>
+) -> Result<(), AllocError>
     ensures { OnOk result (Puts code.old.items code.new.items (tests (globals_of context.now) (elements_of context.now) (layout_in context.now layout.now) (expression_of condition.now))) }
 {
     let visible = &layout.visible;

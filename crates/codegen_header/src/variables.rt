@@ -15,8 +15,8 @@ ghost use Rattle.codegen_simple.specs.Simples.{Appends};
 ghost use Rattle.codegen_expression.specs.Contexts.{elements_of, globals_of, scope_in, types_in};
 
 use bytecode::Instr;
+use codegen_expression::channel::known;
 use codegen_expression::context::Context;
-use codegen_expression::halt::Halt;
 use codegen_expression::operand::push_zeros;
 use codegen_simple::assignment::assign;
 use codegen_simple::define::define_names;
@@ -48,7 +48,7 @@ fn push_zero_values<'t, 'n, 'm, 'a>(
     names: &'n [Name],
     kind: ValueType<'a>,
     code: &'m mut Vec<Instr>,
-) -> Result<(), Halt>
+) -> Result<(), AllocError>
     ensures { OnOk result (Puts code.old.items code.new.items (zero_values (globals_of context.now) (elements_of context.now) 0 (map name_of names.now) (kind_of (types_in context.now) kind.entry))) }
 {
     let Some((_name, names)) = names.split_first() else {
@@ -67,7 +67,7 @@ fn zero_as<'a>(
     kind: ValueType<'a>,
     kinds: &[ValueType<'a>],
     code: &mut Vec<Instr>,
-) -> Result<(), Halt>
+) -> Result<(), AllocError>
     requires { map (kind_of (types_in context.now)) kinds.now ≡ same_types (globals_of context.now) (elements_of context.now) (map name_of names.now) (kind_of (types_in context.now) kind) }
     ensures emitted { OnOk result (Appends code.old.items code.new.items (variables_plan (globals_of context.now) (elements_of context.now) (layout_in context.now layout.old) (map name_of names.now) (kind_of (types_in context.now) kind.entry) None)) }
     ensures after { OnOk result (layout_in context.now layout.new ≡ declaring_each (globals_of context.now) (elements_of context.now) (kind_of (types_in context.now) kind.entry) (map name_of names.now) (layout_in context.now layout.old)) }
@@ -86,7 +86,7 @@ fn emit_known<'a>(
     kind: ValueType<'a>,
     right: &'a Option<Vec<ExpressionNode>>,
     code: &mut Vec<Instr>,
-) -> Result<(), Halt>
+) -> Result<(), AllocError>
     ensures emitted { OnOk result (Appends code.old.items code.new.items (variables_plan (globals_of context.now) (elements_of context.now) (layout_in context.now layout.old) (map name_of names.now) (kind_of (types_in context.now) kind.entry) (option_map right_of right.now))) }
     ensures after { OnOk result (layout_in context.now layout.new ≡ declaring_each (globals_of context.now) (elements_of context.now) (kind_of (types_in context.now) kind.entry) (map name_of names.now) (layout_in context.now layout.old)) }
     ensures kept { OnOk result (Keeps layout.old.visible layout.new.visible) }
@@ -101,7 +101,7 @@ fn emit_known<'a>(
 
 /// Variables of a type are declared, and take what a right side gives; where there is none they are zero.
 ///
-/// Errors: something is wrong with the type or the right side; want of memory.
+/// Errors: want of memory.
 pub fn emit_typed<'a>(
     context: &Context<'_, 'a>,
     layout: &mut Layout<'a>,
@@ -109,27 +109,25 @@ pub fn emit_typed<'a>(
     kind: &'a TypeNode,
     right: &'a Option<Vec<ExpressionNode>>,
     code: &mut Vec<Instr>,
-) -> Result<(), Halt>
+) -> Result<(), AllocError>
     ensures emitted { OnOk result (Appends code.old.items code.new.items (variables_plan (globals_of context.now) (elements_of context.now) (layout_in context.now layout.old) (map name_of names.now) (known (type_in (types_in context.now) (scope_in context.now layout.old.visible) (type_of kind.now))) (option_map right_of right.now))) }
     ensures after { OnOk result (layout_in context.now layout.new ≡ declaring_each (globals_of context.now) (elements_of context.now) (known (type_in (types_in context.now) (scope_in context.now layout.old.visible) (type_of kind.now))) (map name_of names.now) (layout_in context.now layout.old)) }
     ensures kept { OnOk result (Keeps layout.old.visible layout.new.visible) }
 {
-    let Some(kind) = type_in(context.table, &layout.visible, kind) else {
-        return Err(Halt::Flawed);
-    };
+    let kind = known(type_in(context.table, &layout.visible, kind));
     emit_known(context, layout, names, kind, right, code)
 }
 
 /// Variables are declared, and take what a right side gives, with its types.
 ///
-/// Errors: something is wrong with the right side; want of memory.
+/// Errors: want of memory.
 pub fn emit_untyped<'a>(
     context: &Context<'_, 'a>,
     layout: &mut Layout<'a>,
     names: &'a [Name],
     right: &'a [ExpressionNode],
     code: &mut Vec<Instr>,
-) -> Result<(), Halt>
+) -> Result<(), AllocError>
     ensures emitted { OnOk result (Appends code.old.items code.new.items (defines (globals_of context.now) (elements_of context.now) (layout_in context.now layout.old) (map name_of names.now) (right_types (globals_of context.now) (elements_of context.now) (scope_in context.now layout.old.visible) (length (map name_of names.now)) (map expression_of right.now)) (map expression_of right.now))) }
     ensures after { OnOk result (layout_in context.now layout.new ≡ declaring_all (globals_of context.now) (elements_of context.now) (map name_of names.now) (right_types (globals_of context.now) (elements_of context.now) (scope_in context.now layout.old.visible) (length (map name_of names.now)) (map expression_of right.now)) (layout_in context.now layout.old)) }
     ensures kept { OnOk result (Keeps layout.old.visible layout.new.visible) }

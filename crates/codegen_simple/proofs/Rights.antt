@@ -1,7 +1,9 @@
 -- What a right side gives, and what is pushed of it.
-use Rattle.std.proofs.Common.{◌≡◌, ℕ, zero, suc, ◌+◌, ◌==◌, Bool, true, false, ◌&&◌, List, [], ◌∷◌, ◌++◌, map, length, Some, refl, sym, ap, ◌∙◌, subst}
+use Rattle.std.proofs.Common.{◌≡◌, ℕ, zero, suc, ◌+◌, ◌==◌, Bool, true, false, ◌&&◌, List, [], ◌∷◌, ◌++◌, map, length, Option, Some, None, option_map, refl, sym, ap, ◌∙◌, subst}
 use Rattle.std.specs.Prelude.{if◌then◌else◌}
-use Rattle.std.proofs.lemmas.Bool.{and_parts, eqb-true}
+use Rattle.std.specs.Option.{is_some}
+use Rattle.std.proofs.lemmas.Bool.{eqb-true}
+use Rattle.std.proofs.lemmas.Option.{same_Some}
 use Rattle.syntax.specs.Tree.{Expression, Integer, Named, Parenthesized, Selection, Composite, Unary, Binary, Call, Receive, Make, MakeSized, Length, Capacity}
 use Rattle.syntax.specs.Measures.{expression_size}
 use Rattle.bytecode.specs.declared.instr.Instr.{Instr}
@@ -13,10 +15,57 @@ use Rattle.typing_rules.specs.Operations.{Given, also_given, given_values, is_re
 use Rattle.codegen_base.specs.declared.element.Element.{Element}
 use Rattle.codegen_base.specs.Layouts.{given_types}
 use Rattle.codegen_base.specs.Pushes.{pushes_all}
-use Rattle.codegen_base.specs.Statements.{pushes_right, right_types}
+use Rattle.codegen_base.specs.Statements.{pushes_received, pushes_right, right_types}
 use Rattle.plan.specs.Plan.{Plan, flat}
 use Rattle.codegen_expression.specs.Emission.{Puts}
-use Rattle.codegen_simple.specs.Rights.{gives_two, own_type}
+use Rattle.codegen_simple.specs.Rights.{own_type, source_of, source_of_two}
+
+-- one receive gives two places the item and whether it was sent
+abbrev gives_two : ℕ → List Expression → Bool
+gives_two count (value ∷ []) = (count == 2) && is_receive value
+gives_two count values = false
+
+receives : (value : Expression) → is_some (source_of value) ≡ is_receive value
+receives (Integer x) = refl
+receives (Named x) = refl
+receives (Parenthesized x) = refl
+receives (Selection x f) = refl
+receives (Composite x vs t) = refl
+receives (Unary o x) = refl
+receives (Binary o x y) = refl
+receives (Call f vs t) = refl
+receives (Receive x) = refl
+receives (Make k) = refl
+receives (MakeSized k x) = refl
+receives (Length x) = refl
+receives (Capacity x) = refl
+
+received : (value channel : Expression) → Some channel ≡ source_of value → Receive channel ≡ value
+received (Receive x) channel is = ap Receive (same_Some channel x is)
+received (Integer x) channel is = absurd cc
+received (Named x) channel is = absurd cc
+received (Parenthesized x) channel is = absurd cc
+received (Selection x f) channel is = absurd cc
+received (Composite x vs t) channel is = absurd cc
+received (Unary o x) channel is = absurd cc
+received (Binary o x y) channel is = absurd cc
+received (Call f vs t) channel is = absurd cc
+received (Make k) channel is = absurd cc
+received (MakeSized k x) channel is = absurd cc
+received (Length x) channel is = absurd cc
+received (Capacity x) channel is = absurd cc
+
+found_two : (count : ℕ) (values : List Expression) → is_some (source_of_two count values) ≡ gives_two count values
+found_two count [] = refl
+found_two count (value ∷ (other ∷ values)) = refl
+found_two count (value ∷ []) = by_test (count == 2) where
+  by_test : (b : Bool) → is_some (if b then source_of value else None) ≡ (b && is_receive value)
+  by_test true = receives value
+  by_test false = refl
+
+pub no_source : {A : Type 0} (view : A → Expression) (found : Option A) (count : ℕ) (values : List Expression) → is_some found ≡ false → option_map view found ≡ source_of_two count values → false ≡ is_some (source_of_two count values)
+no_source view None count values none is = ap is_some is
+no_source view (Some channel) count values none is = absurd cc
 
 module _ (globals : Globals) (elements : List Element) (scope : Scope) where
   each_type : (first : ℕ) (values : List Expression) → given_types globals elements (given_values globals scope first values) ≡ map (own_type globals scope) values
@@ -42,8 +91,8 @@ module _ (globals : Globals) (elements : List Element) (scope : Scope) where
       ∙ ap (λ l. map (own_type globals scope) values ++ l) (also_types count 0 values)
 
   -- the types are those, with or without the one of whether an item was sent
-  pub right_is : (count : ℕ) (values : List Expression) (kinds : List ValueType) (two : Bool) → two ≡ gives_two count values → kinds ≡ map (own_type globals scope) values ++ (if two then BoolType ∷ [] else []) → kinds ≡ right_types globals elements scope count values
-  right_is count values kinds two is all = all ∙ ap (λ b. map (own_type globals scope) values ++ (if b then BoolType ∷ [] else [])) is ∙ sym (rights_types count values)
+  pub right_is : (count : ℕ) (values : List Expression) (kinds : List ValueType) (two : Bool) → two ≡ is_some (source_of_two count values) → kinds ≡ map (own_type globals scope) values ++ (if two then BoolType ∷ [] else []) → kinds ≡ right_types globals elements scope count values
+  right_is count values kinds two is all = all ∙ ap (λ b. map (own_type globals scope) values ++ (if b then BoolType ∷ [] else [])) (is ∙ found_two count values) ∙ sym (rights_types count values)
 
   by_receive : (count : ℕ) (types : List ValueType) (value : Expression) (rest : Plan) → is_receive value ≡ false → pushes_right globals elements scope count types (value ∷ []) rest ≡ pushes_all globals elements scope types (value ∷ []) rest
   by_receive zero types value rest is = refl
@@ -98,13 +147,16 @@ module _ (globals : Globals) (elements : List Element) (scope : Scope) where
     more (Capacity x) = refl
   plainly (suc (suc (suc n))) types (value ∷ (other ∷ values)) rest is = refl
 
-  pub puts_plainly : (count : ℕ) (types : List ValueType) (values : List Expression) (i0 i1 : List Instr) → false ≡ gives_two count values → Puts i0 i1 (pushes_all globals elements scope types values) → Puts i0 i1 (pushes_right globals elements scope count types values)
-  puts_plainly count types values i0 i1 is p leave again rest = p leave again rest ∙ ap (λ x. i0 ++ flat leave again (length i0) x) (sym (plainly count types values rest (sym is)))
+  pub puts_plainly : (count : ℕ) (types : List ValueType) (values : List Expression) (i0 i1 : List Instr) → None ≡ source_of_two count values → Puts i0 i1 (pushes_all globals elements scope types values) → Puts i0 i1 (pushes_right globals elements scope count types values)
+  puts_plainly count types values i0 i1 is p leave again rest =
+      p leave again rest ∙ ap (λ x. i0 ++ flat leave again (length i0) x) (sym (plainly count types values rest (sym (found_two count values) ∙ sym (ap is_some is))))
 
-  two_are : (count : ℕ) (values : List Expression) → gives_two count values ≡ true → count ≡ 2
-  two_are count (value ∷ []) is = eqb-true count 2 (and_parts (count == 2) (is_receive value) is).0
-  two_are count [] is = absurd cc
-  two_are count (value ∷ (other ∷ values)) is = absurd cc
-
-  pub puts_both_values : (count : ℕ) (types : List ValueType) (values : List Expression) (i0 i1 : List Instr) → true ≡ gives_two count values → Puts i0 i1 (pushes_right globals elements scope 2 types values) → Puts i0 i1 (pushes_right globals elements scope count types values)
-  puts_both_values count types values i0 i1 is p = subst (λ n. Puts i0 i1 (pushes_right globals elements scope n types values)) (sym (two_are count values (sym is))) p
+  pub puts_two : (count : ℕ) (types : List ValueType) (values : List Expression) (channel : Expression) (i0 i1 : List Instr) → Some channel ≡ source_of_two count values → Puts i0 i1 (pushes_received globals elements scope channel) → Puts i0 i1 (pushes_right globals elements scope count types values)
+  puts_two count types [] channel i0 i1 is p = absurd cc
+  puts_two count types (value ∷ (other ∷ values)) channel i0 i1 is p = absurd cc
+  puts_two count types (value ∷ []) channel i0 i1 is p = by_test (count == 2) refl is where
+    by_test : (b : Bool) → (count == 2) ≡ b → Some channel ≡ (if b then source_of value else None) → Puts i0 i1 (pushes_right globals elements scope count types (value ∷ []))
+    by_test false e h = absurd cc
+    by_test true e h =
+        subst (λ v. Puts i0 i1 (pushes_right globals elements scope count types (v ∷ []))) (received value channel h)
+        (subst (λ n. Puts i0 i1 (pushes_right globals elements scope n types (Receive channel ∷ []))) (sym (eqb-true count 2 e)) p)

@@ -4,12 +4,12 @@ use Rattle.bytecode.specs.declared.instr.Instr.{Instr}
 use Rattle.bytecode.specs.declared.instr.Instr.TheVariants as instrs
 use Rattle.codegen_base.specs.Pushes.{drops}
 use Rattle.codegen_base.specs.Statements.{Spot, Local, assigns, last_counts, single_spots, singles, stores, stores_all}
-use Rattle.plan.specs.Plan.{Plan}
+use Rattle.plan.specs.Plan.{Plan, flat}
 use Rattle.codegen_expression.specs.Emission.{Puts}
 use Rattle.codegen_simple.specs.declared.spot.Spot.{Spot as InMemory}
 use Rattle.codegen_simple.specs.Spots.{spot_in, stores_each}
 use Rattle.codegen_expression.proofs.Emitting.{puts_do, puts_none}
-use Rattle.codegen_expression.proofs.Requesting.{puts_then}
+use Rattle.codegen_expression.proofs.Operating.{puts_then}
 
 pub puts_no_drop : (count : ℕ) (old : List Instr) → count ≡ 0 → Puts old old (drops count)
 puts_no_drop zero old is = puts_none old
@@ -29,6 +29,10 @@ puts_assigned (spot ∷ (other ∷ others)) i0 i1 i2 p is = puts_then (stores_ea
 pub first_word : (place words next : ℕ) → 0 < words → next ≡ place + 1 → single_spots place words ≡ Local place 1 ∷ single_spots next (words - 1)
 first_word place zero next some is = absurd (omega (arith, some))
 first_word place (suc words) next some is = let n : suc words - 1 ≡ words = omega arith in ap (λ n. Local place 1 ∷ single_spots n words) (sym is) ∙ ap (λ m. Local place 1 ∷ single_spots next m) (sym n)
+
+-- the same part, said otherwise
+pub re_put : (old new : List Instr) (p q : Plan → Plan) → ((rest : Plan) → p rest ≡ q rest) → Puts old new p → Puts old new q
+re_put old new p q same has leave again rest = has leave again rest ∙ ap (λ x. old ++ flat leave again (length old) x) (same rest)
 
 -- ---- one spot, or more
 

@@ -8,13 +8,12 @@ ghost use Rattle.codegen_simple.specs.Spots.{Stored, spot_in, stores_each};
 
 use crate::spot::{Spot, store};
 use bytecode::Instr;
-use codegen_expression::halt::Halt;
 use codegen_expression::operand::put;
-use std::alloc::Global;
+use std::alloc::{AllocError, Global};
 use std::collections::HashSet;
 
 /// A word goes to a place, or is dropped where another one goes there later.
-fn store_word(place: u32, places: &mut HashSet<u32>, code: &mut Vec<Instr>) -> Result<(), Halt>
+fn store_word(place: u32, places: &mut HashSet<u32>, code: &mut Vec<Instr>) -> Result<(), AllocError>
     ensures { (first : List OneInstr) (later : List OneSpot) → OnOk result (Stored first later places.old code.old.items → Stored first (Local place 1 ∷ later) places.new code.new.items) }
 {
     if places.insert(place)? {
@@ -30,21 +29,21 @@ fn store_words<'p, 'c>(
     words: u32,
     places: &'p mut HashSet<u32>,
     code: &'c mut Vec<Instr>,
-) -> Result<(), Halt>
+) -> Result<(), AllocError>
     ensures { (first : List OneInstr) (later : List OneSpot) → OnOk result (Stored first later places.old code.old.items → Stored first (single_spots place words ++ later) places.new code.new.items) }
 {
     if words == 0 {
         return Ok(());
     }
     let Some(next) = place.checked_add(1) else {
-        return Err(Halt::Memory);
+        return Err(AllocError);
     };
     store_words(next, words - 1, places, code)?;
     store_word(place, places, code)
 }
 
 /// The words of a value go to its spot, the last one first.
-fn store_spot(spot: Spot, places: &mut HashSet<u32>, code: &mut Vec<Instr>) -> Result<(), Halt>
+fn store_spot(spot: Spot, places: &mut HashSet<u32>, code: &mut Vec<Instr>) -> Result<(), AllocError>
     ensures { (first : List OneInstr) (spots : List OneSpot) → OnOk result (Stored first (singles spots) places.old code.old.items → Stored first (singles (spot_in spot ∷ spots)) places.new code.new.items) }
 {
     match spot {
@@ -58,7 +57,7 @@ fn store_spots<'s, 'p, 'c>(
     spots: &'s [Spot],
     places: &'p mut HashSet<u32>,
     code: &'c mut Vec<Instr>,
-) -> Result<(), Halt>
+) -> Result<(), AllocError>
     ensures { (first : List OneInstr) → OnOk result (Stored first [] places.old code.old.items → Stored first (singles (map spot_in spots.now)) places.new code.new.items) }
 {
     let Some((spot, spots)) = spots.split_first() else {
@@ -69,7 +68,7 @@ fn store_spots<'s, 'p, 'c>(
 }
 
 /// Values go to their spots, as if from left to right.
-fn store_each(alloc: Global, spots: &[Spot], code: &mut Vec<Instr>) -> Result<(), Halt>
+fn store_each(alloc: Global, spots: &[Spot], code: &mut Vec<Instr>) -> Result<(), AllocError>
     ensures { OnOk result (Puts code.old.items code.new.items (stores_each (map spot_in spots.now))) }
 {
     match spots {
@@ -86,7 +85,7 @@ fn store_each(alloc: Global, spots: &[Spot], code: &mut Vec<Instr>) -> Result<()
 ///
 /// Errors: want of memory.
 #[tactic(auto, using(crate::proofs::Storing::puts_assigned))]
-pub fn assign(alloc: Global, spots: &[Spot], code: &mut Vec<Instr>) -> Result<(), Halt>
+pub fn assign(alloc: Global, spots: &[Spot], code: &mut Vec<Instr>) -> Result<(), AllocError>
     ensures { OnOk result (Puts code.old.items code.new.items (assigns (map spot_in spots.now))) }
 {
     store_each(alloc, spots, code)?;

@@ -15,8 +15,8 @@ ghost use Rattle.codegen_simple.specs.Spots.{spot_in};
 use crate::layout::{Layout, declare_new, is_declarable};
 use crate::spot::Spot;
 use codegen_expression::context::Context;
-use codegen_expression::halt::Halt;
 use codegen_expression::operand::{number, words_of};
+use std::alloc::AllocError;
 use syntax::Name;
 use type_table::scope::{Visible, own_variable};
 use type_table::table::TypeTable;
@@ -28,7 +28,7 @@ fn own_spot<'a>(
     visible: &Visible<'a>,
     name: &[u8],
     kind: ValueType<'a>,
-) -> Result<Spot, Halt>
+) -> Result<Spot, AllocError>
     ensures { IfOk result (λ spot. spot_in spot ≡ own_spot (globals_of context.now) (elements_of context.now) (scope_in context.now visible.now) (kind_of (types_in context.now) kind.entry) (own_variable (scope_in context.now visible.now) name.now)) }
 {
     match own_variable(context.table, visible, name) {
@@ -46,7 +46,7 @@ pub fn name_spot<'a>(
     layout: &Layout<'a>,
     name: &Name,
     kind: ValueType<'a>,
-) -> Result<Spot, Halt>
+) -> Result<Spot, AllocError>
     ensures { IfOk result (λ spot. spot_in spot ≡ name_spot (globals_of context.now) (elements_of context.now) (layout_in context.now layout.now) (name_of name.now) (kind_of (types_in context.now) kind.entry)) }
 {
     let name = name.bytes.as_slice();
@@ -66,7 +66,7 @@ pub fn define_names<'t, 'm, 'k, 'a>(
     layout: &'m mut Layout<'a>,
     names: &'a [Name],
     kinds: &'k [ValueType<'a>],
-) -> Result<Vec<Spot>, Halt>
+) -> Result<Vec<Spot>, AllocError>
     ensures spots { IfOk result (λ spots. map spot_in spots.items ≡ name_spots (globals_of context.now) (elements_of context.now) (layout_in context.now layout.old) (map name_of names.now) (map (kind_of (types_in context.now)) kinds.now)) }
     ensures after { OnOk result (layout_in context.now layout.new ≡ declaring_all (globals_of context.now) (elements_of context.now) (map name_of names.now) (map (kind_of (types_in context.now)) kinds.now) (layout_in context.now layout.old)) }
     ensures kept { OnOk result (Keeps layout.old.visible layout.new.visible) }
@@ -107,7 +107,7 @@ pub fn name_types<'t, 'l, 'n, 'k, 'a>(
     layout: &'l Layout<'a>,
     names: &'n [Name],
     kinds: &'k [ValueType<'a>],
-) -> Result<Vec<ValueType<'a>>, Halt>
+) -> Result<Vec<ValueType<'a>>, AllocError>
     ensures { IfOk result (λ taken. (elements : List Element) → map (kind_of (types_in context.now)) taken.items ≡ name_types (globals_of context.now) elements (layout_in context.now layout.now) (map name_of names.now) (map (kind_of (types_in context.now)) kinds.now)) }
 {
     let Some((name, names)) = names.split_first() else {

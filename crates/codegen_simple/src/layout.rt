@@ -12,9 +12,8 @@ ghost use Rattle.codegen_simple.specs.Layouts.{layout_in, layout_of};
 
 use bytecode::WordKind;
 use codegen_expression::context::Context;
-use codegen_expression::halt::Halt;
 use codegen_expression::shape::put_kinds;
-use std::alloc::Global;
+use std::alloc::{AllocError, Global};
 use syntax::Name;
 use type_table::scope::{self, Visible, is_blank, own_variable};
 use type_table::table::TypeTable;
@@ -54,7 +53,7 @@ pub fn declare<'a>(
     layout: &mut Layout<'a>,
     kind: ValueType<'a>,
     name: &'a Name,
-) -> Result<(), Halt>
+) -> Result<(), AllocError>
     ensures after { OnOk result (layout_in context.now layout.new ≡ declaring (globals_of context.now) (elements_of context.now) (kind_of (types_in context.now) kind.entry) (name_of name.now) (layout_in context.now layout.old)) }
     ensures kept { OnOk result (Keeps layout.old.visible layout.new.visible) }
 {
@@ -78,7 +77,7 @@ pub fn declare_new<'a>(
     layout: &mut Layout<'a>,
     kind: ValueType<'a>,
     name: &'a Name,
-) -> Result<(), Halt>
+) -> Result<(), AllocError>
     ensures after { OnOk result (layout_in context.now layout.new ≡ declaring_new (globals_of context.now) (elements_of context.now) (kind_of (types_in context.now) kind.entry) (name_of name.now) (layout_in context.now layout.old)) }
     ensures kept { OnOk result (Keeps layout.old.visible layout.new.visible) }
 {

@@ -1,6 +1,6 @@
 //! What is printed ("Bootstrapping" of the Go specification).
 
-ghost use Rattle.std.specs.Prelude.{◌≡◌, ◌++◌, ◌∷◌, [], IfOk, List, OnOk, Some, map};
+ghost use Rattle.std.specs.Prelude.{◌≡◌, ◌++◌, ◌∷◌, [], IfOk, List, OnOk, map, option_map};
 ghost use Rattle.syntax.specs.View.{part_of, simple_of};
 ghost use Rattle.checker_base.specs.Views.{worth_of};
 ghost use Rattle.codegen_base.specs.declared.element.Element.{Element};
@@ -12,18 +12,18 @@ use bytecode::{Instr, Part, PrintTable, Text};
 use checker_base::operand::worth;
 use checker_base::worth::Worth;
 use codegen_expression::context::Context;
-use codegen_expression::halt::Halt;
 use codegen_expression::value::push_own;
+use std::alloc::AllocError;
 use syntax::{PartNode, SimpleNode};
 use type_table::scope::Visible;
 use type_table::value_type::ValueType;
 
 /// How a value of this worth is printed.
-fn printed_as(worth: Worth<'_>) -> Part
-    ensures { (types : _) → result ≡ printed_as (Some (worth_of types worth.entry)) }
+fn printed_as(worth: Option<Worth<'_>>) -> Part
+    ensures { (types : _) → result ≡ printed_as (option_map (worth_of types) worth.entry) }
 {
     match worth {
-        Worth::Typed(ValueType::Bool) => Part::Bool,
+        Some(Worth::Typed(ValueType::Bool)) => Part::Bool,
         _ => Part::Int,
     }
 }
@@ -33,14 +33,11 @@ fn printed_part<'k>(
     context: &Context<'_, 'k>,
     visible: &Visible<'k>,
     part: &'k PartNode,
-) -> Result<Part, Halt>
+) -> Result<Part, AllocError>
     ensures { IfOk result (λ made. (elements : List Element) → made ≡ printed_part (globals_of context.now) elements (scope_in context.now visible.now) (part_of part.now)) }
 {
     match part {
-        PartNode::Value(value) => match worth(context.table, visible, value) {
-            Some(worth) => Ok(printed_as(worth)),
-            None => Err(Halt::Flawed),
-        },
+        PartNode::Value(value) => Ok(printed_as(worth(context.table, visible, value))),
         PartNode::Text(bytes) => {
             let bytes = Vec::from_slice(context.alloc, bytes.as_slice())?;
             Ok(Part::Text(Text::new(bytes)))
@@ -53,7 +50,7 @@ fn printed_parts<'t, 'v, 'k>(
     context: &'t Context<'t, 'k>,
     visible: &'v Visible<'k>,
     parts: &'k [PartNode],
-) -> Result<Vec<Part>, Halt>
+) -> Result<Vec<Part>, AllocError>
     ensures { IfOk result (λ made. (elements : List Element) → made.items ≡ map (printed_part (globals_of context.now) elements (scope_in context.now visible.now)) (map part_of parts.now)) }
 {
     let Some((part, parts)) = parts.split_first() else {
@@ -67,13 +64,13 @@ fn printed_parts<'t, 'v, 'k>(
 
 /// Puts the print table of a statement behind others, where it prints.
 ///
-/// Errors: something is wrong with a value; want of memory.
+/// Errors: want of memory.
 pub fn put_prints<'k>(
     context: &Context<'_, 'k>,
     visible: &Visible<'k>,
     simple: &'k SimpleNode,
     prints: &mut Vec<PrintTable>,
-) -> Result<(), Halt>
+) -> Result<(), AllocError>
     ensures { (elements : List Element) → OnOk result (prints.new.items ≡ prints.old.items ++ simple_prints (globals_of context.now) elements (scope_in context.now visible.now) (simple_of simple.now)) }
 {
     match simple {
@@ -92,7 +89,7 @@ fn push_part<'k>(
     visible: &Visible<'k>,
     part: &'k PartNode,
     code: &mut Vec<Instr>,
-) -> Result<(), Halt>
+) -> Result<(), AllocError>
     ensures { OnOk result (Puts code.old.items code.new.items (pushes_parts (globals_of context.now) (elements_of context.now) (scope_in context.now visible.now) (part_of part.now ∷ []))) }
 {
     match part {
@@ -106,14 +103,14 @@ fn push_part<'k>(
 
 /// Pushes what is printed, in order.
 ///
-/// Errors: something is wrong with a value; want of memory.
+/// Errors: want of memory.
 #[tactic(auto, using(crate::proofs::Printing::puts_part))]
 pub fn push_parts<'t, 'v, 'm, 'k>(
     context: &'t Context<'t, 'k>,
     visible: &'v Visible<'k>,
     parts: &'k [PartNode],
     code: &'m mut Vec<Instr>,
-) -> Result<(), Halt>
+) -> Result<(), AllocError>
     ensures { OnOk result (Puts code.old.items code.new.items (pushes_parts (globals_of context.now) (elements_of context.now) (scope_in context.now visible.now) (map part_of parts.now))) }
 {
     let Some((part, parts)) = parts.split_first() else {

@@ -1,6 +1,6 @@
 //! Simple statements ("Statements" of the Go specification).
 
-ghost use Rattle.std.specs.Prelude.{◌≡◌, ◌+◌, ℕ, OnOk, length, map};
+ghost use Rattle.std.specs.Prelude.{◌≡◌, ◌+◌, OnOk, length, map};
 ghost use Rattle.bytecode.specs.declared.instr.Instr.TheVariants as instrs;
 ghost use Rattle.syntax.specs.View.{expression_of, name_of, part_of, place_of, simple_of};
 ghost use Rattle.type_table.specs.Scopes.{Scope};
@@ -30,10 +30,11 @@ use bytecode::Instr;
 use checker_base::callee::result_of;
 use codegen_expression::channel::{push_arguments, push_channel, push_received};
 use codegen_expression::context::Context;
-use codegen_expression::halt::Halt;
+use codegen_expression::emission::push;
 use codegen_expression::operand::{put, words_of};
 use codegen_expression::shape::shape_of;
-use codegen_expression::value::{push, push_own};
+use codegen_expression::value::push_own;
+use std::alloc::AllocError;
 use syntax::{
     ArgumentsNode, BinaryOperator, ExpressionNode, Name, PartNode, PlaceNode, SimpleNode,
 };
@@ -41,7 +42,7 @@ use type_table::scope::Visible;
 use type_table::value_type::ValueType;
 
 /// Drops the result of the function with this number, if it has one.
-fn drop_result(context: &Context<'_, '_>, number: u32, code: &mut Vec<Instr>) -> Result<(), Halt>
+fn drop_result(context: &Context<'_, '_>, number: u32, code: &mut Vec<Instr>) -> Result<(), AllocError>
     ensures { (scope : Scope) → OnOk result (Puts code.old.items code.new.items (drops (result_words (globals_of context.now) (elements_of context.now) scope (result_of (globals_of context.now) number)))) }
 {
     if let Some(kind) = result_of(context.table, number as usize) {
@@ -57,7 +58,7 @@ fn call<'k>(
     name: &Name,
     arguments: &'k ArgumentsNode,
     code: &mut Vec<Instr>,
-) -> Result<(), Halt>
+) -> Result<(), AllocError>
     ensures { OnOk result (Appends code.old.items code.new.items (pushes_arguments (globals_of context.now) (elements_of context.now) (scope_in context.now visible.now) (number_of (globals_of context.now) (name_of name.now)) (map expression_of arguments.now.values.items) (Do (instrs.Call (number_of (globals_of context.now) (name_of name.now))) (drops (result_words (globals_of context.now) (elements_of context.now) (scope_in context.now visible.now) (result_of (globals_of context.now) (number_of (globals_of context.now) (name_of name.now)))) Skip)))) }
 {
     let function = push_arguments(context, visible, name, arguments, code)?;
@@ -71,7 +72,7 @@ fn close<'k>(
     visible: &Visible<'k>,
     channel: &'k ExpressionNode,
     code: &mut Vec<Instr>,
-) -> Result<(), Halt>
+) -> Result<(), AllocError>
     ensures { OnOk result (Appends code.old.items code.new.items (pushes_own (globals_of context.now) (elements_of context.now) (scope_in context.now visible.now) (expression_of channel.now) (Do instrs.Close Skip))) }
 {
     push_own(context, visible, channel, code)?;
@@ -85,7 +86,7 @@ fn print<'k>(
     number: u32,
     parts: &'k [PartNode],
     code: &mut Vec<Instr>,
-) -> Result<(), Halt>
+) -> Result<(), AllocError>
     ensures { OnOk result (Appends code.old.items code.new.items (pushes_parts (globals_of context.now) (elements_of context.now) (scope_in context.now visible.now) (map part_of parts.now) (Do (instrs.Print number) Skip))) }
 {
     push_parts(context, visible, parts, code)?;
@@ -98,12 +99,12 @@ fn receive<'k>(
     visible: &Visible<'k>,
     channel: &'k ExpressionNode,
     code: &mut Vec<Instr>,
-) -> Result<(), Halt>
+) -> Result<(), AllocError>
     ensures { OnOk result (Appends code.old.items code.new.items (pushes_received (globals_of context.now) (elements_of context.now) (scope_in context.now visible.now) (expression_of channel.now) (Do (instrs.Discard (width (globals_of context.now) (elements_of context.now) (scope_in context.now visible.now) (carried (globals_of context.now) (elements_of context.now) (scope_in context.now visible.now) (expression_of channel.now)) + 1)) Skip))) }
 {
     let kind = push_received(context, visible, channel, code)?;
     let Some(count) = words_of(context, kind).checked_add(1) else {
-        return Err(Halt::Memory);
+        return Err(AllocError);
     };
     put(code, Instr::Discard(count))
 }
@@ -115,7 +116,7 @@ fn send<'k>(
     channel: &'k ExpressionNode,
     value: &'k ExpressionNode,
     code: &mut Vec<Instr>,
-) -> Result<(), Halt>
+) -> Result<(), AllocError>
     ensures { OnOk result (Appends code.old.items code.new.items (pushes_own (globals_of context.now) (elements_of context.now) (scope_in context.now visible.now) (expression_of channel.now) (pushes (globals_of context.now) (elements_of context.now) (scope_in context.now visible.now) (carried (globals_of context.now) (elements_of context.now) (scope_in context.now visible.now) (expression_of channel.now)) (expression_of value.now) (Do (instrs.Send (shape_of (elements_of context.now) (carried (globals_of context.now) (elements_of context.now) (scope_in context.now visible.now) (expression_of channel.now)))) Skip)))) }
 {
     let kind = push_channel(context, visible, channel, code)?;
@@ -130,7 +131,7 @@ fn set<'a>(
     places: &[PlaceNode],
     right: &'a [ExpressionNode],
     code: &mut Vec<Instr>,
-) -> Result<(), Halt>
+) -> Result<(), AllocError>
     ensures { OnOk result (Appends code.old.items code.new.items (sets (globals_of context.now) (elements_of context.now) (scope_in context.now visible.now) (map place_of places.now) (right_types (globals_of context.now) (elements_of context.now) (scope_in context.now visible.now) (length (map place_of places.now)) (map expression_of right.now)) (map expression_of right.now))) }
 {
     let count = places.len();
@@ -145,7 +146,7 @@ fn set<'a>(
 
 /// Names, those that are new in their block declared anew with these types, take what a right side gives.
 ///
-/// Errors: something is wrong with the right side; want of memory.
+/// Errors: want of memory.
 pub fn define_as<'a>(
     context: &Context<'_, 'a>,
     layout: &mut Layout<'a>,
@@ -153,7 +154,7 @@ pub fn define_as<'a>(
     kinds: &[ValueType<'a>],
     right: &'a [ExpressionNode],
     code: &mut Vec<Instr>,
-) -> Result<(), Halt>
+) -> Result<(), AllocError>
     ensures emitted { OnOk result (Appends code.old.items code.new.items (defines (globals_of context.now) (elements_of context.now) (layout_in context.now layout.old) (map name_of names.now) (map (kind_of (types_in context.now)) kinds.now) (map expression_of right.now))) }
     ensures after { OnOk result (layout_in context.now layout.new ≡ declaring_all (globals_of context.now) (elements_of context.now) (map name_of names.now) (map (kind_of (types_in context.now)) kinds.now) (layout_in context.now layout.old)) }
     ensures kept { OnOk result (Keeps layout.old.visible layout.new.visible) }
@@ -174,7 +175,7 @@ fn define<'a>(
     names: &'a [Name],
     right: &'a [ExpressionNode],
     code: &mut Vec<Instr>,
-) -> Result<(), Halt>
+) -> Result<(), AllocError>
     ensures emitted { OnOk result (Appends code.old.items code.new.items (defines (globals_of context.now) (elements_of context.now) (layout_in context.now layout.old) (map name_of names.now) (right_types (globals_of context.now) (elements_of context.now) (scope_in context.now layout.old.visible) (length (map name_of names.now)) (map expression_of right.now)) (map expression_of right.now))) }
     ensures after { OnOk result (layout_in context.now layout.new ≡ declaring_all (globals_of context.now) (elements_of context.now) (map name_of names.now) (right_types (globals_of context.now) (elements_of context.now) (scope_in context.now layout.old.visible) (length (map name_of names.now)) (map expression_of right.now)) (layout_in context.now layout.old)) }
     ensures kept { OnOk result (Keeps layout.old.visible layout.new.visible) }
@@ -184,41 +185,19 @@ fn define<'a>(
     define_as(context, layout, names, kinds, right, code)
 }
 
-/// Emits an assignment.
-fn emit_assignment<'a>(
+/// Emits a simple statement, and declares what it declares. The print table of a print has this number.
+///
+/// Errors: want of memory.
+pub fn emit_simple<'a>(
     context: &Context<'_, 'a>,
-    layout: &Layout<'a>,
-    simple: &'a SimpleNode,
-    code: &mut Vec<Instr>,
-) -> Result<(), Halt>
-    ensures { (number : ℕ) → OnOk result (Appends code.old.items code.new.items (simple_plan (globals_of context.now) (elements_of context.now) (layout_in context.now layout.now) number (simple_of simple.now))) }
-{
-    let visible = &layout.visible;
-    match simple {
-        SimpleNode::Increment(place) => step(context, visible, BinaryOperator::Add, place, code),
-        SimpleNode::Decrement(place) => {
-            step(context, visible, BinaryOperator::Subtract, place, code)
-        }
-        SimpleNode::Assign(places, right) => {
-            let places = places.as_slice();
-            set(context, visible, places, right.as_slice(), code)
-        }
-        SimpleNode::Update(place, operator, value) => {
-            update(context, visible, place, *operator, value, code)
-        }
-        _ => Err(Halt::Flawed),
-    }
-}
-
-/// Emits a simple statement that declares nothing. The print table of a print has this number.
-fn emit_plain<'a>(
-    context: &Context<'_, 'a>,
-    layout: &Layout<'a>,
+    layout: &mut Layout<'a>,
     number: u32,
     simple: &'a SimpleNode,
     code: &mut Vec<Instr>,
-) -> Result<(), Halt>
-    ensures { OnOk result (Appends code.old.items code.new.items (simple_plan (globals_of context.now) (elements_of context.now) (layout_in context.now layout.now) number (simple_of simple.now))) }
+) -> Result<(), AllocError>
+    ensures emitted { OnOk result (Appends code.old.items code.new.items (simple_plan (globals_of context.now) (elements_of context.now) (layout_in context.now layout.old) number (simple_of simple.now))) }
+    ensures after { OnOk result (layout_in context.now layout.new ≡ behind_simple (globals_of context.now) (elements_of context.now) (simple_of simple.now) (layout_in context.now layout.old)) }
+    ensures kept { OnOk result (Keeps layout.old.visible layout.new.visible) }
 {
     let visible = &layout.visible;
     match simple {
@@ -230,29 +209,20 @@ fn emit_plain<'a>(
         }
         SimpleNode::Receive(channel) => receive(context, visible, channel, code),
         SimpleNode::Send(channel, value) => send(context, visible, channel, value, code),
-        _ => emit_assignment(context, layout, simple, code),
-    }
-}
-
-/// Emits a simple statement, and declares what it declares. The print table of a print has this number.
-///
-/// Errors: something is wrong with the statement; want of memory.
-pub fn emit_simple<'a>(
-    context: &Context<'_, 'a>,
-    layout: &mut Layout<'a>,
-    number: u32,
-    simple: &'a SimpleNode,
-    code: &mut Vec<Instr>,
-) -> Result<(), Halt>
-    ensures emitted { OnOk result (Appends code.old.items code.new.items (simple_plan (globals_of context.now) (elements_of context.now) (layout_in context.now layout.old) number (simple_of simple.now))) }
-    ensures after { OnOk result (layout_in context.now layout.new ≡ behind_simple (globals_of context.now) (elements_of context.now) (simple_of simple.now) (layout_in context.now layout.old)) }
-    ensures kept { OnOk result (Keeps layout.old.visible layout.new.visible) }
-{
-    match simple {
+        SimpleNode::Increment(place) => step(context, visible, BinaryOperator::Add, place, code),
+        SimpleNode::Decrement(place) => {
+            step(context, visible, BinaryOperator::Subtract, place, code)
+        }
+        SimpleNode::Assign(places, right) => {
+            let places = places.as_slice();
+            set(context, visible, places, right.as_slice(), code)
+        }
+        SimpleNode::Update(place, operator, value) => {
+            update(context, visible, place, *operator, value, code)
+        }
         SimpleNode::Define(names, right) => {
             let names = names.as_slice();
             define(context, layout, names, right.as_slice(), code)
         }
-        _ => emit_plain(context, layout, number, simple, code),
     }
 }

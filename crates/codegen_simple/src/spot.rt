@@ -7,8 +7,8 @@ ghost use Rattle.codegen_expression.specs.Emission.{Puts};
 ghost use Rattle.codegen_simple.specs.Spots.{spot_in};
 
 use bytecode::Instr;
-use codegen_expression::halt::Halt;
 use codegen_expression::operand::put;
+use std::alloc::AllocError;
 
 /// Where the words of a value go.
 #[derive(Clone, Copy)]
@@ -21,7 +21,7 @@ pub enum Spot {
 
 /// Drops so many words.
 #[tactic(auto, using(crate::proofs::Storing::puts_no_drop, crate::proofs::Storing::puts_drop))]
-pub fn drop_words(count: u32, code: &mut Vec<Instr>) -> Result<(), Halt>
+pub fn drop_words(count: u32, code: &mut Vec<Instr>) -> Result<(), AllocError>
     ensures { OnOk result (Puts code.old.items code.new.items (drops count)) }
 {
     if count > 0 {
@@ -31,7 +31,7 @@ pub fn drop_words(count: u32, code: &mut Vec<Instr>) -> Result<(), Halt>
 }
 
 /// A value goes to its spot.
-pub fn store(spot: Spot, code: &mut Vec<Instr>) -> Result<(), Halt>
+pub fn store(spot: Spot, code: &mut Vec<Instr>) -> Result<(), AllocError>
     ensures { OnOk result (Puts code.old.items code.new.items (stores (spot_in spot))) }
 {
     match spot {

@@ -1,8 +1,8 @@
 //! Assignments with an operator ("Assignment statements", "IncDec statements" of the Go specification).
 
-ghost use Rattle.std.specs.Prelude.{◌≡◌, List, OnOk};
+ghost use Rattle.std.specs.Prelude.{List, OnOk};
 ghost use Rattle.syntax.specs.View.{expression_of, place_of};
-ghost use Rattle.typing_rules.specs.Worths.{is_logical, worth};
+ghost use Rattle.typing_rules.specs.Worths.{worth};
 ghost use Rattle.type_table.specs.Scopes.{Globals, Scope};
 ghost use Rattle.codegen_base.specs.declared.element.Element.{Element};
 ghost use Rattle.codegen_base.specs.Layouts.{type_of};
@@ -13,20 +13,21 @@ ghost use Rattle.codegen_expression.specs.Contexts.{elements_of, globals_of, sco
 ghost use Rattle.codegen_simple.specs.Simples.{Appends};
 ghost use Rattle.codegen_simple.specs.Spots.{spot_in};
 
-use crate::place::{selected, spot_of};
+use crate::place::{place_kind, spot_at};
 use crate::spot::{Spot, store};
 use bytecode::Instr;
+use checker_base::worth::Worth;
 use codegen_expression::context::Context;
-use codegen_expression::halt::Halt;
+use codegen_expression::emission::emit_right;
 use codegen_expression::operand::put;
 use codegen_expression::operator::operator_of;
-use codegen_expression::value::push;
+use std::alloc::AllocError;
 use syntax::{BinaryOperator, ExpressionNode, PlaceNode};
 use type_table::scope::Visible;
 use type_table::value_type::ValueType;
 
 /// Pushes the value that lies at a spot.
-fn load(spot: Spot, code: &mut Vec<Instr>) -> Result<(), Halt>
+fn load(spot: Spot, code: &mut Vec<Instr>) -> Result<(), AllocError>
     ensures { (globals : Globals) (elements : List Element) (scope : Scope) → OnOk result (Puts code.old.items code.new.items (loads_spot globals elements scope (spot_in spot))) }
 {
     if let Spot::Local(place, words) = spot {
@@ -37,18 +38,17 @@ fn load(spot: Spot, code: &mut Vec<Instr>) -> Result<(), Halt>
 
 /// A place grows or becomes smaller by 1.
 ///
-/// Errors: something is wrong with the place; want of memory.
+/// Errors: want of memory.
 pub fn step<'k>(
     context: &Context<'_, 'k>,
     visible: &Visible<'k>,
     operator: BinaryOperator,
     place: &PlaceNode,
     code: &mut Vec<Instr>,
-) -> Result<(), Halt>
+) -> Result<(), AllocError>
     ensures { OnOk result (Appends code.old.items code.new.items (steps (globals_of context.now) (elements_of context.now) (scope_in context.now visible.now) operator (place_of place.now))) }
 {
-    let part = selected(context.table, visible, place)?;
-    let spot = spot_of(context, part)?;
+    let spot = spot_at(context, visible, place)?;
     load(spot, code)?;
     code.push(Instr::Int(1))?;
     code.push(Instr::Apply(operator_of(operator, ValueType::Int)))?;
@@ -56,19 +56,9 @@ pub fn step<'k>(
     put(code, Instr::Tick)
 }
 
-/// Whether the operator is `&&` or `||`.
-fn is_logical(operator: BinaryOperator) -> bool
-    ensures { result ≡ is_logical operator }
-{
-    matches!(
-        operator,
-        BinaryOperator::LogicalAnd | BinaryOperator::LogicalOr
-    )
-}
-
 /// A place takes what an operator makes of it and a value.
 ///
-/// Errors: something is wrong with the place or the value, or the operator is `&&` or `||`; want of memory.
+/// Errors: want of memory.
 pub fn update<'k>(
     context: &Context<'_, 'k>,
     visible: &Visible<'k>,
@@ -76,17 +66,14 @@ pub fn update<'k>(
     operator: BinaryOperator,
     value: &'k ExpressionNode,
     code: &mut Vec<Instr>,
-) -> Result<(), Halt>
+) -> Result<(), AllocError>
     ensures { OnOk result (Appends code.old.items code.new.items (updates (globals_of context.now) (elements_of context.now) (scope_in context.now visible.now) (place_of place.now) operator (worth (globals_of context.now) (scope_in context.now visible.now) (expression_of value.now)) (type_of (globals_of context.now) (elements_of context.now) (scope_in context.now visible.now) (expression_of value.now)) (emits (globals_of context.now) (elements_of context.now) (scope_in context.now visible.now) (expression_of value.now)))) }
 {
-    if is_logical(operator) {
-        return Err(Halt::Flawed);
-    }
-    let part = selected(context.table, visible, place)?;
-    let spot = spot_of(context, part)?;
+    let spot = spot_at(context, visible, place)?;
+    let first = code.len();
     load(spot, code)?;
-    push(context, visible, part.kind, value, code)?;
-    code.push(Instr::Apply(operator_of(operator, part.kind)))?;
+    let own = Some(Worth::Typed(place_kind(context.table, visible, place)));
+    emit_right(context, visible, operator, own, first, value, code)?;
     store(spot, code)?;
     put(code, Instr::Tick)
 }

@@ -16,6 +16,6 @@ returns t c =
     let types = types_of table in
     let is : c.args.groups.now ≡ c.in-Some.group.now ∷ c.in-Some.groups.now = search rules in
     subst (λ l. layout_of table c.declare_parameters.new.layout ≡ with_parameters globals elements (fields_declared types (map declared_of l)) (layout_of table c.args.layout.now)) (sym is)
-    (parameters_grouped globals elements types (declared_of c.in-Some.group.now) (map declared_of c.in-Some.groups.now) (kind_of types c.in_ok-kind.kind) (map name_of c.as_slice.result.now)
+    (parameters_grouped globals elements types (declared_of c.in-Some.group.now) (map declared_of c.in-Some.groups.now) (kind_of types c.written-kind.result) (map name_of c.as_slice.result.now)
     (layout_of table c.args.layout.now) (layout_of table c.declare_names.new.layout) (layout_of table c.declare_parameters.new.layout)
-    c.in_ok-kind.ensures (ap (map name_of) c.as_slice.ensures.value) c.in_ok-declare_names.ensures c.in_ok-declare_parameters.ensures)
+    c.written-kind.ensures (ap (map name_of) c.as_slice.ensures.value) c.in_ok-declare_names.ensures c.in_ok-declare_parameters.ensures)

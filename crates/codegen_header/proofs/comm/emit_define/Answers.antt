@@ -15,8 +15,8 @@ pub returns-clause-emitted : goal.returns-clause-emitted
 returns-clause-emitted c = λ yields.
     let elements = c.args.context.now.elements.now in
     let sent = option_map name_of c.args.sent.now in
-    on_ok_weaker c.assign.result (λ assigned. appends_defined (globals_in c.args.context.now.table.now) elements yields (layout_of c.args.context.now.table.now c.args.layout.now) (expression_of c.args.channel.now) (kind_of (types_of c.args.context.now.table.now) c.in_ok-kind.kind)
-    c.args.code.now.items c.drop_sent.new.code.items c.assign.new.code.items (c.in_ok-kind.ensures elements) (name_of c.args.item.now) sent c.is_some.result (map spot_in c.as_slice.result.now)
+    on_ok_weaker c.assign.result (λ assigned. appends_defined (globals_in c.args.context.now.table.now) elements yields (layout_of c.args.context.now.table.now c.args.layout.now) (expression_of c.args.channel.now) (kind_of (types_of c.args.context.now.table.now) c.carried-kind.result)
+    c.args.code.now.items c.drop_sent.new.code.items c.assign.new.code.items (c.carried-kind.ensures elements) (name_of c.args.item.now) sent c.is_some.result (map spot_in c.as_slice.result.now)
     (c.is_some.ensures ∙ some_mapped name_of c.args.sent.now) c.in_ok-drop_sent.ensures (ap (map spot_in) c.as_slice.ensures.value ∙ c.in_ok-spots.ensures.spots yields) assigned) c.assign.ensures
 
 pub returns-clause-after : goal.returns-clause-after
@@ -25,4 +25,4 @@ returns-clause-after c = λ yields.
     let elements = c.args.context.now.elements.now in
     let sent = option_map name_of c.args.sent.now in
     on_ok_weaker c.assign.result (λ _. c.in_ok-spots.ensures.after yields
-    ∙ ap (λ k. declaring_all globals elements (one_or_two globals elements yields (name_of c.args.item.now) sent) (k ∷ (BoolType ∷ [])) (layout_of c.args.context.now.table.now c.args.layout.now)) (sym (c.in_ok-kind.ensures elements))) c.assign.ensures
+    ∙ ap (λ k. declaring_all globals elements (one_or_two globals elements yields (name_of c.args.item.now) sent) (k ∷ (BoolType ∷ [])) (layout_of c.args.context.now.table.now c.args.layout.now)) (sym (c.carried-kind.ensures elements))) c.assign.ensures

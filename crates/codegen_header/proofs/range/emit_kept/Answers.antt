@@ -1,4 +1,4 @@
 use Rattle.codegen_header.proofs.range.emit_kept.Goals as goal
 
 pub returns-clause-item : goal.returns-clause-item
-returns-clause-item c = c.in_ok-item.ensures c.args.context.now.elements.now
+returns-clause-item c = c.carried-item.ensures c.args.context.now.elements.now

@@ -31,7 +31,7 @@ returns t c = λ yields.
     let some : one.comm ≡ Some comm = search (rules, the_lemmas) in
     let at : c.args.places.now ≡ c.in-Some-split_first.to.now ∷ c.in-Some-split_first.places.now = search rules in
     c.in_ok-insert.ensures.items
-    ∙ ap (λ x. x ∷ c.in_ok-made.made.items) (c.in_ok-first.ensures yields)
+    ∙ ap (λ x. x ∷ c.in_ok-made.made.items) (c.table_clause-first.ensures yields)
     ∙ ap (λ l. table_clause globals elements yields layout comm c.in-Some-split_first.to.now ∷ l) (c.in_ok-made.ensures yields)
     ∙ sym (ap (λ p. table_clauses globals elements yields layout (Clause (Some comm) one.body more) p) at)
     ∙ sym (ap (λ o. table_clauses globals elements yields layout (Clause o one.body more) c.args.places.now) some)

@@ -6,8 +6,7 @@ use Rattle.codegen_base.specs.Statements.{last_counts, singles, stores, stores_a
 use Rattle.codegen_simple.specs.declared.spot.Spot.TheVariants as spots
 use Rattle.codegen_simple.specs.Spots.{Stored, spot_in, stores_each}
 use Rattle.codegen_expression.proofs.Emitting.{puts_none}
-use Rattle.codegen_expression.proofs.Operating.{re_put}
-use Rattle.codegen_simple.proofs.Storing.{one_spot, more_spots}
+use Rattle.codegen_simple.proofs.Storing.{one_spot, more_spots, re_put}
 use Rattle.codegen_simple.proofs.assignment.store_each.Goals as goal
 
 pub returns-in-len1 : goal.returns-in-len1

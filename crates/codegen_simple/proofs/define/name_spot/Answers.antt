@@ -13,4 +13,4 @@ returns-then-is_declarable c =
     let layout = layout_of c.args.context.now.table.now c.args.layout.now in
     let kind = kind_of (types_of c.args.context.now.table.now) c.args.kind in
     let is : is_declarable layout.scope (name_of c.args.name.now) ≡ true = search rules in
-    new_spot globals c.args.context.now.elements.now layout (name_of c.args.name.now) kind c.in_ok-place.place c.words_of.result is c.in_ok-place.ensures (c.words_of.ensures layout.scope)
+    new_spot globals c.args.context.now.elements.now layout (name_of c.args.name.now) kind c.in_ok-place.place c.words_of.result is c.in_ok-place.ensures.fits (c.words_of.ensures layout.scope)

@@ -12,7 +12,7 @@ returns-in_ok-place-in-Some c =
     let types = types_of c.args.context.now.table.now in
     let is : Some (variable_of types c.in-Some.entry) ≡ own_variable scope c.args.name.now = search rules in
     let words : c.words_of.result ≡ width globals c.args.context.now.elements.now scope (kind_of types c.in-Some.entry.kind) = c.words_of.ensures scope in
-    ap (λ p. Local p c.words_of.result) c.in_ok-place-in-Some.ensures ∙ ap (Local c.in-Some.entry.place) words ∙ ap (own_spot globals c.args.context.now.elements.now scope (kind_of types c.args.kind)) is
+    ap (λ p. Local p c.words_of.result) c.in_ok-place-in-Some.ensures.fits ∙ ap (Local c.in-Some.entry.place) words ∙ ap (own_spot globals c.args.context.now.elements.now scope (kind_of types c.args.kind)) is
 
 pub returns-in-None : goal.returns-in-None
 returns-in-None c =
