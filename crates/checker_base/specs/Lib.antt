@@ -1,3 +1,1 @@
 pub mod Views
-pub mod Givens
-pub mod Paths

@@ -3,6 +3,8 @@ use Rattle.std.specs.Prelude.{◌≤◌, ◌^◌, ℕ, zero, suc, ◌+◌, false
 use Rattle.syntax.specs.Tree.{Expression}
 use Rattle.typing_rules.specs.declared.flaw.Flaw.{Flaw}
 use Rattle.typing_rules.specs.declared.flaw.Misuse.{Misuse}
+use Rattle.checker_base.specs.declared.callee.Callee.{Callee as OneCallee}
+use Rattle.checker_base.specs.declared.callee.Callee.TheVariants as callees
 use Rattle.checker_base.specs.declared.refusal.Refusal.{Refusal}
 use Rattle.checker_base.specs.declared.refusal.Refusal.TheVariants.{Memory, Flawed}
 use Rattle.checker_base.specs.declared.worth.Worth.{Worth as InMemory}
@@ -15,6 +17,7 @@ use Rattle.type_table.specs.Types.{ValueType}
 use Rattle.type_table.specs.Scopes.{Globals, Scope}
 use Rattle.type_table.specs.Views.{kind_of, field_in}
 use Rattle.typing_rules.specs.Flaws.{Nodes}
+use Rattle.typing_rules.specs.Calls.{Callee, NotDeclared, NoFunction, IsFunction}
 use Rattle.typing_rules.specs.Worths.{Worth, Typed, Constant, Nil}
 use Rattle.typing_rules.specs.Expressions.{field_kinds}
 use Rattle.typing_rules.specs.Operations.{CallHas}
@@ -66,3 +69,9 @@ CallWith globals scope first function values flaw = CallHas globals scope first 
 abbrev pub Tells : (Flaw → Type 0) → Option Flaw → Type 0
 Tells P None = (flaw : Flaw) → ¬ (P flaw)
 Tells P (Some flaw) = P flaw
+
+-- what the name in a call stands for
+abbrev pub callee_of : OneCallee → Callee
+callee_of callees.NotDeclared = NotDeclared
+callee_of callees.NoFunction = NoFunction
+callee_of (callees.Function number) = IsFunction number

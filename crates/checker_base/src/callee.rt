@@ -4,8 +4,7 @@ ghost use Rattle.std.specs.Prelude.{◌≡◌, map};
 ghost use Rattle.type_table.specs.Views.{yield_of};
 ghost use Rattle.type_table.specs.Visible.{types_of, globals_in, scope_of};
 ghost use Rattle.typing_rules.specs.Calls.{callee, is_other, parameters_of, result_of};
-ghost use Rattle.checker_base.specs.Givens.{callee_of};
-ghost use Rattle.checker_base.specs.Views.{known_kind};
+ghost use Rattle.checker_base.specs.Views.{callee_of, known_kind};
 
 use syntax::NodeId;
 use type_table::layout::{function_number, number_of};

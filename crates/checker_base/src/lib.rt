@@ -1,14 +1,12 @@
-//! What expressions are worth to the typing rules, what is wrong with them, and where their values go.
+//! What expressions are worth to the typing rules, and what is wrong with them.
 #![tactic(auto)]
 
 pub mod callee;
 pub mod constant;
 pub(crate) mod form;
-pub mod given;
 pub mod misuse;
 pub mod operand;
 pub(crate) mod operator;
-pub mod place;
 pub mod refusal;
 pub mod value;
 pub(crate) mod wanted;

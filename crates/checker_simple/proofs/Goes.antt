@@ -1,5 +1,5 @@
--- A value goes to a variable of a type, or to one that takes its type.
-use Rattle.std.proofs.Common.{◌≡◌, ℕ, suc, true, false, inl, inr, List, ◌∷◌, Option, Some, None}
+-- A value goes to a place or a variable of a type, or to one that takes its type.
+use Rattle.std.proofs.Common.{◌≡◌, ℕ, suc, Bool, true, false, inl, inr, List, ◌∷◌, Option, Some, None}
 use Rattle.std.specs.Option.{is_none}
 use Rattle.typing_rules.specs.declared.flaw.Flaw.{Flaw}
 use Rattle.type_table.specs.Types.{ValueType}
@@ -7,6 +7,10 @@ use Rattle.type_table.specs.Scopes.{Variable}
 use Rattle.typing_rules.specs.Worths.{kind_of}
 use Rattle.typing_rules.specs.Operations.{Given, GoesHas}
 use Rattle.typing_rules.specs.Simples.{AllFail}
+
+-- what is wrong where a value goes to a place depends on the place alone
+pub goes-same : (free same : Bool) → free ≡ same → (k l : Option ValueType) → k ≡ l → (g : Given) (f : Flaw) → GoesHas free g k f → GoesHas same g l f
+goes-same free same e k l d g f h = rw (e, d) at h
 
 -- a value goes to a variable that there is, or to one that takes its type
 pub own-known : (o : Option Variable) (v : Variable) → o ≡ Some v → (k : Option ValueType) → v.kind ≡ k → (g : Given) (f : Flaw) → GoesHas false g k f → GoesHas (is_none o) g (kind_of o) f

@@ -15,7 +15,7 @@ use Rattle.checker_base.specs.Views.{Refuses}
 use Rattle.typing_rules.specs.Operations.{Given, given, RightHas, PlacesHave}
 use Rattle.typing_rules.specs.Simples.{AssignedHave, NamesHave, NamesFail, UntypedHave, AllFail, TypedHave, VariablesHave, IfRightHas, with_defined, SimpleHas, TypedVariablesHave, UntypedVariablesHave}
 use Rattle.typing_rules.proofs.Defaults.{defaults_fail, names_fail, none_own}
-use Rattle.checker_base.specs.Givens.{places_at}
+use Rattle.checker_simple.specs.Givens.{places_at}
 use Rattle.checker_simple.specs.Names.{names_at}
 use Rattle.checker_simple.proofs.Anywhere.{defined-anywhere}
 

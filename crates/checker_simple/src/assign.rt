@@ -7,11 +7,11 @@ ghost use Rattle.type_table.specs.Visible.{types_of, globals_in, scope_of};
 ghost use Rattle.typing_rules.specs.declared.flaw.Flaw.{Flaw as OneFlaw};
 ghost use Rattle.typing_rules.specs.Operations.{Given as OneGiven};
 ghost use Rattle.checker_base.specs.Views.{Refuses};
-ghost use Rattle.checker_base.specs.Givens.{given_of, places_at, places_in, source_of};
+ghost use Rattle.checker_simple.specs.Givens.{given_of, places_at, places_in, source_of};
 ghost use Rattle.typing_rules.specs.Simples.{AssignedHave, SimpleHas};
 
-use checker_base::given::{Given, Source, given_by, numbers_agree};
-use checker_base::place::{Targets, places, places_take, references};
+use crate::given::{Given, Source, given_by, numbers_agree};
+use crate::place::{Targets, places, places_take, references};
 use checker_base::refusal::Refusal;
 use std::alloc::Global;
 use syntax::{NodeId, PlaceNode};

@@ -7,12 +7,12 @@ ghost use Rattle.type_table.specs.Visible.{types_of, globals_in, scope_of, Keeps
 ghost use Rattle.typing_rules.specs.declared.flaw.Flaw.{Flaw as OneFlaw};
 ghost use Rattle.typing_rules.specs.Operations.{Given as OneGiven};
 ghost use Rattle.checker_base.specs.Views.{Refuses};
-ghost use Rattle.checker_base.specs.Givens.{given_of, source_of};
+ghost use Rattle.checker_simple.specs.Givens.{given_of, source_of};
 ghost use Rattle.checker_simple.specs.Names.{names_at, names_in};
 ghost use Rattle.typing_rules.specs.Simples.{NamesHave, with_defined, SimpleHas, after_simple};
 
+use crate::given::{Given, Source, given_by, numbers_agree};
 use crate::names::{Names, may_define, references, take_names};
-use checker_base::given::{Given, Source, given_by, numbers_agree};
 use checker_base::refusal::Refusal;
 use std::alloc::Global;
 use syntax::{Name, NodeId};

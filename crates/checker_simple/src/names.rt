@@ -12,10 +12,10 @@ ghost use Rattle.typing_rules.specs.Simples.{is_declarable, has_name, has_twice,
 ghost use Rattle.typing_rules.specs.Expressions.{default_type};
 ghost use Rattle.type_table.specs.Visible.{types_of, globals_in, variable_of, scope_of, Keeps};
 ghost use Rattle.checker_base.specs.Views.{Refuses, worth_of};
-ghost use Rattle.checker_base.specs.Givens.{given_of};
+ghost use Rattle.checker_simple.specs.Givens.{given_of};
 ghost use Rattle.checker_simple.specs.Names.{names_at, names_in};
 
-use checker_base::given::{fits, fits_any};
+use crate::given::{fits, fits_any};
 use checker_base::operand::Operand;
 use checker_base::refusal::Refusal;
 use go_text::Rule;

@@ -13,9 +13,9 @@ ghost use Rattle.typing_rules.specs.Worths.{Worth as OneWorth};
 ghost use Rattle.checker_base.specs.Views.{worth_of, IsSmall, Refuses};
 ghost use Rattle.typing_rules.specs.Simples.{UpdatedHas, StepHas, SimpleHas};
 
+use crate::place::read_place;
 use checker_base::misuse::{Operator, misused};
 use checker_base::operand::{Operand, checked};
-use checker_base::place::read_place;
 use checker_base::refusal::Refusal;
 use checker_base::value::value;
 use checker_base::worth::{Worth, binary_worth};

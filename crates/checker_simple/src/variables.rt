@@ -10,11 +10,11 @@ ghost use Rattle.typing_rules.specs.Simples.{AllFail, TypedHave, UntypedHave, If
 ghost use Rattle.type_table.specs.Views.{kind_of};
 ghost use Rattle.type_table.specs.Visible.{types_of, globals_in, scope_of, Keeps};
 ghost use Rattle.checker_base.specs.Views.{Refuses};
-ghost use Rattle.checker_base.specs.Givens.{given_of};
+ghost use Rattle.checker_simple.specs.Givens.{given_of};
 ghost use Rattle.checker_simple.specs.Names.{names_at};
 
+use crate::given::{Given, Source, fits, given_by, numbers_agree};
 use crate::names::{Names, may_declare, references, take_names};
-use checker_base::given::{Given, Source, fits, given_by, numbers_agree};
 use checker_base::operand::Operand;
 use checker_base::refusal::Refusal;
 use go_text::Rule;

@@ -12,15 +12,15 @@ ghost use Rattle.typing_rules.specs.Flaws.{IsBroken};
 ghost use Rattle.checker_base.specs.Views.{Refuses};
 ghost use Rattle.typing_rules.specs.Worths.{worth};
 ghost use Rattle.typing_rules.specs.Expressions.{element_of, TestHas};
-ghost use Rattle.checker_base.specs.Givens.{given_of};
+ghost use Rattle.checker_simple.specs.Givens.{given_of};
 ghost use Rattle.typing_rules.specs.Simples.{DefinedHave};
 ghost use Rattle.typing_rules.specs.Statements.{GuardHas, IfSimpleHas, IfTestHas, head_simple, after_any, TargetHas, RangedHas, item_given, after_target, TakenHas, ForClausesHave, ForHeadHas, after_for_head};
 
 use checker_base::operand::{Operand, checked};
-use checker_base::place::{place, place_takes};
 use checker_base::refusal::Refusal;
 use checker_base::value::{channel, is_condition};
 use checker_base::worth::Worth;
+use checker_simple::place::{place, place_takes};
 use checker_simple::simple::simple;
 use go_text::Rule;
 use std::alloc::Global;

@@ -7,13 +7,13 @@ use Rattle.bytecode.specs.Machine.{code_kind}
 use Rattle.bytecode.specs.Rules.{IsVerified}
 use Rattle.typing_rules.specs.Files.{IsTyped}
 use Rattle.meaning.specs.Source.{source_kind}
-use Rattle.codegen_base.specs.Grammar.{IsGrammatical, IsLimited}
+use Rattle.syntax.specs.Grammar.{IsGrammatical, IsLimited}
 use Rattle.codegen_base.specs.Program.{code_of}
 use Rattle.codegen_fine.proofs.Main.{typed_file}
 use Rattle.codegen_equal.proofs.Equal.{is_equal}
 
 pub compiled_equal : (file : File) (code : Code) → IsGrammatical file → IsTyped file → code ≡ code_of file → Equal (source_kind file) (code_kind code)
-compiled_equal file code grammatical typed is = subst (λ (c : Code). Equal (source_kind file) (code_kind c)) (sym is) (is_equal file grammatical.posts typed)
+compiled_equal file code grammatical typed is = subst (λ (c : Code). Equal (source_kind file) (code_kind c)) (sym is) (is_equal file grammatical.formed typed)
 
 pub compiled_verified : (file : File) (code : Code) → IsGrammatical file → IsLimited file → IsTyped file → code ≡ code_of file → IsVerified code
 compiled_verified file code grammatical limited typed is = subst IsVerified (sym is) (typed_file file grammatical limited typed)

@@ -5,7 +5,6 @@ ghost use Rattle.bytecode.specs.Machine.{code_kind};
 ghost use Rattle.bytecode.specs.Rules.{IsVerified};
 ghost use Rattle.checker.specs.Trees.{tree_in};
 ghost use Rattle.codegen.specs.Codes.{AreNamed};
-ghost use Rattle.codegen_base.specs.Grammar.{IsGrammatical, IsLimited};
 ghost use Rattle.meaning.specs.Source.{source_kind};
 ghost use Rattle.syntax.specs.Spans.{tree_of};
 ghost use Rattle.word.specs.Worlds.{Equal};
@@ -22,8 +21,6 @@ use std::alloc::Global;
 ///
 /// Errors: only `Memory`.
 pub fn compile(alloc: Global, typed: &Typed) -> Result<Code, Fault>
-    requires grammatical { IsGrammatical (tree_of (tree_in typed.now)) }
-    requires limited { IsLimited (tree_of (tree_in typed.now)) }
     ensures equal { IfOk result (λ code. Equal (source_kind (tree_of (tree_in typed.now))) (code_kind code)) }
     ensures verified { IfOk result IsVerified }
     ensures named { IfOk result (λ code. AreNamed (tree_of (tree_in typed.now)) code) }
@@ -37,8 +34,6 @@ pub fn compile(alloc: Global, typed: &Typed) -> Result<Code, Fault>
 ///
 /// Errors: only `Memory`.
 pub fn compile_marked(alloc: Global, typed: &Typed) -> Result<(Code, Marks), Fault>
-    requires grammatical { IsGrammatical (tree_of (tree_in typed.now)) }
-    requires limited { IsLimited (tree_of (tree_in typed.now)) }
     ensures equal { IfOk result (λ made. Equal (source_kind (tree_of (tree_in typed.now))) (code_kind made.0)) }
     ensures verified { IfOk result (λ made. IsVerified made.0) }
     ensures named { IfOk result (λ made. AreNamed (tree_of (tree_in typed.now)) made.0) }

@@ -7,7 +7,7 @@ use Rattle.typing_rules.specs.Statements.{head_simple}
 use Rattle.meaning.specs.Values.{known}
 use Rattle.codegen_base.specs.declared.element.Element.{Element}
 use Rattle.codegen_base.specs.Program.{noting, noting_expression, noting_values, noting_given, noting_value, noting_parts, noting_simple, noting_first, noting_head, noting_comm, noting_returned, noting_statement, noting_statements, noting_branch, noting_otherwise, noting_clauses}
-use Rattle.codegen_base.specs.Grammar.{StillAny, PostsStill, PostsAll, PostsBranch, PostsOtherwise, PostsClauses}
+use Rattle.syntax.specs.Grammar.{StillAny, FormedStatement, FormedAll, FormedBranch, FormedOtherwise, FormedClauses}
 use Rattle.codegen_base.proofs.Noted.{Noted, Grows, grows_on, noted_grows, type_noted}
 use Rattle.codegen_base.proofs.Makes.{makes_grows, make_grow, expression_grows, expression_makes, expressions_make}
 use Rattle.codegen_base.proofs.Noting.{given_grows, value_grows, parts_grow, first_grows, statements_grow, otherwise_grows, clauses_grow}
@@ -94,7 +94,7 @@ module _ (globals : Globals) (elements : List Element) where
   returned_makes (ReturnedValue value) some g = one_makes value some g
 
   mutual
-    statement_makes : (s : Statement) (some : List Element) → PostsStill s → Grown (noting_statement types s some) → Makes globals elements s
+    statement_makes : (s : Statement) (some : List Element) → FormedStatement s → Grown (noting_statement types s some) → Makes globals elements s
     statement_makes Empty some still g = tt
     statement_makes (Alone simple) some still g = simple_makes simple some g
     statement_makes (VarTyped names kind right) some still g =
@@ -115,12 +115,12 @@ module _ (globals : Globals) (elements : List Element) where
     statement_makes Break some still g = tt
     statement_makes Continue some still g = tt
 
-    pub all_make : (body : Statements) (some : List Element) → PostsAll body → Grown (noting_statements types body some) → AllMake globals elements body
+    pub all_make : (body : Statements) (some : List Element) → FormedAll body → Grown (noting_statements types body some) → AllMake globals elements body
     all_make NoStatement some still g = tt
     all_make (Then first rest) some still g =
         let one = noting_statement types first some in (statement_makes first some still.0 (grows_on one (noting_statements types rest one) elements (statements_grow types rest one) g), all_make rest one still.1 g)
 
-    branch_makes : (branch : Branch) (some : List Element) → PostsBranch branch → Grown (noting_branch types branch some) → BranchMakes globals elements branch
+    branch_makes : (branch : Branch) (some : List Element) → FormedBranch branch → Grown (noting_branch types branch some) → BranchMakes globals elements branch
     branch_makes (Conditional head condition body otherwise) some still g =
         let one = noting_first types (head_simple head) some in
         let two = noting_expression types condition one in
@@ -129,12 +129,12 @@ module _ (globals : Globals) (elements : List Element) where
         let g2 = grows_on two three elements (statements_grow types body two) g3 in
         (if_makes head some (grows_on one two elements (expression_grows types condition one) g2), one_makes condition one g2, all_make body two still.0 g3, otherwise_makes otherwise three still.1 g)
 
-    otherwise_makes : (otherwise : Otherwise) (some : List Element) → PostsOtherwise otherwise → Grown (noting_otherwise types otherwise some) → OtherwiseMakes globals elements otherwise
+    otherwise_makes : (otherwise : Otherwise) (some : List Element) → FormedOtherwise otherwise → Grown (noting_otherwise types otherwise some) → OtherwiseMakes globals elements otherwise
     otherwise_makes NoElse some still g = tt
     otherwise_makes (ElseBlock body) some still g = all_make body some still g
     otherwise_makes (ElseIf branch) some still g = branch_makes branch some still g
 
-    clauses_make : (clauses : Clauses) (some : List Element) → PostsClauses clauses → Grown (noting_clauses types clauses some) → ClausesMake globals elements clauses
+    clauses_make : (clauses : Clauses) (some : List Element) → FormedClauses clauses → Grown (noting_clauses types clauses some) → ClausesMake globals elements clauses
     clauses_make NoClause some still g = tt
     clauses_make (Clause comm body rest) some still g =
         let one = noting_comm types comm some in

@@ -21,7 +21,7 @@ use Rattle.codegen_base.specs.declared.element.Element.{Element}
 use Rattle.codegen_base.specs.Program.{made_function, functions_code, elements_of, code_of}
 use Rattle.codegen_base.proofs.Typing.{Free, broken, not_false}
 use Rattle.plan.specs.Plan.{table_count}
-use Rattle.codegen_base.specs.Grammar.{PostsTops}
+use Rattle.syntax.specs.Grammar.{FormedTops}
 use Rattle.codegen_fine.proofs.Main.{first_place, position_is, named_main, label_same, free_of}
 use Rattle.codegen_base.proofs.Near.{Near}
 use Rattle.codegen_follows.proofs.Matching.{SitsBehind, near_match}
@@ -62,7 +62,7 @@ code_main file = position_is (λ (f : CodeFunction). named_main f.name) (code_of
 
 -- ---- the theorem
 
-module _ (file : File) (free : Free (FileHas file)) (still : PostsTops file.tops) where
+module _ (file : File) (free : Free (FileHas file)) (still : FormedTops file.tops) where
   free_equal : Equal (source_kind file) (code_kind (code_of file))
   free_equal =
       let b = broken rules.Main (file_size file) (omega arith) in
@@ -78,5 +78,5 @@ module _ (file : File) (free : Free (FileHas file)) (still : PostsTops file.tops
       (subst (λ k. R (begun file (slice_get (functions file) n) []) (code_begin (code_of file) k [])) (sym target) (starts_near file free still (codes "main") n main.first main.plain)))
 
 -- the code of a file that the checker takes, where no post statement declares anything, is the same kind of goroutine
-pub is_equal : (file : File) → PostsTops file.tops → IsTyped file → Equal (source_kind file) (code_kind (code_of file))
+pub is_equal : (file : File) → FormedTops file.tops → IsTyped file → Equal (source_kind file) (code_kind (code_of file))
 is_equal file still typed = free_equal file (free_of file typed) still

@@ -16,7 +16,7 @@ use Rattle.meaning.specs.Tasks.{Frame, Frames}
 use Rattle.meaning.specs.Source.{globals, functions, entered_with, begun}
 use Rattle.meaning.proofs.FairTasks.{tasks_fair}
 use Rattle.codegen_base.specs.declared.element.Element.{Element}
-use Rattle.codegen_base.specs.Grammar.{PostsTops}
+use Rattle.syntax.specs.Grammar.{FormedTops}
 use Rattle.codegen_base.specs.Program.{result_of as made_result, elements_of, code_of}
 use Rattle.codegen_base.proofs.Likeness.{AreLike, all_words_of, kinds_long}
 use Rattle.codegen_base.proofs.Near.{Near, AllEntered, AllStarted}
@@ -32,7 +32,7 @@ use Rattle.codegen_equal.proofs.Located.{Located, located}
 use Rattle.codegen_equal.proofs.Passed.{kinds_size, split_words}
 use Rattle.codegen_equal.proofs.Began.{begins_sits}
 
-module _ (file : File) (free : Free (FileHas file)) (still : PostsTops file.tops) where
+module _ (file : File) (free : Free (FileHas file)) (still : FormedTops file.tops) where
   abbrev elements : List Element
   elements = elements_of file
 

@@ -20,7 +20,7 @@ use Rattle.codegen_base.proofs.Noting.{tops_grow}
 use Rattle.codegen_fine.proofs.Bodies.{prints_front, prints_back}
 use Rattle.codegen_fine.proofs.Wholes.{IsFine}
 use Rattle.codegen_fine.proofs.Programs.{AllFine}
-use Rattle.codegen_base.specs.Grammar.{PostsTops}
+use Rattle.syntax.specs.Grammar.{FormedTops}
 use Rattle.codegen_fine.proofs.Heads.{all_fine}
 use Rattle.codegen_fine.proofs.Structs.{grounds_of}
 
@@ -76,7 +76,7 @@ module _ (globals : Globals) (elements : List Element) (code : Code) (grounds : 
       (prints_back code prints m.prints more tables-of) left n (omega (arith, lt))
 
 -- each function of a file that the checker takes
-pub located : (file : File) (free : Free (FileHas file)) → PostsTops file.tops → (n : ℕ) → n < length (code_of file).functions
+pub located : (file : File) (free : Free (FileHas file)) → FormedTops file.tops → (n : ℕ) → n < length (code_of file).functions
     → Located (globals_of file.tops) (elements_of file) (code_of file) (grounds_of file free) (slice_get (functions_in file.tops) n) (slice_get (code_of file).functions n) (slice_get (globals_of file.tops).functions n)
 located file free still n lt =
     let globals = globals_of file.tops in

@@ -11,7 +11,7 @@ use Rattle.typing_rules.specs.Statements.{IfSimpleHas, IfTestHas, after_any}
 use Rattle.codegen_base.specs.declared.element.Element.{Element}
 use Rattle.codegen_base.specs.Layouts.{Layout, entering, leaving, behind_simple}
 use Rattle.codegen_base.specs.Generated.{Site, Made, followed, ended, loop, tests, test_plan, made_any, made_post, made_if, made_else}
-use Rattle.codegen_base.specs.Grammar.{IsStill, StillAny}
+use Rattle.syntax.specs.Grammar.{IsStill, StillAny}
 use Rattle.codegen_base.proofs.Alike.{Alike}
 use Rattle.codegen_base.proofs.StatementMakes.{OneMakes, SimpleMakes}
 use Rattle.codegen_base.proofs.Typing.{Free, nodes_end, worth_there}

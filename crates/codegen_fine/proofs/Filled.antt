@@ -22,7 +22,7 @@ use Rattle.codegen_base.specs.declared.element.Element.{Element}
 use Rattle.codegen_base.specs.declared.element.Element.TheVariants as elements
 use Rattle.codegen_base.specs.Elements.{word_kind, found_at, element_of, with_type, kinds_of, element_kinds}
 use Rattle.codegen_base.specs.Program.{elements_of, code_of}
-use Rattle.codegen_base.specs.Grammar.{AllNamed, NamedTops}
+use Rattle.syntax.specs.Grammar.{AllNamed, NamedTops}
 use Rattle.codegen_base.proofs.Fields.{AllWide}
 use Rattle.codegen_base.proofs.Typing.{Free, broken}
 use Rattle.codegen_fine.proofs.Keeping.{tops_keep}

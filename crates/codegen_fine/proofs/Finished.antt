@@ -10,7 +10,7 @@ use Rattle.meaning.specs.Values.{known}
 use Rattle.codegen_base.specs.declared.element.Element.{Element}
 use Rattle.codegen_base.specs.Pushes.{pushes_zeros}
 use Rattle.codegen_base.specs.Generated.{Site, Made, made_of, followed, result_kinds, finished, made_all, made_body}
-use Rattle.codegen_base.specs.Grammar.{PostsAll}
+use Rattle.syntax.specs.Grammar.{FormedAll}
 use Rattle.codegen_base.proofs.Alike.{Alike}
 use Rattle.codegen_base.proofs.StatementMakes.{AllMake}
 use Rattle.codegen_base.proofs.Typing.{Free}
@@ -62,7 +62,7 @@ module _ (globals : Globals) (elements : List Element) (code : Code) (f : CodeFu
           }
       go false is h = let m = made h in record { runs = m.runs; room = m.room; ends = is }
 
-    pub typed_body : (body : Statements) (site : Site) (s : Scope) (first : ℕ) → Room globals elements code f site.layout → Alike s site.layout.scope → PostsAll body → Free (StatementsHave setting s first body) → AllMake globals elements body
+    pub typed_body : (body : Statements) (site : Site) (s : Scope) (first : ℕ) → Room globals elements code f site.layout → Alike s site.layout.scope → FormedAll body → Free (StatementsHave setting s first body) → AllMake globals elements body
         → Fits globals elements code f grounds site.prints (made_body globals elements result site body) → IsBody (made_body globals elements result site body)
     typed_body body site s first room alike still free makes fits =
         typed_finished site.prints (made_all globals elements result site body) fits

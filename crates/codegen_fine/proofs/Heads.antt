@@ -14,7 +14,7 @@ use Rattle.typing_rules.specs.Kinds.{all_fields, fields_declared, yield_of, func
 use Rattle.meaning.specs.Values.{known}
 use Rattle.codegen_base.specs.declared.element.Element.{Element}
 use Rattle.codegen_base.specs.Program.{noting, noting_any, noting_declared, noting_statements, noting_top, noting_tops, elements_of, code_of}
-use Rattle.codegen_base.specs.Grammar.{PostsTops}
+use Rattle.syntax.specs.Grammar.{FormedTops}
 use Rattle.codegen_base.proofs.Noted.{Noted, Grows, grows_no, grows_on}
 use Rattle.codegen_base.proofs.Typing.{Free}
 use Rattle.codegen_fine.proofs.Operands.{Grounds}
@@ -51,7 +51,7 @@ module _ (globals : Globals) (elements : List Element) where
       subst (λ o. (o ≡ Some (known o)) × Noted elements (known o)) same (refl, written_noted globals.types elements nothing_declared written t (kind_noted globals elements written all g) is)
 
   module _ (code : Code) (grounds : Grounds globals elements code) where
-    pub all_fine : (tops : List Top) (names : List (List ℕ)) (number first : ℕ) → Free (HeadersHave globals.types names number first tops) → PostsTops tops → (all : List Element) → Grows (noting_tops globals.types tops all) elements → AllFine globals elements code grounds tops
+    pub all_fine : (tops : List Top) (names : List (List ℕ)) (number first : ℕ) → Free (HeadersHave globals.types names number first tops) → FormedTops tops → (all : List Element) → Grows (noting_tops globals.types tops all) elements → AllFine globals elements code grounds tops
     all_fine [] names number first free still all g = tt
     all_fine (StructTop struct ∷ rest) names number first free still all g = all_fine rest names number (first + top_size (StructTop struct)) (λ flaw h. free flaw (inr h)) still (noting_top globals.types (StructTop struct) all) g
     all_fine (FunctionTop function ∷ rest) names number first free still all g =
@@ -72,7 +72,7 @@ module _ (globals : Globals) (elements : List Element) where
         )
 
 -- the functions of the code of a file that the checker takes, no post statement of which declares anything
-pub file_holds : (file : File) → Grounds (globals_of file.tops) (elements_of file) (code_of file) → PostsTops file.tops → Free (FileHas file)
+pub file_holds : (file : File) → Grounds (globals_of file.tops) (elements_of file) (code_of file) → FormedTops file.tops → Free (FileHas file)
     → AllHold (code_of file) (code_of file).functions (code_of file).selects
 file_holds file grounds still free =
     file_functions file grounds

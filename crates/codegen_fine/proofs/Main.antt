@@ -24,7 +24,7 @@ use Rattle.codegen_base.specs.declared.element.Element.{Element}
 use Rattle.codegen_base.specs.Layouts.{empty, with_parameters}
 use Rattle.codegen_base.specs.Program.{label, result_of, made_function, function_code, functions_code, elements_of, code_of}
 use Rattle.codegen_base.specs.Generated.{result_kinds}
-use Rattle.codegen_base.specs.Grammar.{IsGrammatical, IsLimited}
+use Rattle.syntax.specs.Grammar.{IsGrammatical, IsLimited}
 use Rattle.codegen_base.proofs.Typing.{Free, broken, not_false}
 use Rattle.plan.specs.Plan.{table_count}
 use Rattle.codegen_fine.proofs.Structs.{wide_of, grounds_of, file_verified}
@@ -157,7 +157,7 @@ limited file most SelectClauses = most.1
 -- the code of a file that the checker takes keeps the verifier's rules
 pub typed_file : (file : File) → IsGrammatical file → IsLimited file → IsTyped file → IsVerified (code_of file)
 typed_file file grammatical most typed =
-    let still = grammatical.posts in
+    let still = grammatical.formed in
     let named = grammatical.named in
     let free = free_of file typed in
     let wide = wide_of file free in

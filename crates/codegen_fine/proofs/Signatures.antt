@@ -23,7 +23,7 @@ use Rattle.codegen_base.specs.Layouts.{Layout, declaring, with_parameters}
 use Rattle.codegen_base.specs.Pushes.{pushes_zeros}
 use Rattle.codegen_base.specs.Program.{noting_any, noting_declared, noting_statements, noting_top, noting_tops, result_of, first_layout, made_function, function_code, functions_code, elements_of, code_of}
 use Rattle.codegen_base.specs.Generated.{Site, made_of, made_all, result_kinds}
-use Rattle.codegen_base.specs.Grammar.{PostsTops}
+use Rattle.syntax.specs.Grammar.{FormedTops}
 use Rattle.codegen_base.proofs.Called.{KindsKnown}
 use Rattle.codegen_base.proofs.Noted.{Noted, Grows, grows_no, grows_on}
 use Rattle.codegen_base.proofs.Typing.{Free}
@@ -123,5 +123,5 @@ functions_of file free =
       at n = heads_are (globals_of file.tops) (elements_of file) file.tops (function_names file.tops) 0 0 0 0 (λ flaw h. free flaw (inl (inr h))) [] (grows_no (elements_of file)) n
 
 -- the functions of the code of a file that the checker takes, no post statement of which declares anything
-pub file_keeps : (file : File) → Grounds (globals_of file.tops) (elements_of file) (code_of file) → PostsTops file.tops → Free (FileHas file) → AllHold (code_of file) (code_of file).functions (code_of file).selects
+pub file_keeps : (file : File) → Grounds (globals_of file.tops) (elements_of file) (code_of file) → FormedTops file.tops → Free (FileHas file) → AllHold (code_of file) (code_of file).functions (code_of file).selects
 file_keeps file grounds still free = file_holds file grounds still free

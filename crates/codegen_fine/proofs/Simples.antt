@@ -8,7 +8,7 @@ use Rattle.typing_rules.specs.Simples.{SimpleHas, after_simple}
 use Rattle.codegen_base.specs.declared.element.Element.{Element}
 use Rattle.codegen_base.specs.Layouts.{Layout, behind_simple}
 use Rattle.codegen_base.specs.Statements.{printed_part, simple_prints, simple_plan}
-use Rattle.codegen_base.specs.Grammar.{IsStill}
+use Rattle.syntax.specs.Grammar.{IsStill}
 use Rattle.codegen_base.proofs.Alike.{Alike}
 use Rattle.codegen_base.proofs.StatementMakes.{SimpleMakes}
 use Rattle.codegen_base.proofs.Typing.{Free}

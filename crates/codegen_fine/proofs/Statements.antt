@@ -15,7 +15,7 @@ use Rattle.meaning.specs.Values.{known}
 use Rattle.codegen_base.specs.declared.element.Element.{Element}
 use Rattle.codegen_base.specs.Layouts.{Layout}
 use Rattle.codegen_base.specs.Generated.{Site, Made, at, past, made_of, followed, ended, inside, loop, test_plan, made_any, made_post, made_else, item_site, with_way, comm_kinds, made_comm, made_select, made_ways, made_default, within_select, unless_ended, made, made_all, made_branch, made_otherwise}
-use Rattle.codegen_base.specs.Grammar.{PostsStill, PostsAll, PostsBranch, PostsOtherwise, PostsClauses}
+use Rattle.syntax.specs.Grammar.{FormedStatement, FormedAll, FormedBranch, FormedOtherwise, FormedClauses}
 use Rattle.codegen_base.proofs.Alike.{Alike, alike_entered, alike_left, type_alike}
 use Rattle.codegen_base.proofs.Noted.{Noted}
 use Rattle.codegen_base.proofs.StatementMakes.{OneMakes, SimpleMakes, IfHeadMakes, Makes, AllMake, BranchMakes, OtherwiseMakes, ClausesMake}
@@ -120,7 +120,7 @@ module _ (globals : Globals) (elements : List Element) (code : Code) (f : CodeFu
 
   module _ (ranges : RangesHold) where
     mutual
-      pub typed_statement : (statement : Statement) (site : Site) (s : Scope) (breaks continues : Bool) (first : ℕ) → R site.layout → Alike s site.layout.scope → PostsStill statement → Free (StatementHas (setting breaks continues) s first statement) → Makes globals elements statement
+      pub typed_statement : (statement : Statement) (site : Site) (s : Scope) (breaks continues : Bool) (first : ℕ) → R site.layout → Alike s site.layout.scope → FormedStatement statement → Free (StatementHas (setting breaks continues) s first statement) → Makes globals elements statement
           → F site.prints (made globals elements result site statement) → MA (allowed breaks continues) (made globals elements result site statement) (after globals s statement)
       typed_statement Empty site s b c first room alike still free makes fits = (record { runs = λ place tabled. refl; room = room }, alike)
       typed_statement (Alone simple) site s b c first room alike still free makes fits =
@@ -200,7 +200,7 @@ module _ (globals : Globals) (elements : List Element) (code : Code) (f : CodeFu
       typed_statement Continue site s b c first room alike still free makes fits =
           let x = broken rules.Branch (first + 1) (omega arith) in (record { runs = λ place tabled. (not_false c (λ e. free x.0 (e, x.1)), refl); room = room }, alike)
 
-      pub typed_statements : (body : Statements) (site : Site) (s : Scope) (breaks continues : Bool) (first : ℕ) → R site.layout → Alike s site.layout.scope → PostsAll body → Free (StatementsHave (setting breaks continues) s first body) → AllMake globals elements body
+      pub typed_statements : (body : Statements) (site : Site) (s : Scope) (breaks continues : Bool) (first : ℕ) → R site.layout → Alike s site.layout.scope → FormedAll body → Free (StatementsHave (setting breaks continues) s first body) → AllMake globals elements body
           → F site.prints (made_all globals elements result site body) → M (allowed breaks continues) (made_all globals elements result site body)
       typed_statements NoStatement site s b c first room alike still free makes fits = record { runs = λ place tabled. refl; room = room }
       typed_statements (Then statement rest) site s b c first room alike still free makes fits =
@@ -210,7 +210,7 @@ module _ (globals : Globals) (elements : List Element) (code : Code) (f : CodeFu
           (λ h. typed_statement statement site s b c first room alike still.0 (λ flaw x. free flaw (inl x)) makes.0 h)
           (λ h m. typed_statements rest (past site one) (after globals s statement) b c (first + statement_size statement) m.0.room m.1 still.1 (λ flaw x. free flaw (inr x)) makes.1 h)
 
-      pub typed_branch : (branch : Branch) (site : Site) (s : Scope) (breaks continues : Bool) (first : ℕ) → R site.layout → Alike s site.layout.scope → PostsBranch branch → Free (BranchHas (setting breaks continues) s first branch) → BranchMakes globals elements branch
+      pub typed_branch : (branch : Branch) (site : Site) (s : Scope) (breaks continues : Bool) (first : ℕ) → R site.layout → Alike s site.layout.scope → FormedBranch branch → Free (BranchHas (setting breaks continues) s first branch) → BranchMakes globals elements branch
           → F site.prints (made_branch globals elements result site branch) → MA (allowed breaks continues) (made_branch globals elements result site branch) (after_branch globals s branch)
       typed_branch (Conditional head condition body otherwise) site s b c first room alike still free makes fits =
           let simple = head_simple head in
@@ -234,7 +234,7 @@ module _ (globals : Globals) (elements : List Element) (code : Code) (f : CodeFu
           let o = typed_otherwise otherwise behind h next condition (first + if_head_size head) (λ flaw x. free flaw (inl (inr x))) makes.1 so b c (block + statements_size body + 1) top.0.room top.1 so-made (alike_left h header.layout.scope (after_all globals (entered h) body) inner.layout.scope top.1) still.1 (λ flaw x. free flaw (inr (inr x))) makes.3 other-fits in
           blocked (allowed b c) site.layout (followed header other) s (after_otherwise globals next otherwise) room alike (made_followed globals elements code f grounds (allowed b c) header other top.0 o)
 
-      typed_otherwise : (otherwise : Otherwise) (site : Site) (h s : Scope) (condition : Expression) (at : ℕ) → Free (TestHas globals h at condition) → OneMakes globals elements condition → (so : Made) (breaks continues : Bool) (first : ℕ) → R site.layout → Alike h site.layout.scope → M (allowed breaks continues) so → Alike s so.layout.scope → PostsOtherwise otherwise
+      typed_otherwise : (otherwise : Otherwise) (site : Site) (h s : Scope) (condition : Expression) (at : ℕ) → Free (TestHas globals h at condition) → OneMakes globals elements condition → (so : Made) (breaks continues : Bool) (first : ℕ) → R site.layout → Alike h site.layout.scope → M (allowed breaks continues) so → Alike s so.layout.scope → FormedOtherwise otherwise
           → Free (OtherwiseHas (setting breaks continues) s first otherwise) → OtherwiseMakes globals elements otherwise → F site.prints (made_otherwise globals elements result site condition so otherwise) → M (allowed breaks continues) (made_otherwise globals elements result site condition so otherwise)
       typed_otherwise NoElse site h s condition at test tested so b c first room alike m so-alike still free makes fits = runs_if globals elements code f grounds site.layout room h alike.named result condition at test tested (allowed b c) so m
       typed_otherwise (ElseBlock body) site h s condition at test tested so b c first room alike m so-alike still free makes fits =
@@ -250,7 +250,7 @@ module _ (globals : Globals) (elements : List Element) (code : Code) (f : CodeFu
           let n = typed_branch branch behind s b c first m.room so-alike still free makes (fits_else site.prints site.layout condition so other fits) in
           runs_else globals elements code f grounds site.layout room h alike.named result condition at test tested (allowed b c) so other m n.0
 
-      typed_ways : (clauses : Clauses) (site : Site) (layout : Layout) (outer : R layout) (base s : Scope) → Sees s layout.scope → (breaks continues : Bool) (first : ℕ) → R site.layout → Alike base site.layout.scope → Alike s site.layout.scope → PostsClauses clauses → Free (ClausesHave (setting breaks continues) s first clauses)
+      typed_ways : (clauses : Clauses) (site : Site) (layout : Layout) (outer : R layout) (base s : Scope) → Sees s layout.scope → (breaks continues : Bool) (first : ℕ) → R site.layout → Alike base site.layout.scope → Alike s site.layout.scope → FormedClauses clauses → Free (ClausesHave (setting breaks continues) s first clauses)
           → ClausesMake globals elements clauses → (default : Site → Option Made) → ((behind : Site) → IfSome (default behind) (λ m. Longer behind.layout m.layout))
           → ((behind : Site) → R behind.layout → Alike base behind.layout.scope → FO behind.prints (default behind) → WF layout outer base NoClause (in_select (allowed breaks continues)) (default behind)) → FO site.prints (made_ways globals elements result site default clauses)
           → WF layout outer base clauses (in_select (allowed breaks continues)) (made_ways globals elements result site default clauses)
@@ -285,7 +285,7 @@ module _ (globals : Globals) (elements : List Element) (code : Code) (f : CodeFu
           (typed_ways more (past site one) layout outer base (left s ended-scope) sees b c (first + comm_size comm + statements_size body + 1) (room_leaving globals elements code f site.layout inner.layout room m.room) (alike_right base site.layout.scope inner.layout.scope seen) (alike_left s site.layout.scope ended-scope inner.layout.scope alike) still.1
           (λ flaw h. free flaw (inr (inr h))) makes.2 default grows last parts.1)
 
-      typed_default : (clauses : Clauses) (site : Site) (layout : Layout) (outer : R layout) (base s : Scope) (breaks continues : Bool) (first : ℕ) → R site.layout → Alike base site.layout.scope → Alike s site.layout.scope → PostsClauses clauses → Free (ClausesHave (setting breaks continues) s first clauses) → ClausesMake globals elements clauses → FO site.prints (made_default globals elements result site clauses) → WF layout outer base NoClause (in_select (allowed breaks continues)) (made_default globals elements result site clauses)
+      typed_default : (clauses : Clauses) (site : Site) (layout : Layout) (outer : R layout) (base s : Scope) (breaks continues : Bool) (first : ℕ) → R site.layout → Alike base site.layout.scope → Alike s site.layout.scope → FormedClauses clauses → Free (ClausesHave (setting breaks continues) s first clauses) → ClausesMake globals elements clauses → FO site.prints (made_default globals elements result site clauses) → WF layout outer base NoClause (in_select (allowed breaks continues)) (made_default globals elements result site clauses)
       typed_default NoClause site layout outer base s b c first room seen alike still free makes fits = refl
       typed_default (Clause None body more) site layout outer base s b c first room seen alike still free makes fits =
           let inner = made_all globals elements result (inside site) body in

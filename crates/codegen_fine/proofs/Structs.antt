@@ -20,7 +20,7 @@ use Rattle.meaning.specs.Values.{known}
 use Rattle.codegen_base.specs.declared.element.Element.{Element}
 use Rattle.codegen_base.specs.Elements.{word_kind, kinds_of, shape_of, shapes_of}
 use Rattle.codegen_base.specs.Program.{noting_top, noting_tops, elements_of, code_of}
-use Rattle.codegen_base.specs.Grammar.{PostsTops}
+use Rattle.syntax.specs.Grammar.{FormedTops}
 use Rattle.codegen_base.proofs.Fields.{AllWide, AllTyped}
 use Rattle.codegen_base.proofs.Known.{FieldsNoted}
 use Rattle.codegen_base.proofs.Noted.{Noted, Grows, grows_no, grows_on, shape_there}
@@ -129,5 +129,5 @@ grounds_of file free =
     }
 
 -- the functions of the code of a file that the checker takes, where no post statement declares anything
-pub file_verified : (file : File) → PostsTops file.tops → Free (FileHas file) → AllHold (code_of file) (code_of file).functions (code_of file).selects
+pub file_verified : (file : File) → FormedTops file.tops → Free (FileHas file) → AllHold (code_of file) (code_of file).functions (code_of file).selects
 file_verified file still free = file_keeps file (grounds_of file free) still free

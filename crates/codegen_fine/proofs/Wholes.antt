@@ -15,7 +15,7 @@ use Rattle.codegen_base.specs.Layouts.{Layout, empty, declaring, with_parameters
 use Rattle.codegen_base.specs.Pushes.{pushes_zeros}
 use Rattle.codegen_base.specs.Program.{noting_statements, result_of, first_layout, made_function, function_code}
 use Rattle.codegen_base.specs.Generated.{Site, made_of, made_all, result_kinds}
-use Rattle.codegen_base.specs.Grammar.{PostsAll}
+use Rattle.syntax.specs.Grammar.{FormedAll}
 use Rattle.codegen_base.proofs.Alike.{Alike, alike_refl, alike_declared}
 use Rattle.codegen_base.proofs.Noted.{Noted, Grows}
 use Rattle.codegen_base.proofs.Making.{all_make}
@@ -60,7 +60,7 @@ module _ (globals : Globals) (elements : List Element) where
         pub takes : ParametersFine (fields_declared globals.types function.parameters)
         pub known_kind : (kind : Option ValueType) → result_of globals elements function ≡ Yields kind → kind ≡ Some (known kind)
         pub noted : (kind : Option ValueType) → result_of globals elements function ≡ Yields kind → Noted elements (known kind)
-        pub still : PostsAll function.body
+        pub still : FormedAll function.body
 
       pub typed_function : (function : Function) → IsFine function → (prints selects first : ℕ) → Free (BodyHas globals first function) → (all : List Element) → Grows (noting_statements globals.types function.body all) elements
           → Prints code prints (made_function globals elements prints selects function).prints → (rest : List SelectTable) → drop selects code.selects ≡ tables 0 (made_function globals elements prints selects function).plan ++ rest

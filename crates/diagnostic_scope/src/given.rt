@@ -4,8 +4,8 @@ use crate::number::{after, expression_end, type_end};
 use crate::scene::Scene;
 use crate::unit::{Found, Unit};
 use checker_base::operand::worth;
-use checker_base::place::place;
 use checker_base::worth::Worth;
+use checker_simple::place::place;
 use std::alloc::Global;
 use syntax::{
     BinaryOperator, CommNode, ExpressionNode, Name, NodeId, PartNode, PlaceNode, RangeTarget,

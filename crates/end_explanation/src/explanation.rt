@@ -1,9 +1,6 @@
 //! The explanation of an end.
 
 ghost use Rattle.std.specs.Prelude.{◌≤◌, ◌^◌};
-ghost use Rattle.checker.specs.Trees.{tree_in};
-ghost use Rattle.codegen_base.specs.Grammar.{IsGrammatical, IsLimited};
-ghost use Rattle.syntax.specs.Spans.{tree_of};
 
 use crate::scene::{Report, Scene};
 use crate::second_run::Moment;
@@ -35,8 +32,6 @@ pub fn end_explanation(
     cause: &str,
 ) -> Result<Vec<u8>, Memory>
     requires limit { (1 ≤ limit) × (limit ≤ 2 ^ 62) }
-    requires grammatical { IsGrammatical (tree_of (tree_in typed.now)) }
-    requires limited { IsLimited (tree_of (tree_in typed.now)) }
 {
     let Ok((program, map)) = compiled(alloc, typed) else {
         return Err(Memory);
@@ -55,10 +50,7 @@ pub fn end_explanation(
 }
 
 /// The verified code of a checked program, and what its instructions come from.
-fn compiled(alloc: Global, typed: &Typed) -> Result<(Arc<Verified>, StatementMap), Fault>
-    requires grammatical { IsGrammatical (tree_of (tree_in typed.now)) }
-    requires limited { IsLimited (tree_of (tree_in typed.now)) }
-{
+fn compiled(alloc: Global, typed: &Typed) -> Result<(Arc<Verified>, StatementMap), Fault> {
     let (code, marks) = compile_marked(alloc, typed)?;
     let map = StatementMap::new(alloc, typed.tree(), &code, &marks)?;
     let verified = verify(alloc, code)?;

@@ -3,7 +3,6 @@
 ghost use Rattle.std.specs.Prelude.{◌≡◌, ◌⊎◌, IfErr, IfOk, IsErrOf, true};
 ghost use Rattle.bytecode.specs.Machine.{code_kind};
 ghost use Rattle.checker.specs.Trees.{tree_in};
-ghost use Rattle.codegen_base.specs.Grammar.{IsGrammatical, IsLimited};
 ghost use Rattle.meaning.specs.Source.{source_kind};
 ghost use Rattle.whole_run.specs.Runs.{BeginsOutput, IsLimit, IsWhole, IsWorkers};
 ghost use Rattle.syntax.specs.Spans.{tree_of};
@@ -33,8 +32,6 @@ pub(crate) fn run_typed<R: Threads + Wait + Sync, G: Gate + Sync, O: Write, T: T
 ) -> Result<End, Fault>
     requires workers { IsWorkers workers }
     requires limit { IsLimit limit }
-    requires grammatical { IsGrammatical (tree_of (tree_in typed.now)) }
-    requires lists { IsLimited (tree_of (tree_in typed.now)) }
     ensures begins { BeginsOutput (source_kind (tree_of (tree_in typed.now))) limit (O.contents out.old) (O.contents out.new) }
     ensures traces { BeginsTrace (source_kind (tree_of (tree_in typed.now))) limit (T.contents trace.old) (T.contents trace.new) }
     ensures whole { IfOk result (λ end. IsWhole (source_kind (tree_of (tree_in typed.now))) limit (O.contents out.old) (O.contents out.new) end) }

@@ -15,7 +15,6 @@ use word::{Write, write_all};
 /// Writes the listing of the code that a text is compiled to. A text without a reading is refused before anything is written.
 ///
 /// Errors: by the numbers 1 to 10 why it is none, with line and column; `Memory`; `Write`.
-#[tactic(auto, using(kendo_reading::proofs::Spelled::grammatical, kendo_reading::proofs::Spelled::limited))]
 pub fn list_bytes<O: Write>(alloc: Global, bytes: Vec<u8>, out: &mut O) -> Result<(), Fault>
     ensures refused { IfErr result (λ fault. IsRefusal fault → HasNoReading bytes.items) }
     ensures why { IfErr result (λ fault. IsRefusal fault → IsWhy bytes.items fault) }

@@ -8,7 +8,6 @@ ghost use Rattle.recorder.specs.Recorded.{Shows};
 ghost use Rattle.whole_run.specs.Runs.{IsLimit};
 ghost use Rattle.syntax.specs.Tree.{File};
 ghost use Rattle.word.specs.Views.{event_of};
-ghost use Rattle.codegen_base.specs.Grammar.{IsGrammatical, IsLimited};
 ghost use Rattle.checker.specs.Trees.{tree_in};
 ghost use Rattle.syntax.specs.Spans.{tree_of};
 
@@ -49,7 +48,6 @@ pub fn timeline_bytes(
 /// keeps no more events in memory while the program runs, however many there are.
 ///
 /// Errors: by the numbers 1 to 10 why the source file is no program, with line and column; `Memory`; `BadLimit`.
-#[tactic(auto, using(kendo_reading::proofs::Spelled::grammatical, kendo_reading::proofs::Spelled::limited))]
 pub fn timeline_window(
     alloc: Global,
     bytes: Vec<u8>,
@@ -84,8 +82,6 @@ fn recorded(
     most: usize,
 ) -> Result<Recording, Fault>
     requires limit { IsLimit limit }
-    requires grammatical { IsGrammatical (tree_of (tree_in typed.now)) }
-    requires lists { IsLimited (tree_of (tree_in typed.now)) }
     ensures recorded { IfOk result (λ made. IsWindow (source_kind (tree_of (tree_in typed.now))) limit made.before (map event_of made.events.items) made.end) }
     ensures shows { IfOk result (λ made. Shows window most made.before (length made.events.items) made.end) }
     ensures few { IfOk result (λ made. length made.events.items ≤ most) }

@@ -37,7 +37,6 @@ pub fn explain_end(
 }
 
 /// Like `explain_end`, of a run with a panic for this cause, or with no panic.
-#[tactic(auto, using(kendo_reading::proofs::Spelled::grammatical, kendo_reading::proofs::Spelled::limited))]
 fn explain(
     alloc: Global,
     path: &str,

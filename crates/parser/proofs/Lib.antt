@@ -6,3 +6,4 @@ pub mod Sizes
 pub mod Counts
 pub mod Parsing
 pub mod Counting
+pub mod Spelled

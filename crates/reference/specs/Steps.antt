@@ -9,11 +9,11 @@ use Rattle.one_thread.specs.declared.interpreter.Step.{Step}
 use Rattle.one_thread.specs.declared.interpreter.Step.TheVariants as steps
 use Rattle.reference_value.specs.declared.given.Given.{Given}
 use Rattle.reference_value.specs.Stops.{all_given}
-use Rattle.reference_step.specs.declared.outcome.Course.{Course as Led}
-use Rattle.reference_step.specs.declared.outcome.Course.TheVariants as courses
-use Rattle.reference_step.specs.declared.task.Position.{Position}
-use Rattle.reference_step.specs.declared.task.Task.{Task}
-use Rattle.reference_step.specs.Tasks.{position_of, task_of, tasks_of}
+use Rattle.reference_task.specs.declared.outcome.Course.{Course as Led}
+use Rattle.reference_task.specs.declared.outcome.Course.TheVariants as courses
+use Rattle.reference_task.specs.declared.task.Position.{Position}
+use Rattle.reference_task.specs.declared.task.Task.{Task}
+use Rattle.reference_task.specs.Tasks.{position_of, task_of, tasks_of}
 
 -- the frame from which this task was taken
 abbrev pub frame_before : List (List ℕ) → Position → Task → List Given → Frame

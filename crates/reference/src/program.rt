@@ -6,7 +6,7 @@ ghost use Rattle.syntax.specs.Spans.{tree_of};
 ghost use Rattle.syntax.specs.View.{file_of};
 
 use checker::Typed;
-use reference_step::program::Program;
+use reference_task::program::Program;
 use std::alloc::{AllocError, Global};
 
 /// The program that a checked tree is.

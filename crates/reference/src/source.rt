@@ -4,8 +4,8 @@ use crate::begin::{begun, main_number};
 use crate::step::{answer, step};
 use go_text::Memory;
 use one_thread::{Interpreter, Step};
-use reference_step::program::Program;
-use reference_step::task::Frame;
+use reference_task::program::Program;
+use reference_task::task::Frame;
 use std::alloc::Global;
 use word::request::Reply;
 use word::value::Word;
@@ -20,7 +20,7 @@ impl<'t> Interpreter for Source<'t> {
     ghost use Rattle.syntax.specs.View.{file_of};
     ghost use Rattle.type_table.specs.Visible.{types_of};
     ghost use Rattle.meaning.specs.Tasks.{Frames};
-    ghost use Rattle.reference_step.specs.Tasks.{frames_of};
+    ghost use Rattle.reference_task.specs.Tasks.{frames_of};
     ghost use Rattle.reference.specs.Kinds.{source_parts};
 
     type State = Vec<Frame<'t>>;

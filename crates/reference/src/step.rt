@@ -6,18 +6,19 @@ ghost use Rattle.syntax.specs.View.{file_of};
 ghost use Rattle.type_table.specs.Visible.{types_of};
 ghost use Rattle.meaning.specs.Source.{enters, functions, give_back, needed, source_answer, source_next, task_work};
 ghost use Rattle.one_thread.specs.Steps.{Moves};
-ghost use Rattle.reference_value.specs.Stops.{need_of, values_of};
+ghost use Rattle.reference_scope.specs.Parts.{values_of};
+ghost use Rattle.reference_value.specs.Stops.{need_of};
 ghost use Rattle.reference_step.specs.Steps.{reached_at};
-ghost use Rattle.reference_step.specs.Tasks.{frame_of, frames_of, task_of};
+ghost use Rattle.reference_task.specs.Tasks.{frame_of, frames_of, task_of};
 ghost use Rattle.reference.specs.Steps.{Steps, frame_before, step_to};
 
 use crate::call::{entered, function_of};
 use go_text::Memory;
 use one_thread::Step;
-use reference_step::outcome::{Course, Outcome};
-use reference_step::program::Program;
-use reference_step::task::{Frame, Position, Task};
 use reference_step::work::work;
+use reference_task::outcome::{Course, Outcome};
+use reference_task::program::Program;
+use reference_task::task::{Frame, Position, Task};
 use reference_value::fault::Stop;
 use reference_value::given::{Given, Need};
 use std::alloc::{AllocError, Global};
@@ -27,7 +28,7 @@ use word::request::{Reply, Request};
 use word::value::Word;
 
 /// A call of the function with this number: at most 1,000 functions deep.
-#[tactic(auto, using(reference_value::proofs::Lasts::shown_last))]
+#[tactic(auto, using(reference_scope::proofs::Lasts::shown_last))]
 fn enters<'t>(
     alloc: Global,
     program: &Program<'t>,
@@ -66,7 +67,7 @@ fn needed<'t>(
 }
 
 /// A function returns these words to the one that called it, which waits last.
-#[tactic(auto, using(reference_value::proofs::Lasts::shown_last))]
+#[tactic(auto, using(reference_scope::proofs::Lasts::shown_last))]
 fn gives_back<'t>(
     program: &Program<'t>,
     frames: &mut Vec<Frame<'t>>,
@@ -110,7 +111,7 @@ fn restored<'t>(
 }
 
 /// The function that runs does its next task, behind which the others at `position` are to be done.
-#[tactic(auto, using(reference_value::proofs::Lasts::shown_last))]
+#[tactic(auto, using(reference_scope::proofs::Lasts::shown_last))]
 fn does<'t>(
     alloc: Global,
     program: &Program<'t>,
@@ -148,7 +149,7 @@ fn does<'t>(
 }
 
 /// The next step of a goroutine. One that asks stays as it is.
-#[tactic(auto, using(reference_value::proofs::Lasts::shown_last))]
+#[tactic(auto, using(reference_scope::proofs::Lasts::shown_last))]
 pub(crate) fn step<'t>(
     alloc: Global,
     program: &Program<'t>,
@@ -167,7 +168,7 @@ pub(crate) fn step<'t>(
 }
 
 /// A goroutine that asked gets this reply.
-#[tactic(auto, using(reference_value::proofs::Lasts::shown_last))]
+#[tactic(auto, using(reference_scope::proofs::Lasts::shown_last))]
 pub(crate) fn answer(frames: &mut Vec<Frame<'_>>, reply: Reply) -> Result<(), Memory>
     ensures { (types : List (List ℕ)) → OnOk result (frames_of types frames.new.items ≡ source_answer (frames_of types frames.old.items) (reply_of reply)) }
 {

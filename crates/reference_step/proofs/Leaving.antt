@@ -4,11 +4,11 @@ use Rattle.syntax.specs.Tree.{Branch, Conditional}
 use Rattle.syntax.specs.View.{branch_of}
 use Rattle.meaning.specs.Tasks.{Task as OneTask, broken, continued, frame}
 use Rattle.meaning.specs.Variables.{Blocks, left}
-use Rattle.reference_step.specs.declared.task.Loop.{Loop}
-use Rattle.reference_step.specs.declared.task.Task.{Task}
-use Rattle.reference_step.specs.declared.task.Task.TheVariants as tasks
-use Rattle.reference_step.specs.Tasks.{decided, task_of, tasks_of}
-use Rattle.reference_value.proofs.Lasts.{shown_last}
+use Rattle.reference_task.specs.declared.task.Loop.{Loop}
+use Rattle.reference_task.specs.declared.task.Task.{Task}
+use Rattle.reference_task.specs.declared.task.Task.TheVariants as tasks
+use Rattle.reference_task.specs.Tasks.{decided, task_of, tasks_of}
+use Rattle.reference_scope.proofs.Lasts.{shown_last}
 
 -- neither the end of a block or of a select, nor that of a loop's body
 record IsOver (task : Task) : Type 0 where

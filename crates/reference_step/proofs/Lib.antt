@@ -1,4 +1,2 @@
 pub mod Leaving
 pub mod Clauses
-pub mod Programs
-pub mod Bodies

@@ -9,14 +9,14 @@ use Rattle.meaning.specs.Worked.{Reached, Came, Fails, Needs, Worked}
 use Rattle.reference_value.specs.declared.fault.Stop.{Stop}
 use Rattle.reference_value.specs.declared.fault.Stop.TheVariants as stops
 use Rattle.reference_value.specs.declared.given.Given.{Given}
-use Rattle.reference_value.specs.Scopes.{blocks_of}
+use Rattle.reference_scope.specs.Scopes.{blocks_of}
 use Rattle.reference_value.specs.Stops.{all_given, need_of}
-use Rattle.reference_step.specs.declared.task.Position.{Position}
-use Rattle.reference_step.specs.declared.outcome.Course.{Course}
-use Rattle.reference_step.specs.declared.outcome.Course.TheVariants as courses
-use Rattle.reference_step.specs.declared.outcome.Outcome.{Outcome}
-use Rattle.reference_step.specs.declared.outcome.Outcome.TheVariants as outcomes
-use Rattle.reference_step.specs.Tasks.{position_of, tasks_of}
+use Rattle.reference_task.specs.declared.task.Position.{Position}
+use Rattle.reference_task.specs.declared.outcome.Course.{Course}
+use Rattle.reference_task.specs.declared.outcome.Course.TheVariants as courses
+use Rattle.reference_task.specs.declared.outcome.Outcome.{Outcome}
+use Rattle.reference_task.specs.declared.outcome.Outcome.TheVariants as outcomes
+use Rattle.reference_task.specs.Tasks.{position_of, tasks_of}
 
 -- what a task works out to, where these are the variables and these are to be done behind it
 abbrev pub Work : Type 0

@@ -5,10 +5,10 @@ ghost use Rattle.syntax.specs.Tree.{Alone};
 ghost use Rattle.syntax.specs.View.{body_of, simple_of};
 ghost use Rattle.meaning.specs.Tasks.{Do, EndBlock, all_of, broken, continued, frame};
 ghost use Rattle.meaning.specs.Variables.{entered};
-ghost use Rattle.reference_value.specs.Scopes.{blocks_of};
-ghost use Rattle.reference_step.specs.Tasks.{position_of, tasks_of};
+ghost use Rattle.reference_scope.specs.Scopes.{blocks_of};
+ghost use Rattle.reference_task.specs.Tasks.{position_of, tasks_of};
 
-use crate::task::{Position, Task};
+use reference_task::task::{Position, Task};
 use std::alloc::{AllocError, Global};
 use syntax::{SimpleNode, StatementNode};
 

@@ -5,13 +5,13 @@ ghost use Rattle.syntax.specs.View.{expression_of, name_of, type_of};
 ghost use Rattle.type_table.specs.Visible.{globals_in, types_of};
 ghost use Rattle.meaning.specs.Destinations.{all_defined, all_new, given_kinds, new};
 ghost use Rattle.meaning.specs.Expressions.{written_kind};
-ghost use Rattle.reference_value.specs.Destinations.{destinations_of};
-ghost use Rattle.reference_value.specs.Scopes.{blocks_of};
+ghost use Rattle.reference_scope.specs.Destinations.{destinations_of};
+ghost use Rattle.reference_scope.specs.Scopes.{blocks_of};
 
+use reference_scope::place::{Destination, all_defined, all_new, all_typed};
+use reference_scope::scope::Scope;
 use reference_value::callee::written_kind;
 use reference_value::kind::given_kinds;
-use reference_value::place::{Destination, all_defined, all_new, all_typed};
-use reference_value::scope::Scope;
 use std::alloc::{AllocError, Global};
 use syntax::{ExpressionNode, Name, TypeNode};
 use type_table::table::TypeTable;

@@ -5,21 +5,21 @@ ghost use Rattle.std.specs.Prelude.{◌≡◌, [], IfErr, IfOk, map, option_map}
 ghost use Rattle.syntax.specs.View.{body_of, clause_of, clauses, comm_of};
 ghost use Rattle.type_table.specs.Visible.{globals_in, types_of};
 ghost use Rattle.meaning.specs.Source.{at_clause, at_comm, at_default, cases_of, chosen, select_work};
-ghost use Rattle.reference_value.specs.Scopes.{blocks_of};
+ghost use Rattle.reference_scope.specs.Scopes.{blocks_of};
 ghost use Rattle.reference_value.specs.Stops.{Comes, Stops, given_of};
 ghost use Rattle.reference_step.specs.Selects.{default_in};
 ghost use Rattle.reference_step.specs.Steps.{Leads, Stays, course_of};
-ghost use Rattle.reference_step.specs.Tasks.{tasks_of};
+ghost use Rattle.reference_task.specs.Tasks.{tasks_of};
 
 use crate::clause::{case_of, comm_destinations, comm_zeros};
 use crate::loops::assigned;
-use crate::outcome::Course;
-use crate::program::Program;
-use crate::task::{Position, Task};
+use reference_scope::scope::Scope;
+use reference_scope::words::with_first;
+use reference_task::outcome::Course;
+use reference_task::program::Program;
+use reference_task::task::{Position, Task};
 use reference_value::fault::Stop;
 use reference_value::given::{Given, Need, given_words, needs, parted};
-use reference_value::scope::Scope;
-use reference_value::words::with_first;
 use std::alloc::{AllocError, Global};
 use syntax::{ClauseNode, CommNode, StatementNode};
 use type_table::table::TypeTable;

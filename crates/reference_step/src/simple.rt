@@ -11,22 +11,22 @@ ghost use Rattle.meaning.specs.Source.{gives, simple_work, updates, value_at};
 ghost use Rattle.meaning.specs.Tasks.{frame};
 ghost use Rattle.meaning.specs.Variables.{all_stored};
 ghost use Rattle.meaning.specs.Worked.{fails, ready};
-ghost use Rattle.reference_value.specs.Destinations.{destinations_of};
-ghost use Rattle.reference_value.specs.Scopes.{blocks_of};
+ghost use Rattle.reference_scope.specs.Destinations.{destinations_of};
+ghost use Rattle.reference_scope.specs.Scopes.{blocks_of};
 ghost use Rattle.reference_step.specs.Steps.{Leads, Stays};
-ghost use Rattle.reference_step.specs.Tasks.{position_of, tasks_of};
+ghost use Rattle.reference_task.specs.Tasks.{position_of, tasks_of};
 
-use crate::operand::{channel, item_in, printed, texts};
-use crate::outcome::Course;
 use crate::places::defined;
-use crate::program::Program;
-use crate::task::Position;
+use reference_scope::place::{Destination, all_placed, placed, store, value_at};
+use reference_scope::words::{between, settled, single, with_first, word_in};
+use reference_task::operand::{channel, item_in, printed, texts};
+use reference_task::outcome::Course;
+use reference_task::program::Program;
+use reference_task::task::Position;
 use reference_value::callee::number_of;
 use reference_value::fault::Stop;
 use reference_value::given::{Given, Need, needs};
-use reference_value::place::{Destination, all_placed, placed, store, value_at};
 use reference_value::value::{beside, right_values, values};
-use reference_value::words::{between, settled, single, with_first, word_in};
 use std::alloc::{AllocError, Global};
 use syntax::{
     ArgumentsNode, BinaryOperator, ExpressionNode, Name, PartNode, PlaceNode, SimpleNode,

@@ -10,13 +10,13 @@ ghost use Rattle.reference_step.specs.Steps.{Becomes, Leads, Stays, arrived, rea
 use crate::block::{block, go_on, leave};
 use crate::branch::branch;
 use crate::loops::for_loop;
-use crate::operand::append_words;
-use crate::outcome::{Course, Outcome};
-use crate::program::Program;
 use crate::select::select;
 use crate::simple::simple;
-use crate::task::Position;
 use crate::variables::{typed_values, untyped_values};
+use reference_task::operand::append_words;
+use reference_task::outcome::{Course, Outcome};
+use reference_task::program::Program;
+use reference_task::task::Position;
 use reference_value::fault::Stop;
 use reference_value::given::{Given, Need, needs};
 use reference_value::value::{value, values};

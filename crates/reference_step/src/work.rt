@@ -3,17 +3,17 @@
 ghost use Rattle.std.specs.Prelude.{◌≡◌, ◌∷◌, [], IfErr, IfOk};
 ghost use Rattle.meaning.specs.Source.{task_work};
 ghost use Rattle.reference_step.specs.Steps.{Becomes, Leads, Stays};
-ghost use Rattle.reference_step.specs.Tasks.{task_of};
+ghost use Rattle.reference_task.specs.Tasks.{task_of};
 ghost use Rattle.type_table.specs.Visible.{types_of};
 
 use crate::block::block;
 use crate::branch::{branch, decide};
 use crate::loops::{again, head};
-use crate::outcome::{Course, Outcome};
-use crate::program::Program;
 use crate::simple::simple;
 use crate::statement::statement;
-use crate::task::{Position, Task};
+use reference_task::outcome::{Course, Outcome};
+use reference_task::program::Program;
+use reference_task::task::{Position, Task};
 use reference_value::fault::Stop;
 use reference_value::given::Given;
 use std::alloc::Global;

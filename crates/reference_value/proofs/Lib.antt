@@ -1,6 +1,3 @@
-pub mod Lasts
-pub mod Newer
-pub mod Parts
 pub mod Names
 pub mod Types
 pub mod Rights

@@ -1,19 +1,14 @@
 -- What calls and requests gave, in memory, and what is known where evaluating comes to a value or stops.
 use Rattle.std.specs.Prelude.{◌≡◌, List, map}
-use Rattle.std.specs.Global.{Vec}
-use Rattle.word.specs.declared.value.Word.{Word}
 use Rattle.word.specs.Views.{request_of, reply_of}
-use Rattle.meaning.specs.Values.{Value}
 use Rattle.meaning.specs.Worked.{Given as OneGiven, Told, Yielded, Need as OneNeed, Asking, Calling, Worked, Came, Fails, Needs}
+use Rattle.reference_scope.specs.Parts.{values_of}
 use Rattle.reference_value.specs.declared.fault.Stop.{Stop}
 use Rattle.reference_value.specs.declared.fault.Stop.TheVariants as stops
 use Rattle.reference_value.specs.declared.given.Given.{Given}
 use Rattle.reference_value.specs.declared.given.Given.TheVariants as givens
 use Rattle.reference_value.specs.declared.given.Need.{Need}
 use Rattle.reference_value.specs.declared.given.Need.TheVariants as needs
-
-abbrev pub values_of : List (Vec Word) → List Value
-values_of all = map (λ (v : Vec Word). v.items) all
 
 abbrev pub given_of : Given → OneGiven
 given_of (givens.Told reply) = Told (reply_of reply)

@@ -9,9 +9,9 @@ ghost use Rattle.type_table.specs.Visible.{types_of, globals_in};
 ghost use Rattle.typing_rules.specs.Calls.{callee, is_other, result_of, result_type};
 ghost use Rattle.meaning.specs.Expressions.{number_of, written_kind};
 ghost use Rattle.meaning.specs.Variables.{scope_in};
-ghost use Rattle.reference_value.specs.Scopes.{blocks_of, variable_in};
+ghost use Rattle.reference_scope.specs.Scopes.{blocks_of, variable_in};
 
-use crate::scope::{Scope, Variable};
+use reference_scope::scope::{Scope, Variable};
 use syntax::TypeNode;
 use type_table::layout::{function_number, number_of as struct_number};
 use type_table::scope::{is_blank, is_reserved};

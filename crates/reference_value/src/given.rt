@@ -5,10 +5,11 @@ ghost use Rattle.word.specs.Views.{reply_of};
 ghost use Rattle.meaning.specs.Expressions.{told, told_one};
 ghost use Rattle.meaning.specs.Values.{first_of, parted, reply_words};
 ghost use Rattle.meaning.specs.Worked.{given_words, needs};
-ghost use Rattle.reference_value.specs.Stops.{Comes, Stops, given_of, need_of, values_of};
+ghost use Rattle.reference_scope.specs.Parts.{values_of};
+ghost use Rattle.reference_value.specs.Stops.{Comes, Stops, given_of, need_of};
 
 use crate::fault::{Stop, had};
-use crate::words::{single, with_first, words_like};
+use reference_scope::words::{single, with_first, words_like};
 use std::alloc::{AllocError, Global};
 use word::request::{Reply, Request};
 use word::value::{Item, Word};

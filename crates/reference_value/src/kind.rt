@@ -14,13 +14,13 @@ ghost use Rattle.meaning.specs.Destinations.{given_kinds};
 ghost use Rattle.meaning.specs.Expressions.{element_kind, written_kind, type_of as kind_meant};
 ghost use Rattle.meaning.specs.Values.{known};
 ghost use Rattle.reference_value.specs.Rights.{is_lone_receive};
-ghost use Rattle.reference_value.specs.Scopes.{blocks_of};
+ghost use Rattle.reference_scope.specs.Scopes.{blocks_of};
 
 use crate::callee::written_kind;
-use crate::scope::Scope;
-use crate::words::with_first;
 use crate::worth::worth;
 use checker_base::worth::Worth;
+use reference_scope::scope::Scope;
+use reference_scope::words::with_first;
 use std::alloc::{AllocError, Global};
 use syntax::{ExpressionNode, TypeNode};
 use type_table::table::TypeTable;

@@ -10,13 +10,14 @@ ghost use Rattle.word.specs.Views.{request_of};
 ghost use Rattle.meaning.specs.Expressions.{called, item_zeros, made, received, told_one, zero_result};
 ghost use Rattle.meaning.specs.Values.{first_of};
 ghost use Rattle.meaning.specs.Worked.{Asking, and_then, ready};
-ghost use Rattle.reference_value.specs.Stops.{Comes, Stops, values_of};
+ghost use Rattle.reference_scope.specs.Parts.{values_of};
+ghost use Rattle.reference_value.specs.Stops.{Comes, Stops};
 
 use crate::callee::result_of;
 use crate::fault::Stop;
 use crate::given::{Given, Need, first_of, told, told_one};
 use crate::kind::made_kind;
-use crate::words::{channel_in, single, with_first, word_in};
+use reference_scope::words::{channel_in, single, with_first, word_in};
 use std::alloc::{AllocError, Global};
 use syntax::TypeNode;
 use type_table::table::TypeTable;

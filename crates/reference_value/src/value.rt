@@ -12,8 +12,9 @@ ghost use Rattle.meaning.specs.Expressions.{before, beside, between, called, com
 ghost use Rattle.meaning.specs.Values.{Value};
 ghost use Rattle.meaning.specs.Variables.{lookup, value_of};
 ghost use Rattle.meaning.specs.Worked.{Worked, and_then, ready};
-ghost use Rattle.reference_value.specs.Scopes.{blocks_of};
-ghost use Rattle.reference_value.specs.Stops.{Comes, Stops, values_of};
+ghost use Rattle.reference_scope.specs.Scopes.{blocks_of};
+ghost use Rattle.reference_scope.specs.Parts.{values_of};
+ghost use Rattle.reference_value.specs.Stops.{Comes, Stops};
 ghost use Rattle.reference_value.specs.Values.{by_parts, fixed};
 
 use crate::callee::number_of;
@@ -21,13 +22,13 @@ use crate::fault::{Stop, had};
 use crate::given::Given;
 use crate::kind::{element_kind, kind_in, received_from};
 use crate::operation::{called, item_received, made, measured, received};
-use crate::part::selected;
-use crate::scope::Scope;
-use crate::words::{
-    before, between, channel_in, number_in, put_last, settled, single, word_in, wrapped,
-};
 use crate::worth::worth;
 use checker_base::worth::Worth;
+use reference_scope::part::selected;
+use reference_scope::scope::Scope;
+use reference_scope::words::{
+    before, between, channel_in, number_in, put_last, settled, single, word_in, wrapped,
+};
 use std::alloc::{AllocError, Global};
 use syntax::{BinaryOperator, ExpressionNode, Name, UnaryOperator};
 use type_table::scope::{is_nil, is_truth};

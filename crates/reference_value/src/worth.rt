@@ -9,11 +9,11 @@ ghost use Rattle.type_table.specs.Visible.{types_of, globals_in};
 ghost use Rattle.typing_rules.specs.Worths.{Typed, element_of, named_worth, selected_worth, literal_struct, unary_worth, binary_worth, worth};
 ghost use Rattle.checker_base.specs.Views.{worth_of, IsSmall};
 ghost use Rattle.meaning.specs.Variables.{scope_in};
-ghost use Rattle.reference_value.specs.Scopes.{blocks_of};
+ghost use Rattle.reference_scope.specs.Scopes.{blocks_of};
 
 use crate::callee::{result_type, type_in, variable_named};
-use crate::scope::Scope;
 use checker_base::worth::{Worth, binary_worth, literal, unary_worth};
+use reference_scope::scope::Scope;
 use syntax::{BinaryOperator, ExpressionNode, TypeNode, UnaryOperator};
 use type_table::layout::{field_of, number_of};
 use type_table::scope::{is_nil, is_truth};

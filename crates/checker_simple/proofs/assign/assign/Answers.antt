@@ -3,7 +3,7 @@ use Rattle.syntax.specs.Tree.{Assign}
 use Rattle.syntax.specs.Measures.{simple_size}
 use Rattle.type_table.specs.Visible.{globals_in, scope_of}
 use Rattle.typing_rules.specs.Operations.{given}
-use Rattle.checker_base.specs.Givens.{places_at, places_in, source_of}
+use Rattle.checker_simple.specs.Givens.{places_at, places_in, source_of}
 use Rattle.checker_simple.proofs.Wholes.{assign-none, places-count}
 use Rattle.checker_simple.proofs.assign.assign.Goals as goal
 

@@ -2,7 +2,7 @@ use Rattle.std.proofs.Common.{rules, ◌≡◌, ◌+◌, sym, refl, arith, lengt
 use Rattle.syntax.specs.Measures.{expression_size}
 use Rattle.type_table.specs.Visible.{globals_in, scope_of}
 use Rattle.typing_rules.specs.Operations.{given}
-use Rattle.checker_base.specs.Givens.{source_of}
+use Rattle.checker_simple.specs.Givens.{source_of}
 use Rattle.checker_simple.specs.Names.{names_at, names_in}
 use Rattle.checker_simple.proofs.Wholes.{define-none, define-one, defined-after, names-count}
 use Rattle.checker_simple.proofs.define.define.Goals as goal

@@ -4,7 +4,7 @@ use Rattle.syntax.specs.View.{name_of}
 use Rattle.type_table.specs.Visible.{types_of, globals_in, scope_of}
 use Rattle.checker_base.specs.Views.{worth_of}
 use Rattle.typing_rules.specs.Expressions.{default_type}
-use Rattle.checker_base.specs.Givens.{given_of}
+use Rattle.checker_simple.specs.Givens.{given_of}
 use Rattle.checker_simple.specs.Names.{names_at}
 use Rattle.checker_simple.proofs.Declaring.{names-none, names-one}
 use Rattle.checker_simple.proofs.names.+take_names.Goals as goal

@@ -3,7 +3,7 @@ use Rattle.std.proofs.lemmas.Result.{IfOk-weaker, IfErr-weaker}
 use Rattle.type_table.specs.Scopes.{Variable}
 use Rattle.type_table.specs.Views.{kind_of}
 use Rattle.type_table.specs.Visible.{types_of, variable_of}
-use Rattle.checker_base.specs.Givens.{given_of}
+use Rattle.checker_simple.specs.Givens.{given_of}
 use Rattle.checker_simple.proofs.Goes.{own-known, known-own, own-free, free-own}
 use Rattle.checker_simple.proofs.names.own_takes.Goals as goal
 

@@ -2,7 +2,7 @@ use Rattle.std.proofs.Common.{rules, refl, ap, length, map, Some}
 use Rattle.std.proofs.lemmas.Result.{IfOk-weaker}
 use Rattle.type_table.specs.Views.{kind_of}
 use Rattle.type_table.specs.Visible.{types_of}
-use Rattle.checker_base.specs.Givens.{given_of}
+use Rattle.checker_simple.specs.Givens.{given_of}
 use Rattle.checker_simple.proofs.Goes.{all-fail, fail-one}
 use Rattle.checker_simple.proofs.variables.+all_fit.Goals as goal
 

@@ -2,7 +2,7 @@ use Rattle.std.proofs.Common.{◌≡◌, refl, length, map, arith}
 use Rattle.std.proofs.lemmas.List.{length-map}
 use Rattle.std.proofs.lemmas.Result.{IfOk-weaker, IfErr-weaker}
 use Rattle.type_table.specs.Visible.{types_of, scope_of}
-use Rattle.checker_base.specs.Givens.{given_of}
+use Rattle.checker_simple.specs.Givens.{given_of}
 use Rattle.checker_simple.specs.Names.{names_at}
 use Rattle.checker_simple.proofs.Wholes.{given-none, given-one, names-count}
 use Rattle.checker_simple.proofs.variables.declare_given.Goals as goal

@@ -3,7 +3,7 @@ use Rattle.std.proofs.lemmas.List.{length-map}
 use Rattle.std.proofs.lemmas.Result.{IfOk-weaker, IfErr-weaker}
 use Rattle.type_table.specs.Views.{kind_of}
 use Rattle.type_table.specs.Visible.{types_of}
-use Rattle.checker_base.specs.Givens.{given_of}
+use Rattle.checker_simple.specs.Givens.{given_of}
 use Rattle.checker_simple.proofs.Wholes.{typed-given-none, typed-given-one}
 use Rattle.checker_simple.proofs.variables.typed_given.Goals as goal
 

@@ -2,19 +2,12 @@ use Rattle.std.proofs.Common.{inr}
 use Rattle.std.proofs.lemmas.Result.{err_from_is_err_and, IfOk-weaker}
 use Rattle.checker.specs.Trees.{tree_in}
 use Rattle.syntax.specs.Spans.{tree_of}
-use Rattle.kendo_reading.proofs.Spelled.{grammatical, limited}
 use Rattle.kendo_base.proofs.run.run_bytes.Goals as goal
 
 pub returns-in_err-_source-clause-refused : goal.returns-in_err-_source-clause-refused
 returns-in_err-_source-clause-refused g c =
     let p = err_from_is_err_and c.from_residual.result c.from_residual.ensures.1 in
     rw (p.1, p.2) c.in_err-_source.ensures.refused
-
-pub run_typed-requires-clause-grammatical : goal.run_typed-requires-clause-grammatical
-run_typed-requires-clause-grammatical g c κs within = grammatical c.args.bytes.items (tree_of (tree_in c.in_ok-_source.typed)) c.in_ok-_source.ensures.reads
-
-pub run_typed-requires-clause-lists : goal.run_typed-requires-clause-lists
-run_typed-requires-clause-lists g c κs within = limited c.args.bytes.items (tree_of (tree_in c.in_ok-_source.typed)) c.in_ok-_source.ensures.reads
 
 pub returns-clause-begins : goal.returns-clause-begins
 returns-clause-begins g c = inr (tree_of (tree_in c.in_ok-_source.typed), c.in_ok-_source.ensures.reads, c.run_typed.ensures.begins)

@@ -10,6 +10,7 @@ use Rattle.parser.specs.declared.top.TheConstants.{STATEMENT_ROOM}
 use Rattle.parser_base.specs.Cursor.{ahead}
 use Rattle.parser_base.specs.Lexemes.{lexeme, lexemes}
 use Rattle.parser.proofs.FileLaws.{file_sound}
+use Rattle.parser.proofs.Spelled.{spelled}
 use Rattle.parser.proofs.Parsing.{fault_syntax, fault_deep, fault_many, size_read, count_read}
 use Rattle.parser.proofs.parser.parse.Goals as goal
 
@@ -44,6 +45,16 @@ new-requires-2-clause-small c =
     let few = size_read STATEMENT_ROOM MAX_ENTRIES (ahead c.new.result) (file_of c.in_ok-file.file) c.in_ok-file.ensures in
     let same = ap length c.new.ensures in
     omega (arith, length-map c.args.tokens.now (lexeme (bytes_of c.args.source.now)))
+
+pub new-requires-2-clause-grammatical : goal.new-requires-2-clause-grammatical
+new-requires-2-clause-grammatical c =
+    let found = file_sound STATEMENT_ROOM MAX_ENTRIES (ahead c.new.result) (file_of c.in_ok-file.file) c.in_ok-file.ensures in
+    spelled _ (file_of c.in_ok-file.file) found.spelt
+
+pub new-requires-2-clause-limited : goal.new-requires-2-clause-limited
+new-requires-2-clause-limited c =
+    let found = file_sound STATEMENT_ROOM MAX_ENTRIES (ahead c.new.result) (file_of c.in_ok-file.file) c.in_ok-file.ensures in
+    (found.few Entries, found.few SelectClauses)
 
 pub returns-clause-spelt : goal.returns-clause-spelt
 returns-clause-spelt c =

@@ -1,5 +1,5 @@
 use Rattle.std.proofs.Common.{sym, ◌∙◌}
-use Rattle.reference_value.specs.Scopes.{blocks_of}
+use Rattle.reference_scope.specs.Scopes.{blocks_of}
 use Rattle.reference_step.proofs.Leaving.{continues_block, continues_here, continues_over}
 use Rattle.reference_step.proofs.block.go_on.Goals as goal
 

@@ -1,7 +1,7 @@
 use Rattle.std.proofs.Common.{◌≡◌, ℕ, List, length}
 use Rattle.meaning.specs.Tasks.{continued}
-use Rattle.reference_value.specs.Scopes.{blocks_of}
-use Rattle.reference_step.specs.Tasks.{tasks_of}
+use Rattle.reference_scope.specs.Scopes.{blocks_of}
+use Rattle.reference_task.specs.Tasks.{tasks_of}
 use Rattle.reference_step.proofs.block.go_on.Given as goal
 
 -- what is left comes to what all come to

@@ -6,7 +6,7 @@ use Rattle.type_table.specs.Views.{kind_of}
 use Rattle.type_table.specs.Visible.{types_of}
 use Rattle.type_table.proofs.Written.{channel_written}
 use Rattle.meaning.specs.Variables.{scope_in}
-use Rattle.reference_value.specs.Scopes.{blocks_of}
+use Rattle.reference_scope.specs.Scopes.{blocks_of}
 use Rattle.reference_value.proofs.callee.+type_in.Goals as goal
 
 pub returns-in-Some-type_in : goal.returns-in-Some-type_in

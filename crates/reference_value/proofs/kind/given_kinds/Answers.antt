@@ -4,7 +4,7 @@ use Rattle.syntax.specs.View.{expression_of}
 use Rattle.type_table.specs.Visible.{types_of, globals_in}
 use Rattle.meaning.specs.Expressions.{type_of}
 use Rattle.reference_value.specs.Rights.{is_lone_receive}
-use Rattle.reference_value.specs.Scopes.{blocks_of}
+use Rattle.reference_scope.specs.Scopes.{blocks_of}
 use Rattle.reference_value.proofs.Types.{kinds_given}
 use Rattle.reference_value.proofs.kind.given_kinds.Goals as goal
 

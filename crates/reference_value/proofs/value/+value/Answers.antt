@@ -8,7 +8,7 @@ use Rattle.type_table.specs.Zeros.{zero_words}
 use Rattle.meaning.specs.Expressions.{fields, type_of}
 use Rattle.meaning.specs.Values.{Value}
 use Rattle.meaning.specs.Worked.{Worked}
-use Rattle.reference_value.specs.Scopes.{blocks_of}
+use Rattle.reference_scope.specs.Scopes.{blocks_of}
 use Rattle.reference_value.specs.Stops.{all_given}
 use Rattle.reference_value.proofs.Constants.{named_value}
 use Rattle.reference_value.proofs.Literals.{filled}

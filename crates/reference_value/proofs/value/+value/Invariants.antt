@@ -4,8 +4,9 @@ use Rattle.syntax.specs.View.{expression_of}
 use Rattle.type_table.specs.Visible.{types_of, globals_in}
 use Rattle.meaning.specs.Expressions.{fields, values}
 use Rattle.meaning.specs.Worked.{go_on_from, ready}
-use Rattle.reference_value.specs.Scopes.{blocks_of}
-use Rattle.reference_value.specs.Stops.{all_given, values_of}
+use Rattle.reference_scope.specs.Scopes.{blocks_of}
+use Rattle.reference_scope.specs.Parts.{values_of}
+use Rattle.reference_value.specs.Stops.{all_given}
 use Rattle.reference_value.proofs.value.+value.Given as goal
 
 -- the words so far stand before those of the fields that are left

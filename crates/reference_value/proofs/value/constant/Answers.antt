@@ -9,7 +9,7 @@ use Rattle.syntax.specs.Tree.{Integer, Unary, Binary}
 use Rattle.syntax.specs.View.{expression_of}
 use Rattle.type_table.specs.Visible.{types_of, globals_in}
 use Rattle.meaning.specs.Expressions.{value, worth_of}
-use Rattle.reference_value.specs.Scopes.{blocks_of}
+use Rattle.reference_scope.specs.Scopes.{blocks_of}
 use Rattle.reference_value.proofs.Constants.{exactly_some, exactly_none, compared_some, compared_none, integer_value, unary_value, binary_value}
 use Rattle.reference_value.proofs.value.constant.Goals as goal
 

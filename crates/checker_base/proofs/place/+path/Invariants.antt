@@ -1,5 +1,0 @@
-use Rattle.std.proofs.Common.{length}
-use Rattle.checker_base.proofs.place.+path.Given as goal
-
-abbrev pub decreases-path : goal.decreases-path
-decreases-path l = length l.fields.now

@@ -1,5 +1,0 @@
-use Rattle.std.proofs.Common.{length}
-use Rattle.checker_base.proofs.place.+places.Given as goal
-
-abbrev pub decreases-places : goal.decreases-places
-decreases-places l = length l.all.now

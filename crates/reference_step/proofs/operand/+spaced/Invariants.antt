@@ -1,5 +1,0 @@
-use Rattle.std.proofs.Common.{length}
-use Rattle.reference_step.proofs.operand.+spaced.Given as goal
-
-abbrev pub decreases-spaced : goal.decreases-spaced
-decreases-spaced l = length l.texts.now
