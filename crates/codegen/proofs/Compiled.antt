@@ -10,7 +10,7 @@ use Rattle.meaning.specs.Source.{source_kind}
 use Rattle.syntax.specs.Grammar.{IsGrammatical, IsLimited}
 use Rattle.codegen_base.specs.Program.{code_of}
 use Rattle.codegen_fine.proofs.Main.{typed_file}
-use Rattle.codegen_equal.proofs.Equal.{is_equal}
+use Rattle.codegen.proofs.Equal.{is_equal}
 
 pub compiled_equal : (file : File) (code : Code) → IsGrammatical file → IsTyped file → code ≡ code_of file → Equal (source_kind file) (code_kind code)
 compiled_equal file code grammatical typed is = subst (λ (c : Code). Equal (source_kind file) (code_kind c)) (sym is) (is_equal file grammatical.formed typed)

@@ -1,3 +1,11 @@
+pub mod Given
+pub mod Behind
+pub mod After
+pub mod Located
+pub mod Passed
+pub mod Began
+pub mod Programs
+pub mod Equal
 pub mod Compiled
 pub mod Functions
 pub mod Heads

@@ -25,7 +25,7 @@ use Rattle.syntax.specs.Grammar.{FormedTops}
 use Rattle.codegen_fine.proofs.Main.{first_place, position_is, named_main, label_same, free_of}
 use Rattle.codegen_base.proofs.Near.{Near}
 use Rattle.codegen_follows.proofs.Matching.{SitsBehind, near_match}
-use Rattle.codegen_equal.proofs.Functions.{program, fine_behind, all_entered, all_started, starts_near}
+use Rattle.codegen.proofs.Programs.{program, fine_behind, all_entered, all_started, starts_near}
 
 -- ---- the main function
 

@@ -41,8 +41,8 @@ use Rattle.codegen_fine.proofs.Returns.{IsResult}
 use Rattle.codegen_fine.proofs.Finished.{typed_body}
 use Rattle.codegen_fine.proofs.Wholes.{parameters_fit}
 use Rattle.codegen_fine.proofs.Signatures.{parameters_locals}
-use Rattle.codegen_equal.proofs.Located.{Located}
-use Rattle.codegen_equal.proofs.Passed.{arguments_fitted, fitted_length, passed}
+use Rattle.codegen.proofs.Located.{Located}
+use Rattle.codegen.proofs.Passed.{arguments_fitted, fitted_length, passed}
 
 module _ (file : File) (program : Compiled (globals file)) (grounds : Grounds (globals file) program.elements program.code) (fine_behind : (coded : Coded program) → FineBehind coded) where
   open program use {elements, code}

@@ -29,9 +29,9 @@ use Rattle.codegen_follows.proofs.Begun.{FineBehind}
 use Rattle.codegen_follows.proofs.Defined.{given_same}
 use Rattle.codegen_fine.proofs.Layouts.{own_same}
 use Rattle.codegen_fine.proofs.Variables.{three_false, not_true, new_by, alike_values, all_each, variables_are}
-use Rattle.codegen_equal.proofs.Given.{AllWell, right_well}
+use Rattle.codegen.proofs.Given.{AllWell, right_well}
 use Rattle.codegen_fine.proofs.Makes.{written as type_there, written_noted}
-use Rattle.codegen_equal.proofs.Behind.{Good, good_all}
+use Rattle.codegen.proofs.Behind.{Good, good_all}
 
 -- ---- selects keep the variables that are visible
 

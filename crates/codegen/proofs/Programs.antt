@@ -27,10 +27,10 @@ use Rattle.codegen_follows.proofs.Matching.{SitsBehind}
 use Rattle.codegen_fine.proofs.Operands.{Grounds}
 use Rattle.codegen_fine.proofs.Shapes.{struct_narrow}
 use Rattle.codegen_fine.proofs.Structs.{grounds_of}
-use Rattle.codegen_equal.proofs.After.{fine_after}
-use Rattle.codegen_equal.proofs.Located.{Located, located}
-use Rattle.codegen_equal.proofs.Passed.{kinds_size, split_words}
-use Rattle.codegen_equal.proofs.Began.{begins_sits}
+use Rattle.codegen.proofs.After.{fine_after}
+use Rattle.codegen.proofs.Located.{Located, located}
+use Rattle.codegen.proofs.Passed.{kinds_size, split_words}
+use Rattle.codegen.proofs.Began.{begins_sits}
 
 module _ (file : File) (free : Free (FileHas file)) (still : FormedTops file.tops) where
   abbrev elements : List Element

@@ -19,7 +19,7 @@ use Rattle.codegen_base.proofs.Known.{VariablesNoted}
 use Rattle.codegen_base.proofs.Noted.{Noted}
 use Rattle.codegen_base.proofs.Static.{IsPlaced}
 use Rattle.codegen_fine.proofs.Layouts.{declarable_parts, declarable_alike}
-use Rattle.codegen_equal.proofs.Given.{Well, AllWell}
+use Rattle.codegen.proofs.Given.{Well, AllWell}
 
 -- ---- names that are new behind a declaration were new before it
 
