@@ -7,4 +7,4 @@ use Rattle.machine_calls.proofs.requests.main_state.Goals as goal
 pub returns-in-Some : goal.returns-in-Some
 returns-in-Some c =
     let fits = c.in_ok-core.ensures.fits c.args.limit c.requires in
-    (subst (λ (o : Option (Row State)). FitsRow c.args.program.now c.args.limit o) c.in-Some.ensures.free (fits.rows c.in-Some.field-0.0)).state
+    (subst (λ (o : Option (Row State)). FitsRow c.args.program.now c.args.limit o) c.in-Some.ensures.free (fits.rows _)).state

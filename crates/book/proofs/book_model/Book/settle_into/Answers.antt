@@ -1,4 +1,4 @@
-use Rattle.std.proofs.Common.{◌+◌, length, Some, refl, sym, ◌∙◌, subst}
+use Rattle.std.proofs.Common.{◌+◌, length, refl, sym, ◌∙◌, subst}
 use Rattle.std.specs.Arc.{arc_value}
 use Rattle.clock_table.specs.Seats.{rows as words_of, seat_looks}
 use Rattle.book.specs.Desks.{Desk, IsEnd, KeepsLeases}
