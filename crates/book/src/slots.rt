@@ -6,6 +6,7 @@ ghost use Rattle.clock_table.specs.Clocks.{IsFree, IsLentOn, RowFits, WasLent, l
 ghost use Rattle.clock_table.specs.declared.view.Loan.{Loan};
 ghost use Rattle.clock_table.specs.declared.view.Row.TheVariants.{Home, Lent};
 ghost use Rattle.clock_table.specs.Seats.{lease_clock, lease_loan, lease_slot, lease_table, rows as words_of, seat_looks, seat_table, table_of};
+ghost use Rattle.logical_clock.specs.declared.limits.TheConstants.{MAX_GOROUTINES};
 ghost use Rattle.slot_index.specs.Numbers.{number_at, slot_of};
 ghost use Rattle.book.specs.Slots.{AreFree, IsPlaced, IsTakenOut, SamePlaces, place_of};
 

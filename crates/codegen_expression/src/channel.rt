@@ -40,10 +40,7 @@ pub(crate) fn callee(table: &TypeTable<'_>, name: &Name) -> usize
 }
 
 /// The types of the parameters of the function with this number; where there is none, no types.
-pub(crate) fn parameters_at<'a, 't>(
-    table: &'a TypeTable<'t>,
-    number: usize,
-) -> &'a [ValueType<'t>]
+pub(crate) fn parameters_at<'a, 't>(table: &'a TypeTable<'t>, number: usize) -> &'a [ValueType<'t>]
     ensures { map (kind_of (types_of table.now)) result.now ≡ map known (parameters_of (globals_in table.now) number) }
 {
     if number < table.functions.len() {
