@@ -98,7 +98,11 @@ fn generate<'a>(
 }
 
 /// The code of a checked file and its marks, with a name under which ranges keep their channels.
-fn file_code<'a>(alloc: Global, typed: &'a Typed, blank: &'a Blank) -> Result<(Code, Marks), AllocError>
+fn file_code<'a>(
+    alloc: Global,
+    typed: &'a Typed,
+    blank: &'a Blank,
+) -> Result<(Code, Marks), AllocError>
     ensures code { IfOk result (λ made. made.0 ≡ code_of (tree_of (tree_in typed.now))) }
     ensures typed { IfOk result (λ _. IsTyped (tree_of (tree_in typed.now))) }
 {

@@ -23,7 +23,10 @@ use syntax::StatementNode;
 
 /// Pushes the zero value of a function's result, if it has one.
 #[tactic(auto, using(codegen_expression::proofs::Operating::puts_zeros))]
-fn push_zero_result(context: &FunctionContext<'_, '_>, code: &mut Vec<Instr>) -> Result<(), AllocError>
+fn push_zero_result(
+    context: &FunctionContext<'_, '_>,
+    code: &mut Vec<Instr>,
+) -> Result<(), AllocError>
     ensures { OnOk result (Puts code.old.items code.new.items (pushes_zeros (of_program context.now result_kinds (result_of context.now)))) }
 {
     if let Some(kind) = context.result_type {
@@ -33,7 +36,10 @@ fn push_zero_result(context: &FunctionContext<'_, '_>, code: &mut Vec<Instr>) ->
 }
 
 /// The end of a body: it returns zeros.
-fn emit_end<'a>(context: &FunctionContext<'_, 'a>, emitter: &mut Emitter<'a>) -> Result<Flow, AllocError>
+fn emit_end<'a>(
+    context: &FunctionContext<'_, 'a>,
+    emitter: &mut Emitter<'a>,
+) -> Result<Flow, AllocError>
     ensures { IfOk result (λ flow. Emits (table_of context.now) emitter.old emitter.new (control flow) (made_of (pushes_zeros (of_program context.now result_kinds (result_of context.now)) Stop) [] (layout_of (table_of context.now) emitter.old.layout))) }
 {
     push_zero_result(context, &mut emitter.code)?;

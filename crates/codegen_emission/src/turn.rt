@@ -17,7 +17,12 @@ use std::alloc::AllocError;
 use syntax::SimpleNode;
 
 /// Leads back to the head of a loop. Where its body never comes round again, nothing stays that stands behind it.
-fn come_back(comes_round: bool, behind: usize, head: u32, code: &mut Vec<Instr>) -> Result<(), AllocError>
+fn come_back(
+    comes_round: bool,
+    behind: usize,
+    head: u32,
+    code: &mut Vec<Instr>,
+) -> Result<(), AllocError>
     ensures { OnOk result (code.new.items ≡ cond comes_round (code.old.items ++ instrs.Loop head ∷ []) (take behind code.old.items)) }
 {
     if !comes_round {

@@ -13,7 +13,11 @@ use std::alloc::{AllocError, Global};
 use std::collections::HashSet;
 
 /// A word goes to a place, or is dropped where another one goes there later.
-fn store_word(place: u32, places: &mut HashSet<u32>, code: &mut Vec<Instr>) -> Result<(), AllocError>
+fn store_word(
+    place: u32,
+    places: &mut HashSet<u32>,
+    code: &mut Vec<Instr>,
+) -> Result<(), AllocError>
     ensures { (first : List OneInstr) (later : List OneSpot) → OnOk result (Stored first later places.old code.old.items → Stored first (Local place 1 ∷ later) places.new code.new.items) }
 {
     if places.insert(place)? {
@@ -43,7 +47,11 @@ fn store_words<'p, 'c>(
 }
 
 /// The words of a value go to its spot, the last one first.
-fn store_spot(spot: Spot, places: &mut HashSet<u32>, code: &mut Vec<Instr>) -> Result<(), AllocError>
+fn store_spot(
+    spot: Spot,
+    places: &mut HashSet<u32>,
+    code: &mut Vec<Instr>,
+) -> Result<(), AllocError>
     ensures { (first : List OneInstr) (spots : List OneSpot) → OnOk result (Stored first (singles spots) places.old code.old.items → Stored first (singles (spot_in spot ∷ spots)) places.new code.new.items) }
 {
     match spot {

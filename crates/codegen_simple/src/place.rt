@@ -75,10 +75,7 @@ fn selected<'a>(
 /// The locals of a part of the frame; where there is none, nothing is stored.
 ///
 /// Errors: it begins at 2^32 or behind, which counts as want of memory.
-fn spot_of<'k>(
-    context: &Context<'_, 'k>,
-    part: Option<Selected<'k>>,
-) -> Result<Spot, AllocError>
+fn spot_of<'k>(context: &Context<'_, 'k>, part: Option<Selected<'k>>) -> Result<Spot, AllocError>
     ensures spot { (whole : Option OneSelected) → option_map (selected_of (types_in context.now)) part.entry ≡ option_map capped whole → IfOk result (λ spot. (scope : Scope) → spot_in spot ≡ spot_of (globals_of context.now) (elements_of context.now) scope whole) }
     ensures far { (whole : Option OneSelected) → option_map (selected_of (types_in context.now)) part.entry ≡ option_map capped whole → IfErr result (λ _. IsFar whole) }
 {

@@ -42,7 +42,11 @@ use type_table::scope::Visible;
 use type_table::value_type::ValueType;
 
 /// Drops the result of the function with this number, if it has one.
-fn drop_result(context: &Context<'_, '_>, number: u32, code: &mut Vec<Instr>) -> Result<(), AllocError>
+fn drop_result(
+    context: &Context<'_, '_>,
+    number: u32,
+    code: &mut Vec<Instr>,
+) -> Result<(), AllocError>
     ensures { (scope : Scope) → OnOk result (Puts code.old.items code.new.items (drops (result_words (globals_of context.now) (elements_of context.now) scope (result_of (globals_of context.now) number)))) }
 {
     if let Some(kind) = result_of(context.table, number as usize) {
