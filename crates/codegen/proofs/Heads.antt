@@ -46,11 +46,11 @@ others [] = []
 others (s ∷ rest) = rest
 
 -- what the table says of a result is known
-known_yield : (types : List (List ℕ)) (kind : Option Kind) (result : Yield) → yield_in types kind ≡ result → IsKnown result
-known_yield types None result is unknown = clash (is ∙ unknown) where
+known_yield : (types : List (List ℕ)) (kind : Option Kind) (y : Yield) → yield_in types kind ≡ y → IsKnown y
+known_yield types None y is unknown = clash (is ∙ unknown) where
   clash : NoResult ≡ Yields None → ⊥
   clash e = absurd cc
-known_yield types (Some kind) result is unknown = clash (is ∙ unknown) where
+known_yield types (Some kind) y is unknown = clash (is ∙ unknown) where
   clash : Yields (Some (kind_of types kind)) ≡ Yields None → ⊥
   clash e = absurd cc
 

@@ -1,6 +1,6 @@
 //! What is emitted into.
 
-ghost use Rattle.std.specs.Prelude.{◌≡◌, ◌++◌, ◌∷◌, [], IfOk, OnOk, length};
+ghost use Rattle.std.specs.Prelude.{◌≡◌, ◌≤◌, ◌^◌, ◌++◌, ◌∷◌, [], IfErr, IfOk, OnOk, length};
 ghost use Rattle.bytecode.specs.declared.instr.Instr.TheVariants as instrs;
 
 use crate::marks::Marks;
@@ -24,7 +24,8 @@ impl Emitter<'_> {
     ///
     /// Errors: it would pass 2^32.
     pub(crate) fn next_place(&self) -> Result<u32, AllocError>
-        ensures { IfOk result (λ place. place ≡ length self.now.code.items) }
+        ensures place { IfOk result (λ place. place ≡ length self.now.code.items) }
+        ensures far { IfErr result (λ _. 2 ^ 32 ≤ length self.now.code.items) }
     {
         number(self.code.len())
     }

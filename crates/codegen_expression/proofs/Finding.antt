@@ -1,13 +1,15 @@
 -- Where elements are found in a list.
-use Rattle.std.proofs.Common.{rules, ◌≡◌, ◌≤◌, arith, ℕ, suc, Bool, true, false, List, [], ◌∷◌, ◌++◌, length, Option, Some, None, option_map, refl, sym, ap, ◌∙◌}
+use Rattle.std.proofs.Common.{rules, ◌≡◌, ◌≤◌, arith, ℕ, suc, Bool, true, false, List, [], ◌∷◌, ◌++◌, length, Option, Some, None, option_map, refl, sym, ap, ◌∙◌, subst, slice_get}
 use Rattle.std.specs.Map.{update}
 use Rattle.std.specs.Prelude.{unwrap_or, if◌then◌else◌, cond}
 use Rattle.std.specs.Option.{is_some}
+use Rattle.std.proofs.lemmas.Option.{same_Some}
+use Rattle.type_table.specs.Types.{ValueType}
 use Rattle.codegen_base.specs.contracts.element.ElementPartialEq.TheImpl.{ghosts}
 use Rattle.codegen_base.specs.declared.element.Element.{Element}
 use Rattle.codegen_base.specs.declared.element.Element.TheVariants as elements
-use Rattle.codegen_base.specs.Elements.{same_element, found_at}
-use Rattle.codegen_base.proofs.Noted.{element_same, element_itself}
+use Rattle.codegen_base.specs.Elements.{same_element, found_at, element_of, with_element, with_type}
+use Rattle.codegen_base.proofs.Noted.{element_same, element_itself, element_stays, type_noted}
 
 -- an element is the same as another one where that one is the same as it
 same_turned : (a b : Element) → same_element a b ≡ same_element b a
@@ -72,6 +74,25 @@ list_noted all now e place before after is at new there added x =
       turned : (t : Bool) → cond t (Some (length all)) (found_at all x) ≡ (if t then Some (length all) else found_at all x)
       turned true = refl
       turned false = refl
+
+suc_of : (o : Option ℕ) (n : ℕ) → option_map suc o ≡ Some n → (m : ℕ) × (o ≡ Some m) × (suc m ≡ n)
+suc_of None n e = absurd cc
+suc_of (Some m) n e = (m, refl, same_Some (suc m) n e)
+
+-- what stands where an element is found is the element
+pub stands_there : (all : List Element) (e : Element) (n : ℕ) → found_at all e ≡ Some n → slice_get all n ≡ Some e
+stands_there [] e n is = absurd cc
+stands_there (x ∷ all) e n is = go (same_element e x) refl is (λ m h. stands_there all e m h) where
+  go : (t : Bool) → same_element e x ≡ t → (if t then Some 0 else option_map suc (found_at all e)) ≡ Some n → ((m : ℕ) → found_at all e ≡ Some m → slice_get all m ≡ Some e) → slice_get (x ∷ all) n ≡ Some e
+  go true same is more = subst (λ k. slice_get (x ∷ all) k ≡ Some e) (same_Some 0 n is) (ap Some (sym (element_same e x same)))
+  go false same is more = let s = suc_of (found_at all e) n is in subst (λ k. slice_get (x ∷ all) k ≡ Some e) s.2 (more s.0 s.1)
+
+-- what is noted last changes nothing within a type
+pub element_kept : (all : List Element) (kind : ValueType) (e : Element) → element_of (with_element (with_type all kind) e) kind ≡ element_of (with_type all kind) kind
+element_kept all kind e = go (is_some (found_at (with_type all kind) e)) where
+  go : (t : Bool) → element_of (if t then with_type all kind else with_type all kind ++ e ∷ []) kind ≡ element_of (with_type all kind) kind
+  go true = refl
+  go false = element_stays (with_type all kind) (e ∷ []) kind (type_noted all kind)
 
 -- a place that is found is one of the list's
 pub place_below : (all : List Element) (e : Element) → unwrap_or (found_at all e) 0 ≤ length all

@@ -1,5 +1,5 @@
 -- Values that are pushed as values of a type, and operations between values.
-use Rattle.std.proofs.Common.{◌≡◌, ℕ, List, length, Option, refl, sym, ap, ◌∙◌, subst}
+use Rattle.std.proofs.Common.{◌≡◌, ℕ, List, length, Option, sym, ap, ◌∙◌, subst}
 use Rattle.syntax.specs.declared.node.BinaryOperator.{BinaryOperator}
 use Rattle.syntax.specs.Tree.{Expression, Binary}
 use Rattle.bytecode.specs.declared.instr.Instr.{Instr}
@@ -7,7 +7,7 @@ use Rattle.type_table.specs.Types.{ValueType}
 use Rattle.type_table.specs.Scopes.{Globals, Scope}
 use Rattle.typing_rules.specs.Worths.{Worth, worth}
 use Rattle.codegen_base.specs.declared.element.Element.{Element}
-use Rattle.codegen_base.specs.Pushes.{emits, operates, pushes, pushes_own, settled}
+use Rattle.codegen_base.specs.Pushes.{emits, operates, pushes, pushes_own}
 use Rattle.plan.specs.Plan.{Plan}
 use Rattle.codegen_expression.specs.Emission.{Puts, kind_in, led, operated, settling}
 use Rattle.codegen_expression.proofs.Leading.{leads}

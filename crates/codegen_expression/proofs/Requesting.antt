@@ -1,21 +1,24 @@
 -- Calls and operations on channels, behind their operands.
-use Rattle.std.proofs.Common.{◌≡◌, ℕ, pos, List, [], ◌∷◌, ◌++◌, map, Option, Some, None, option_map, refl, sym, ap, ◌∙◌, subst, slice_get}
+use Rattle.std.proofs.Common.{◌≡◌, ◌<◌, ℕ, pos, List, [], ◌∷◌, ◌++◌, map, Option, Some, None, option_map, refl, sym, ap, ◌∙◌, slice_get, IfSome, arith}
+use Rattle.std.specs.Prelude.{unwrap_or}
 use Rattle.std.proofs.lemmas.Option.{slice_get-map}
 use Rattle.syntax.specs.Tree.{Expression, TypeExpression, Receive, Make, MakeSized}
 use Rattle.bytecode.specs.declared.instr.Instr.{Instr}
 use Rattle.bytecode.specs.declared.instr.Instr.TheVariants as instrs
 use Rattle.type_table.specs.declared.entry.FunctionEntry.{FunctionEntry}
 use Rattle.type_table.specs.declared.value_type.ValueType.{ValueType as Kind}
-use Rattle.type_table.specs.Types.{ValueType, IntType, element_type}
+use Rattle.type_table.specs.Types.{ValueType, IntType, BoolType, StructType, ChannelType, element_type}
 use Rattle.type_table.specs.Scopes.{Globals, Scope}
 use Rattle.type_table.specs.Views.{kind_of, signature_of}
 use Rattle.typing_rules.specs.Calls.{parameters_in}
 use Rattle.typing_rules.specs.Worths.{Worth, Typed, Constant, Nil, element_of, worth}
 use Rattle.meaning.specs.Values.{known}
 use Rattle.codegen_base.specs.declared.element.Element.{Element}
-use Rattle.codegen_base.specs.Pushes.{emits, makes, pushes, receives}
-use Rattle.plan.specs.Plan.{Plan, Do}
-use Rattle.codegen_expression.specs.Emission.{Puts, kind_in, making, receiving}
+use Rattle.codegen_base.specs.declared.element.Element.TheVariants as elements
+use Rattle.codegen_base.specs.Elements.{element_of as element_for, found_at}
+use Rattle.codegen_base.specs.Pushes.{emits, pushes, receives}
+use Rattle.plan.specs.Plan.{Do}
+use Rattle.codegen_expression.specs.Emission.{IsPlaced, Puts, kind_in, making, receiving}
 use Rattle.codegen_expression.proofs.Emitting.{puts_both, puts_do}
 use Rattle.codegen_expression.proofs.Operating.{puts_then, puts_two}
 
@@ -39,6 +42,26 @@ carried_in None = refl
 carried_in (Some (Typed kind)) = refl
 carried_in (Some (Constant v)) = refl
 carried_in (Some Nil) = refl
+
+abbrev number_in : Element → ℕ
+number_in (elements.Channel m) = m
+number_in element = 0
+
+placed_carried : (all : List Element) (kind : ValueType) (n : ℕ) → element_for all kind ≡ elements.Channel n → 0 < n → found_at all (element_for all (known (element_type kind))) ≡ Some n
+placed_carried all IntType n is some = absurd cc
+placed_carried all BoolType n is some = absurd cc
+placed_carried all (StructType number) n is some = absurd cc
+placed_carried all (ChannelType direction carried) n is some = go (found_at all (element_for all carried)) (ap number_in is) where
+  go : (o : Option ℕ) → unwrap_or o 0 ≡ n → o ≡ Some n
+  go None h = absurd (omega (arith, h, some))
+  go (Some m) h = ap Some h
+
+-- what an operand's element carries
+pub item_placed : (all : List Element) (w : Option Worth) (place : Option ℕ) (n : ℕ) → IsPlaced all w place → ((e : Element) → IfSome place (λ m. found_at all e ≡ Some m) → (e ≡ elements.Channel n) × (0 < n))
+    → Some n ≡ found_at all (element_for all (known (element_of w)))
+item_placed all w place n placed within =
+    let at = within (element_for all (kind_in w)) placed in
+    sym (ap (λ k. found_at all (element_for all k)) (sym (carried_in w)) ∙ placed_carried all (kind_in w) n at.0 at.1)
 
 module _ (globals : Globals) (elements : List Element) (scope : Scope) where
   -- an item and whether it was sent

@@ -1,19 +1,17 @@
 -- Names, fields and composite literals.
-use Rattle.std.proofs.Common.{◌≡◌, ℕ, ◌+◌, ◌<◌, ◌≤◌, false, List, [], ◌∷◌, ◌++◌, length, map, Option, Some, None, refl, sym, ap, ◌∙◌, arith, subst}
+use Rattle.std.proofs.Common.{◌≡◌, ℕ, ◌+◌, ◌<◌, ◌≤◌, false, List, [], ◌∷◌, ◌++◌, length, map, Option, Some, None, sym, ap, ◌∙◌, arith}
 use Rattle.std.specs.Prelude.{if◌then◌else◌, bytes_eq, codes}
-use Rattle.syntax.specs.Tree.{Expression, Selection, Composite, Expressions, expressions}
+use Rattle.syntax.specs.Tree.{Expression, Selection, expressions}
 use Rattle.bytecode.specs.declared.instr.Instr.{Instr}
 use Rattle.bytecode.specs.declared.instr.Instr.TheVariants as instrs
 use Rattle.type_table.specs.Types.{ValueType, IntType}
 use Rattle.type_table.specs.Containment.{field_of}
 use Rattle.type_table.specs.Scopes.{Globals, Scope, Variable, is_truth, nothing_declared, variable_named}
 use Rattle.typing_rules.specs.Worths.{Worth, worth}
-use Rattle.typing_rules.specs.Expressions.{default_type}
 use Rattle.meaning.specs.Values.{Slot, known, slot, slot_behind}
 use Rattle.codegen_base.specs.declared.element.Element.{Element}
 use Rattle.codegen_base.specs.Elements.{kinds_of}
-use Rattle.codegen_base.specs.Pushes.{emits, emits_all, literal_plan, literal_types, loads, named, pushes_zeros, words_of, zero_instr}
-use Rattle.plan.specs.Plan.{Plan}
+use Rattle.codegen_base.specs.Pushes.{emits, emits_all, literal_types, loads, named, words_of, zero_instr}
 use Rattle.codegen_expression.specs.Emission.{Puts, kind_in, literal_part, picking}
 use Rattle.codegen_expression.proofs.Operating.{puts_then, puts_zeros}
 

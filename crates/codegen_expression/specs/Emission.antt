@@ -1,6 +1,6 @@
 -- Instructions that are appended for a part of a plan, whatever comes behind it.
 use Rattle.std.specs.Int.{w64, int_wrap}
-use Rattle.std.specs.Prelude.{◌≡◌, ◌+◌, ◌-◌, ℕ, true, false, List, [], ◌∷◌, ◌++◌, length, slice_set, take, Option, Some, None}
+use Rattle.std.specs.Prelude.{◌≡◌, ◌+◌, ◌-◌, ℕ, true, false, List, [], ◌∷◌, ◌++◌, length, slice_set, take, IfSome, Option, Some, None}
 use Rattle.syntax.specs.declared.node.UnaryOperator.{UnaryOperator}
 use Rattle.syntax.specs.declared.node.UnaryOperator.TheVariants as signs
 use Rattle.syntax.specs.declared.node.BinaryOperator.{BinaryOperator}
@@ -15,7 +15,7 @@ use Rattle.typing_rules.specs.Expressions.{default_type}
 use Rattle.type_table.specs.Scopes.{Globals, Scope, nothing_declared, type_in}
 use Rattle.meaning.specs.Values.{known, field_slot, whole}
 use Rattle.codegen_base.specs.declared.element.Element.{Element}
-use Rattle.codegen_base.specs.Elements.{kinds_of, shape_of}
+use Rattle.codegen_base.specs.Elements.{element_of as element_for, found_at, kinds_of, shape_of}
 use Rattle.codegen_base.specs.Pushes.{compared, elements_shape, emits_all, literal_plan, literal_types, operator_of, pushes_zeros, words_of}
 use Rattle.plan.specs.Plan.{Plan, flat}
 
@@ -103,6 +103,10 @@ literal_part globals elements scope kind values rest =
 -- an item is received from a channel
 abbrev pub receiving : List Element → Option Worth → Instr
 receiving elements channel = instrs.Receive (shape_of elements (known (element_of channel)))
+
+-- where it is known, a place is that of the element of an operand's type
+abbrev pub IsPlaced : List Element → Option Worth → Option ℕ → Type 0
+IsPlaced elements operand place = IfSome place (λ n. found_at elements (element_for elements (kind_in operand)) ≡ Some n)
 
 -- a channel of this type is made
 abbrev pub making : Globals → List Element → Scope → TypeExpression → Instr

@@ -1,6 +1,6 @@
 //! The instructions of calls and of operations on channels ("Calls", "Receive operator" and others of the Go specification).
 
-ghost use Rattle.std.specs.Prelude.{◌≡◌, ◌++◌, ◌∷◌, [], IfOk, IfSome, OnOk, map, option_map};
+ghost use Rattle.std.specs.Prelude.{◌≡◌, ◌++◌, ◌<◌, ◌∷◌, [], IfOk, IfSome, OnOk, Some, map, option_map};
 ghost use Rattle.syntax.specs.Tree.{Make};
 ghost use Rattle.syntax.specs.View.{expression_of, name_of, type_of as written_of};
 ghost use Rattle.type_table.specs.Types.{element_type};
@@ -8,23 +8,28 @@ ghost use Rattle.type_table.specs.Views.{kind_of};
 ghost use Rattle.type_table.specs.Visible.{globals_in, types_of};
 ghost use Rattle.checker_base.specs.Views.{IsSmall, worth_of};
 ghost use Rattle.typing_rules.specs.Calls.{parameters_of};
-ghost use Rattle.typing_rules.specs.Worths.{element_of, worth};
+ghost use Rattle.typing_rules.specs.Worths.{Typed, element_of, worth};
 ghost use Rattle.meaning.specs.Expressions.{number_of};
 ghost use Rattle.meaning.specs.Values.{known};
+ghost use Rattle.codegen_base.specs.declared.element.Element.{Element as OneElement};
+ghost use Rattle.codegen_base.specs.declared.element.Element.TheVariants as variants;
+ghost use Rattle.codegen_base.specs.Elements.{element_of as element_for, found_at};
 ghost use Rattle.codegen_base.specs.Layouts.{carried};
 ghost use Rattle.codegen_base.specs.Pushes.{pushes_own};
 ghost use Rattle.codegen_base.specs.Statements.{pushes_arguments, pushes_received};
-ghost use Rattle.codegen_expression.specs.Emission.{Puts, making, receiving};
+ghost use Rattle.codegen_expression.specs.Emission.{IsPlaced, Puts, making, receiving};
 ghost use Rattle.codegen_expression.specs.Contexts.{elements_of, globals_of, scope_in, types_in, worth_in};
 
 use crate::context::Context;
-use crate::emission::{emit, emit_arguments};
-use crate::operand::{carried_shape, kind_in, put};
-use crate::shape::shape_of;
+use crate::element_list::ElementList;
+use crate::emission::{emit_arguments, emit_channel};
+use crate::operand::{carried_shape, kind_in, number, put};
+use crate::shape::element_of;
 use crate::value::push_own;
 use bytecode::Instr;
-use checker_base::operand::worth_made;
+use checker_base::operand::{worth_made, worth_received};
 use checker_base::worth::Worth;
+use codegen_base::element::Element;
 use std::alloc::AllocError;
 use syntax::{ArgumentsNode, ExpressionNode, Name, TypeNode};
 use type_table::layout::function_number;
@@ -78,18 +83,57 @@ pub fn carried_in<'t>(table: &TypeTable<'t>, channel: Option<Worth<'t>>) -> Valu
     carried_by(table, kind_in(channel))
 }
 
-/// Receives from a channel, which is pushed: its item and whether it was sent are pushed. Returns the item's type.
+/// A channel, or what was received from one: what it is worth, and the place of the element of its type, where it is known.
+#[derive(Clone, Copy)]
+pub(crate) struct Placed<'k> {
+    pub worth: Option<Worth<'k>>,
+    pub place: Option<usize>,
+}
+
+/// The place that the element at a place tells, if it is a channel's. The first place may stand for an element that is not
+/// there.
+fn place_within(elements: &ElementList, place: Option<usize>) -> Option<usize>
+    ensures { (element : OneElement) → IfSome place (λ n. found_at elements.now element ≡ Some n) → IfSome result (λ n. (element ≡ variants.Channel n) × (0 < n)) }
+{
+    match elements.element_at(place?) {
+        Some(Element::Channel(carried)) if carried > 0 => Some(carried),
+        _ => None,
+    }
+}
+
+/// The place of the element of what a channel carries.
+fn item_place<'k>(context: &Context<'_, 'k>, channel: Placed<'k>) -> Option<usize>
+    requires { IsPlaced (elements_of context.now) (worth_in context.now channel.worth) channel.place }
+    ensures { result ≡ found_at (elements_of context.now) (element_for (elements_of context.now) (known (element_of (worth_in context.now channel.entry.worth)))) }
+{
+    match place_within(context.elements, channel.place) {
+        Some(place) => Some(place),
+        None => {
+            let item = carried_in(context.table, channel.worth);
+            let element = element_of(context.table, context.elements, item);
+            context.elements.found_at(element)
+        }
+    }
+}
+
+/// Receives from a channel, which is pushed: its item and whether it was sent are pushed. Answers what the item is worth.
 pub(crate) fn put_receive<'k>(
     context: &Context<'_, 'k>,
-    channel: Option<Worth<'k>>,
+    channel: Placed<'k>,
     code: &mut Vec<Instr>,
-) -> Result<ValueType<'k>, AllocError>
-    ensures kind { IfOk result (λ kind. kind_of (types_in context.now) kind ≡ known (element_of (worth_in context.now channel.entry))) }
-    ensures received { OnOk result (code.new.items ≡ code.old.items ++ receiving (elements_of context.now) (worth_in context.now channel.entry) ∷ []) }
+) -> Result<Placed<'k>, AllocError>
+    requires { IsPlaced (elements_of context.now) (worth_in context.now channel.worth) channel.place }
+    ensures worth { IfOk result (λ item. worth_in context.now item.worth ≡ option_map Typed (element_of (worth_in context.now channel.entry.worth))) }
+    ensures small { IfOk result (λ item. IfSome item.worth IsSmall) }
+    ensures placed { IfOk result (λ item. IsPlaced (elements_of context.now) (worth_in context.now item.worth) item.place) }
+    ensures received { OnOk result (code.new.items ≡ code.old.items ++ receiving (elements_of context.now) (worth_in context.now channel.entry.worth) ∷ []) }
 {
-    let item = carried_in(context.table, channel);
-    put(code, Instr::Receive(shape_of(context, item)))?;
-    Ok(item)
+    let place = item_place(context, channel);
+    put(code, Instr::Receive(number(place.unwrap_or(0))?))?;
+    Ok(Placed {
+        worth: worth_received(context.table, channel.worth),
+        place,
+    })
 }
 
 /// Makes a channel of this type, the size of whose buffer is pushed.
@@ -136,8 +180,9 @@ pub fn push_received<'k>(
     ensures kind { IfOk result (λ kind. carried (globals_of context.now) (elements_of context.now) (scope_in context.now visible.now) (expression_of channel.now) ≡ kind_of (types_in context.now) kind) }
     ensures pushed { OnOk result (Puts code.old.items code.new.items (pushes_received (globals_of context.now) (elements_of context.now) (scope_in context.now visible.now) (expression_of channel.now))) }
 {
-    let channel = emit(context, visible, channel, code)?;
-    put_receive(context, channel, code)
+    let channel = emit_channel(context, visible, channel, code)?;
+    let item = put_receive(context, channel, code)?;
+    Ok(kind_in(item.worth))
 }
 
 /// Pushes the arguments of a call of the function of this name, and returns its number.

@@ -1,6 +1,6 @@
 //! Lists of what channels carry, each element once. The place of one is the number of its shape.
 
-ghost use Rattle.std.specs.Prelude.{◌≡◌, ℕ, ◌+◌, ◌<◌, ◌^◌, List, [], ◌∷◌, ◌++◌, length, OnOk, OnErr};
+ghost use Rattle.std.specs.Prelude.{◌≡◌, ℕ, ◌+◌, ◌<◌, ◌^◌, List, [], ◌∷◌, ◌++◌, length, slice_get, OnOk, OnErr};
 ghost use Rattle.codegen_base.specs.declared.element.Element.{Element as OneElement};
 ghost use Rattle.codegen_base.specs.Elements.{found_at, place_of, with_element};
 ghost use Rattle.codegen_expression.specs.Indexes.{place_in};
@@ -44,6 +44,13 @@ impl ElementList {
         ensures { result.now ≡ self.now }
     {
         self.elements.as_slice()
+    }
+
+    /// The element at a place.
+    pub fn element_at(&self, place: usize) -> Option<Element>
+        ensures { result ≡ slice_get self.now place }
+    {
+        self.elements.get(place).copied()
     }
 
     /// Where an element stands.

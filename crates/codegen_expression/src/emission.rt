@@ -3,7 +3,7 @@
 ghost use Rattle.std.specs.Prelude.{◌≡◌, ◌++◌, ◌∷◌, [], Bool, IfOk, IfSome, List, OnOk, Some, length, map, option_and_then, option_map};
 ghost use Rattle.std.specs.Result.{result_ok};
 ghost use Rattle.bytecode.specs.declared.instr.Instr.{Instr as OneInstr};
-ghost use Rattle.syntax.specs.Tree.{Binary, Call, Composite, Named, expressions};
+ghost use Rattle.syntax.specs.Tree.{Binary, Call, Composite, Named, Receive, expressions};
 ghost use Rattle.syntax.specs.View.{expression_of, name_of};
 ghost use Rattle.type_table.specs.Types.{IntType};
 ghost use Rattle.type_table.specs.Views.{field_in, kind_of};
@@ -14,18 +14,17 @@ ghost use Rattle.codegen_base.specs.Layouts.{type_of};
 ghost use Rattle.codegen_base.specs.Pushes.{emits, emits_all, kinds_in, operates, pushes};
 ghost use Rattle.codegen_base.specs.Statements.{pushes_arguments};
 ghost use Rattle.plan.specs.Plan.{Plan};
-ghost use Rattle.codegen_expression.specs.Emission.{Puts, kind_in, listed, literal_part, picking, receiving, signing};
+ghost use Rattle.codegen_expression.specs.Emission.{IsPlaced, Puts, kind_in, listed, literal_part, picking, receiving, signing};
 ghost use Rattle.codegen_expression.specs.Contexts.{elements_of, globals_of, scope_in, types_in, worth_in};
 
-use crate::channel::{callee, parameters_at, put_make, put_receive};
+use crate::channel::{Placed, callee, parameters_at, put_make, put_receive};
 use crate::context::Context;
 use crate::operand::{fields_of, kind_in, named, number, push_zeros, put, settle, words_of};
 use crate::operation::{lead, operate};
 use crate::operator::sign_of;
 use bytecode::Instr;
 use checker_base::operand::{
-    worth_before, worth_between, worth_called, worth_composite, worth_literal, worth_received,
-    worth_selected,
+    worth_before, worth_between, worth_called, worth_composite, worth_literal, worth_selected,
 };
 use checker_base::worth::{Worth, named_worth};
 use std::alloc::AllocError;
@@ -74,8 +73,8 @@ pub fn emit<'t, 'v, 'm, 'k>(
             emit_call(context, visible, name, values, code)
         }
         ExpressionNode::Receive(channel) => {
-            let channel = emit(context, visible, channel, code)?;
-            emit_received(context, channel, code)
+            let item = emit_receive(context, visible, channel, code)?;
+            Ok(item.worth)
         }
         ExpressionNode::Make(kind) => {
             put(code, Instr::Int(0))?;
@@ -94,6 +93,49 @@ pub fn emit<'t, 'v, 'm, 'k>(
             emit_measure(Instr::Cap, code)
         }
     }
+}
+
+/// Emits a channel. Of one that was received it answers the place of the element too, so that receives within one another
+/// need not look for each.
+///
+/// Errors: want of memory.
+#[cycle(emit)]
+pub(crate) fn emit_channel<'t, 'v, 'm, 'k>(
+    context: &'t Context<'t, 'k>,
+    visible: &'v Visible<'k>,
+    channel: &'k ExpressionNode,
+    code: &'m mut Vec<Instr>,
+) -> Result<Placed<'k>, AllocError>
+    ensures worth { IfOk result (λ made. worth_in context.now made.worth ≡ worth (globals_of context.now) (scope_in context.now visible.now) (expression_of channel.now)) }
+    ensures small { IfOk result (λ made. IfSome made.worth IsSmall) }
+    ensures placed { IfOk result (λ made. IsPlaced (elements_of context.now) (worth_in context.now made.worth) made.place) }
+    ensures emitted { OnOk result (Puts code.old.items code.new.items (emits (globals_of context.now) (elements_of context.now) (scope_in context.now visible.now) (expression_of channel.now))) }
+{
+    match channel {
+        ExpressionNode::Parenthesized(inner) => emit_channel(context, visible, inner, code),
+        ExpressionNode::Receive(inner) => emit_receive(context, visible, inner, code),
+        _ => {
+            let worth = emit(context, visible, channel, code)?;
+            Ok(Placed { worth, place: None })
+        }
+    }
+}
+
+/// Emits a receive from a channel ("Receive operator").
+#[cycle(emit)]
+fn emit_receive<'t, 'v, 'm, 'k>(
+    context: &'t Context<'t, 'k>,
+    visible: &'v Visible<'k>,
+    channel: &'k ExpressionNode,
+    code: &'m mut Vec<Instr>,
+) -> Result<Placed<'k>, AllocError>
+    ensures worth { IfOk result (λ made. worth_in context.now made.worth ≡ worth (globals_of context.now) (scope_in context.now visible.now) (Receive (expression_of channel.now))) }
+    ensures small { IfOk result (λ made. IfSome made.worth IsSmall) }
+    ensures placed { IfOk result (λ made. IsPlaced (elements_of context.now) (worth_in context.now made.worth) made.place) }
+    ensures emitted { OnOk result (Puts code.old.items code.new.items (emits (globals_of context.now) (elements_of context.now) (scope_in context.now visible.now) (Receive (expression_of channel.now)))) }
+{
+    let from = emit_channel(context, visible, channel, code)?;
+    emit_received(context, from, code)
 }
 
 /// Pushes a value as one of a type.
@@ -336,19 +378,21 @@ fn emit_sign<'k>(
     Ok(worth_before(operator, operand))
 }
 
-/// Emits a receive from a channel, which is pushed; whether an item was sent is dropped ("Receive operator").
+/// Emits a receive from a channel, which is pushed; whether an item was sent is dropped.
 fn emit_received<'k>(
     context: &Context<'_, 'k>,
-    channel: Option<Worth<'k>>,
+    channel: Placed<'k>,
     code: &mut Vec<Instr>,
-) -> Result<Option<Worth<'k>>, AllocError>
-    ensures worth { IfOk result (λ w. worth_in context.now w ≡ option_map Typed (element_of (worth_in context.now channel.entry))) }
-    ensures small { IfOk result (λ w. IfSome w IsSmall) }
-    ensures emitted { OnOk result (code.new.items ≡ code.old.items ++ receiving (elements_of context.now) (worth_in context.now channel.entry) ∷ Instr.Discard 1 ∷ []) }
+) -> Result<Placed<'k>, AllocError>
+    requires { IsPlaced (elements_of context.now) (worth_in context.now channel.worth) channel.place }
+    ensures worth { IfOk result (λ item. worth_in context.now item.worth ≡ option_map Typed (element_of (worth_in context.now channel.entry.worth))) }
+    ensures small { IfOk result (λ item. IfSome item.worth IsSmall) }
+    ensures placed { IfOk result (λ item. IsPlaced (elements_of context.now) (worth_in context.now item.worth) item.place) }
+    ensures emitted { OnOk result (code.new.items ≡ code.old.items ++ receiving (elements_of context.now) (worth_in context.now channel.entry.worth) ∷ Instr.Discard 1 ∷ []) }
 {
-    put_receive(context, channel, code)?;
+    let item = put_receive(context, channel, code)?;
     put(code, Instr::Discard(1))?;
-    Ok(worth_received(context.table, channel))
+    Ok(item)
 }
 
 /// Emits `len` or `cap`, whose instruction this is, of a channel, which is pushed.

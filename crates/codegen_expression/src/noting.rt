@@ -31,7 +31,10 @@ fn note_type(
     ensures count { OnOk result (length elements.new ≤ length elements.old + type_size (type_of kind.now)) }
 {
     match global_type_in(table.types(), kind) {
-        Some(kind) => note_kind(table, elements, kind),
+        Some(kind) => {
+            note_kind(table, elements, kind)?;
+            Ok(())
+        }
         None => Ok(()),
     }
 }

@@ -1,6 +1,6 @@
 //! Operands: names, fields, zeros, and constants that are used as values.
 
-ghost use Rattle.std.specs.Prelude.{◌≡◌, ◌++◌, ◌∷◌, [], ◌<◌, ◌≤◌, ◌^◌, IfErr, IfOk, IfSome, OnOk, map, option_map};
+ghost use Rattle.std.specs.Prelude.{◌≡◌, ◌++◌, ◌∷◌, [], ◌<◌, ◌≤◌, ◌^◌, IfErr, IfOk, IsSomeAnd, OnOk, map, option_map};
 ghost use Rattle.type_table.specs.Scopes.{variable_named};
 ghost use Rattle.type_table.specs.Views.{field_in, kind_of};
 ghost use Rattle.type_table.specs.Visible.{globals_in, types_of};
@@ -96,7 +96,7 @@ pub(crate) fn named<'k>(
     name: &[u8],
 ) -> Result<Instr, AllocError>
     ensures instr { IfOk result (λ i. i ≡ named (globals_of context.now) (elements_of context.now) (scope_in context.now visible.now) name.now) }
-    ensures far { IfErr result (λ _. IfSome (variable_named (scope_in context.now visible.now) name.now) (λ v. 2 ^ 32 ≤ v.place)) }
+    ensures far { IfErr result (λ _. IsSomeAnd (variable_named (scope_in context.now visible.now) name.now) (λ v. 2 ^ 32 ≤ v.place)) }
 {
     if is_truth(name) {
         return Ok(Instr::Bool(name == b"true".as_slice()));

@@ -1,6 +1,6 @@
 //! What operators do between their operands and behind them ("Operators" of the Go specification).
 
-ghost use Rattle.std.specs.Prelude.{◌≡◌, ◌++◌, ◌∷◌, [], OnOk, length, option_map, slice_set};
+ghost use Rattle.std.specs.Prelude.{◌≡◌, ◌++◌, ◌≤◌, ◌^◌, ◌∷◌, [], IfErr, OnOk, length, option_map, slice_set};
 ghost use Rattle.type_table.specs.Views.{kind_of};
 ghost use Rattle.checker_base.specs.Views.{worth_of};
 ghost use Rattle.codegen_base.specs.Pushes.{elements_shape, operator_of};
@@ -84,7 +84,8 @@ fn close_and(test: usize, code: &mut Vec<Instr>) -> Result<(), AllocError>
 
 /// Behind the right operand of `||`: the jump over it leads there.
 fn close_or(over: usize, code: &mut Vec<Instr>) -> Result<(), AllocError>
-    ensures { OnOk result (code.new.items ≡ slice_set code.old.items over (Instr.Jump (length code.old.items))) }
+    ensures closed { OnOk result (code.new.items ≡ slice_set code.old.items over (Instr.Jump (length code.old.items))) }
+    ensures far { IfErr result (λ _. 2 ^ 32 ≤ length code.old.items) }
 {
     let end = number(code.len())?;
     aim(code, over, Instr::Jump(end));

@@ -43,24 +43,27 @@ pub fn shape_of<'k>(context: &Context<'_, 'k>, kind: ValueType<'k>) -> u32
     context.elements.place_of(element)
 }
 
-/// Notes the elements of the channels in a type, those within others first.
-#[tactic(auto, using(crate::proofs::Counting::with_length))]
+/// Notes the elements of the channels in a type, those within others first, and answers what a channel of the type carries.
+#[tactic(auto, using(crate::proofs::Counting::with_length, crate::proofs::Finding::element_kept))]
 pub fn note_kind<'t, 'e, 'k>(
     table: &'t TypeTable<'k>,
     elements: &'e mut ElementList,
     kind: ValueType<'k>,
-) -> Result<(), AllocError>
+) -> Result<Element, AllocError>
     requires room { length elements.old + depth (kind_of (types_of table.now) kind) < 2 ^ 32 }
     ensures count { OnOk result (length elements.new ≤ length elements.old + depth (kind_of (types_of table.now) kind.entry)) }
     ensures noted { OnOk result (elements.new ≡ with_type elements.old (kind_of (types_of table.now) kind.entry)) }
+    ensures element { IfOk result (λ element. element ≡ element_of elements.new (kind_of (types_of table.now) kind.entry)) }
 {
     match kind {
+        ValueType::Int => Ok(Element::Int),
+        ValueType::Bool => Ok(Element::Bool),
+        ValueType::Struct(number) => Ok(Element::Struct(number)),
         ValueType::Channel(_, carried) => {
-            let carried = element_in(table, carried);
-            note_kind(table, elements, carried)?;
-            elements.note(element_of(table, elements, carried))
+            let carried = note_kind(table, elements, element_in(table, carried))?;
+            elements.note(carried)?;
+            Ok(Element::Channel(elements.place_of(carried) as usize))
         }
-        _ => Ok(()),
     }
 }
 

@@ -1,6 +1,6 @@
 //! Selects, without their ways.
 
-ghost use Rattle.std.specs.Prelude.{◌≡◌, ◌∷◌, ◌++◌, [], IfOk, None, OnOk, Some, cond, length, option_map, slice_set};
+ghost use Rattle.std.specs.Prelude.{◌≡◌, ◌≤◌, ◌^◌, ◌∷◌, ◌++◌, [], IfErr, IfOk, None, OnOk, Some, cond, length, option_map, slice_set};
 ghost use Rattle.bytecode.specs.declared.instr.Instr.TheVariants as instrs;
 ghost use Rattle.codegen_flow.specs.Controls.{control};
 ghost use Rattle.codegen_flow.specs.Closed.{closed, closed_one};
@@ -47,7 +47,9 @@ pub fn hold(leads: bool, code: &mut Vec<Instr>) -> Result<Held, AllocError>
 
 /// The ways behind one have ended: the jump over them gets its target. Where there are none, it is taken back.
 fn close_one(held: Held, are_there: bool, code: &mut Vec<Instr>) -> Result<(), AllocError>
-    ensures { OnOk result (code.new.items ≡ closed_one held are_there code.old.items) }
+    ensures closed { OnOk result (code.new.items ≡ closed_one held are_there code.old.items) }
+    ensures shorter { OnOk result (length code.new.items ≤ length code.old.items) }
+    ensures far { IfErr result (λ _. 2 ^ 32 ≤ length code.old.items) }
 {
     if !are_there {
         code.truncate(held.place);
@@ -66,7 +68,8 @@ fn close_one(held: Held, are_there: bool, code: &mut Vec<Instr>) -> Result<(), A
 /// Errors: a number of the code would pass 2^32.
 #[tactic(auto, using(crate::proofs::Closing::closed_last))]
 pub fn close(all: &[Held], are_there: bool, code: &mut Vec<Instr>) -> Result<(), AllocError>
-    ensures { OnOk result (code.new.items ≡ closed all.now are_there code.old.items) }
+    ensures closed { OnOk result (code.new.items ≡ closed all.now are_there code.old.items) }
+    ensures far { IfErr result (λ _. 2 ^ 32 ≤ length code.old.items) }
 {
     let mut left = all;
     let mut there = are_there;

@@ -1,6 +1,6 @@
 //! Conditions with two ways.
 
-ghost use Rattle.std.specs.Prelude.{◌≡◌, ◌∷◌, ◌++◌, [], IfOk, OnOk, cond, length, slice_set};
+ghost use Rattle.std.specs.Prelude.{◌≡◌, ◌≤◌, ◌^◌, ◌∷◌, ◌++◌, [], IfErr, IfOk, OnOk, cond, length, slice_set, true};
 ghost use Rattle.syntax.specs.View.{otherwise_of};
 ghost use Rattle.codegen_flow.specs.Branches.{is_other};
 ghost use Rattle.bytecode.specs.declared.instr.Instr.TheVariants as instrs;
@@ -35,7 +35,8 @@ fn hold_jump(leads: bool, code: &mut Vec<Instr>) -> Result<(), AllocError>
 ///
 /// Errors: a number of the code would pass 2^32.
 pub fn end_test(test: usize, code: &mut Vec<Instr>) -> Result<(), AllocError>
-    ensures { OnOk result (code.new.items ≡ slice_set code.old.items test (instrs.Unless (length code.old.items))) }
+    ensures ended { OnOk result (code.new.items ≡ slice_set code.old.items test (instrs.Unless (length code.old.items))) }
+    ensures far { IfErr result (λ _. 2 ^ 32 ≤ length code.old.items) }
 {
     let next = number(code.len())?;
     aim(code, test, Instr::Unless(next));
@@ -59,7 +60,8 @@ pub fn begin_other(test: usize, leads: bool, code: &mut Vec<Instr>) -> Result<us
 ///
 /// Errors: a number of the code would pass 2^32.
 pub fn end_other(over: usize, leads: bool, code: &mut Vec<Instr>) -> Result<(), AllocError>
-    ensures { OnOk result (code.new.items ≡ cond leads (slice_set code.old.items over (instrs.Jump (length code.old.items))) code.old.items) }
+    ensures ended { OnOk result (code.new.items ≡ cond leads (slice_set code.old.items over (instrs.Jump (length code.old.items))) code.old.items) }
+    ensures far { IfErr result (λ _. (leads ≡ true) × (2 ^ 32 ≤ length code.old.items)) }
 {
     if leads {
         let next = number(code.len())?;

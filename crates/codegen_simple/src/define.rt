@@ -1,6 +1,6 @@
 //! Names that are declared, and take values ("Short variable declarations", "Variable declarations" of the Go specification).
 
-ghost use Rattle.std.specs.Prelude.{◌≡◌, IfOk, List, OnOk, map};
+ghost use Rattle.std.specs.Prelude.{◌≡◌, ◌≤◌, ◌^◌, ◌⊎◌, IfErr, IfOk, IsSomeAnd, List, OnOk, map};
 ghost use Rattle.syntax.specs.View.{name_of};
 ghost use Rattle.type_table.specs.Scopes.{own_variable};
 ghost use Rattle.type_table.specs.Views.{kind_of};
@@ -29,7 +29,8 @@ fn own_spot<'a>(
     name: &[u8],
     kind: ValueType<'a>,
 ) -> Result<Spot, AllocError>
-    ensures { IfOk result (λ spot. spot_in spot ≡ own_spot (globals_of context.now) (elements_of context.now) (scope_in context.now visible.now) (kind_of (types_in context.now) kind.entry) (own_variable (scope_in context.now visible.now) name.now)) }
+    ensures spot { IfOk result (λ spot. spot_in spot ≡ own_spot (globals_of context.now) (elements_of context.now) (scope_in context.now visible.now) (kind_of (types_in context.now) kind.entry) (own_variable (scope_in context.now visible.now) name.now)) }
+    ensures far { IfErr result (λ _. IsSomeAnd (own_variable (scope_in context.now visible.now) name.now) (λ v. 2 ^ 32 ≤ v.place)) }
 {
     match own_variable(context.table, visible, name) {
         Some(entry) => {
@@ -41,13 +42,16 @@ fn own_spot<'a>(
 }
 
 /// Where a value of this type goes that a name takes.
+///
+/// Errors: that begins at 2^32 or behind, which counts as want of memory.
 pub fn name_spot<'a>(
     context: &Context<'_, 'a>,
     layout: &Layout<'a>,
     name: &Name,
     kind: ValueType<'a>,
 ) -> Result<Spot, AllocError>
-    ensures { IfOk result (λ spot. spot_in spot ≡ name_spot (globals_of context.now) (elements_of context.now) (layout_in context.now layout.now) (name_of name.now) (kind_of (types_in context.now) kind.entry)) }
+    ensures spot { IfOk result (λ spot. spot_in spot ≡ name_spot (globals_of context.now) (elements_of context.now) (layout_in context.now layout.now) (name_of name.now) (kind_of (types_in context.now) kind.entry)) }
+    ensures far { IfErr result (λ _. (2 ^ 32 ≤ layout.now.visible.words) ⊎ IsSomeAnd (own_variable (scope_in context.now layout.now.visible) (name_of name.now)) (λ v. 2 ^ 32 ≤ v.place)) }
 {
     let name = name.bytes.as_slice();
     if is_declarable(context.table, &layout.visible, name) {

@@ -87,7 +87,7 @@ emit_endless-returns t c =
     let again = c.in_ok-again.again in
     let done : e3.code.items ≡ filled flow.waits stop again e2.code.items = c.fill.ensures ∙ ap (λ (ws : List Wait). filled ws stop again e2.code.items) c.as_slice.ensures.value in
     emits_untested table (globals_in table) c.args.context.now.program.now.elements.now (yield_of (types_of table) c.args.context.now.result_type) (body_of c.args.body.now) post c.comes_round-turns.result e0 e1 e2 e3 flow (control c.behind_loop.result) c.in_ok-head.head again stop
-    c.in_ok-within.ensures c.comes_round-turns.ensures c.in_ok-head.ensures c.in_ok-again.ensures c.in_ok-emit_round.ensures c.in_ok-stop.ensures done (record { prints = refl; selects = refl; layout = refl }) c.behind_loop.ensures
+    c.in_ok-within.ensures c.comes_round-turns.ensures c.in_ok-head.ensures.place c.in_ok-again.ensures.place c.in_ok-emit_round.ensures c.in_ok-stop.ensures.place done (record { prints = refl; selects = refl; layout = refl }) c.behind_loop.ensures
 
 pub emit_tested-returns : goal.emit_tested-returns
 emit_tested-returns t c =
@@ -106,7 +106,7 @@ emit_tested-returns t c =
     c.fill.ensures ∙ ap (λ (ws : List Wait). filled ws stop again c.aim.new.code.items) c.as_slice.ensures.value ∙ ap (λ (l : List Instr). filled flow.waits stop again l) (c.aim.ensures ∙ ap (λ n. slice_set e4.code.items n (instrs.Unless stop)) c.in_ok-test.ensures.place) in
     let same : Beside e0 e0 = record { prints = refl; selects = refl; layout = refl } in
     emits_tested table (globals_in table) c.args.context.now.program.now.elements.now (yield_of (types_of table) c.args.context.now.result_type) (expression_of c.args.condition.now) (body_of c.args.body.now) post c.comes_round-turns.result e0 e1 e2 e3 e4 e5 flow (control c.through.result) c.in_ok-head.head again stop
-    c.in_ok-push_test.ensures (record { prints = refl; selects = refl; layout = refl }) c.in_ok-test.ensures.held (record { prints = refl; selects = refl; layout = refl }) c.in_ok-within.ensures c.comes_round-turns.ensures c.in_ok-head.ensures c.in_ok-again.ensures c.in_ok-emit_round.ensures c.in_ok-stop.ensures done
+    c.in_ok-push_test.ensures (record { prints = refl; selects = refl; layout = refl }) c.in_ok-test.ensures.held (record { prints = refl; selects = refl; layout = refl }) c.in_ok-within.ensures c.comes_round-turns.ensures c.in_ok-head.ensures.place c.in_ok-again.ensures.place c.in_ok-emit_round.ensures c.in_ok-stop.ensures.place done
     (record { prints = refl; selects = refl; layout = refl }) c.through.ensures
 
 pub emit_clauses-returns : goal.emit_clauses-returns
@@ -166,7 +166,7 @@ emit_one_way-returns t c =
     let so = made_within globals elements result (site_of table e0) (body_of c.args.branch.now.body.items) in
     let within = subst (λ (b : List StatementNode). Emits table e2 e3 (control c.in_ok-flow.flow) (made_within globals elements result (site_of table e0) (body_of b))) c.as_slice-body.ensures.value c.in_ok-flow.ensures in
     let next = length e3.code.items in
-    let set : e4.code.items ≡ slice_set e3.code.items (length e1.code.items) (instrs.Unless next) = c.in_ok-end_test.ensures ∙ ap (λ n. slice_set e3.code.items n (instrs.Unless next)) c.in_ok-test.ensures.place in
+    let set : e4.code.items ≡ slice_set e3.code.items (length e1.code.items) (instrs.Unless next) = c.in_ok-end_test.ensures.ended ∙ ap (λ n. slice_set e3.code.items n (instrs.Unless next)) c.in_ok-test.ensures.place in
     emits_one_way table globals elements result (expression_of c.args.branch.now.condition) so e0 e1 e2 e3 e4 (control c.in_ok-flow.flow) (control c.may_end.new.flow) next c.in_ok-push_test.ensures (record { prints = refl; selects = refl; layout = refl })
     c.in_ok-test.ensures.held (record { prints = refl; selects = refl; layout = refl }) within refl set (record { prints = refl; selects = refl; layout = refl }) c.may_end.ensures
 
@@ -189,7 +189,7 @@ emit_two_ways-returns t c =
     let within = subst (λ (b : List StatementNode). Emits table e2 e3 (control c.in_ok-flow.flow) (made_within globals elements result (site_of table e0) (body_of b))) c.as_slice-body.ensures.value c.in_ok-flow.ensures in
     let begun : e4.code.items ≡ slice_set (e3.code.items ++ over) (length e1.code.items) (instrs.Unless (length e4.code.items)) = c.in_ok-over.ensures.begun ∙ ap (λ n. slice_set (e3.code.items ++ over) n (instrs.Unless (length e4.code.items))) c.in_ok-test.ensures.place in
     let ended_at : e6.code.items ≡ cond f.ends (slice_set e5.code.items (length e3.code.items) (instrs.Jump (length e5.code.items))) e5.code.items =
-    c.in_ok-end_other.ensures ∙ ap (λ n. cond f.ends (slice_set e5.code.items n (instrs.Jump (length e5.code.items))) e5.code.items) c.in_ok-over.ensures.over in
+    c.in_ok-end_other.ensures.ended ∙ ap (λ n. cond f.ends (slice_set e5.code.items n (instrs.Jump (length e5.code.items))) e5.code.items) c.in_ok-over.ensures.over in
     emits_two_ways table globals elements result (expression_of c.args.branch.now.condition) so (λ site. made_other globals elements result site (otherwise_of c.args.branch.now.otherwise)) e0 e1 e2 e3 e4 e5 e6 f (control c.in_ok-other.other) (control c.join_way.new.flow) c.in_ok-push_test.ensures
     (record { prints = refl; selects = refl; layout = refl }) c.in_ok-test.ensures.held (record { prints = refl; selects = refl; layout = refl }) within begun (record { prints = refl; selects = refl; layout = refl }) c.in_ok-other.ensures ended_at (record { prints = refl; selects = refl; layout = refl })
     c.in_ok-join_way.ensures
@@ -236,7 +236,7 @@ emit_items-returns t c = λ around channel place_is kind_is.
     let item = subst (λ k. Emits table e2 e3 flow (made_item globals elements result (site_of table e0) k target body)) (sym kind_is) c.in_ok-within.ensures in
     let unused = subst (λ k. Appends e4.code.items e5.code.items (drops (width globals elements around.scope k) Skip)) (sym kind_is) (c.in_ok-emit_unused.ensures around.scope) in
     emits_items globals elements result table around channel target body c.comes_round.result e0 e1 e2 e3 e4 e5 e6 flow (control c.through.result) c.in_ok-head.head again exit stop (c.in_ok-emit_next.ensures result around channel place_is kind_is) (record { prints = refl; selects = refl; layout = refl }) c.in_ok-test.ensures.held
-    (record { prints = refl; selects = refl; layout = refl }) item c.comes_round.ensures c.in_ok-head.ensures c.in_ok-again.ensures c.in_ok-come_round.ensures (record { prints = refl; selects = refl; layout = refl }) c.in_ok-exit.ensures unused (record { prints = refl; selects = refl; layout = refl }) c.in_ok-stop.ensures done (record { prints = refl; selects = refl; layout = refl }) c.through.ensures
+    (record { prints = refl; selects = refl; layout = refl }) item c.comes_round.ensures c.in_ok-head.ensures.place c.in_ok-again.ensures.place c.in_ok-come_round.ensures (record { prints = refl; selects = refl; layout = refl }) c.in_ok-exit.ensures.place unused (record { prints = refl; selects = refl; layout = refl }) c.in_ok-stop.ensures.place done (record { prints = refl; selects = refl; layout = refl }) c.through.ensures
 
 pub emit_range-returns : goal.emit_range-returns
 emit_range-returns t c =
@@ -298,7 +298,7 @@ emit_clause-returns t c = λ whole left all first reaches.
     let body_is = c.as_slice-body.ensures.value in
     let here = subst (λ o. Reaches globals elements result table whole first e0 list (Clause o (body_of clause.body.items) left) all) with_comm (subst (λ (o : OneClause). Reaches globals elements result table whole first e0 list (Clause o.comm o.body left) all) is reaches) in
     let way = subst (λ (b : List StatementNode). Emits table e0 e1 f (made_way globals elements result (site_of table e0) (comm_of c.in-Some.comm) (body_of b))) body_is c.in_ok-flow.ensures in
-    let places : next.places.items ≡ list.places.items ++ length e0.code.items ∷ [] = c.in_ok-add_way.ensures.places ∙ ap (λ n. list.places.items ++ n ∷ []) c.in_ok-place.ensures in
+    let places : next.places.items ≡ list.places.items ++ length e0.code.items ∷ [] = c.in_ok-add_way.ensures.places ∙ ap (λ n. list.places.items ++ n ∷ []) c.in_ok-place.ensures.place in
     reaches_more globals elements result table whole first e0 e1 e2 list next f c.in_ok-held.held (comm_of c.in-Some.comm) (body_of clause.body.items) left all here way c.in_ok-held.ensures.held (record { prints = refl; selects = refl; layout = refl }) c.in_ok-held.ensures.place c.in_ok-held.ensures.leads
     c.in_ok-add_way.ensures.flow places c.in_ok-add_way.ensures.held
 
@@ -405,10 +405,10 @@ emit_all_ways-returns t c =
     let default = option_map control c.in_ok-default.default in
     let there : c.is_some-there.result ≡ is_some default = search rules in
     let closes : e3.code.items ≡ closed list.held.items (is_some default) e2.code.items =
-    c.in_ok-close.ensures ∙ ap (λ (hs : List Held). closed hs c.is_some-there.result e2.code.items) c.as_slice.ensures.value ∙ ap (λ b. closed list.held.items b e2.code.items) there in
+    c.in_ok-close.ensures.closed ∙ ap (λ (hs : List Held). closed hs c.is_some-there.result e2.code.items) c.as_slice.ensures.value ∙ ap (λ b. closed list.held.items b e2.code.items) there in
     let same : is_some c.in_ok-default.default ≡ is_some default = search rules in
     let places : c.end_ways.new.list.places.items ≡ default_start list.places.items e1 default =
-    c.in_ok-end_ways.ensures.places ∙ ap (λ n. list.places.items ++ cond (is_some c.in_ok-default.default) (n ∷ []) []) c.in_ok-place.ensures ∙ ap (λ b. list.places.items ++ cond b (length e1.code.items ∷ []) []) same in
+    c.in_ok-end_ways.ensures.places ∙ ap (λ n. list.places.items ++ cond (is_some c.in_ok-default.default) (n ∷ []) []) c.in_ok-place.ensures.place ∙ ap (λ b. list.places.items ++ cond b (length e1.code.items ∷ []) []) same in
     all_ways table globals elements result all e0 e1 e2 e3 list default (option_map control c.end_ways.new.list.flow) c.end_ways.new.list.places.items (c.in_ok-list.ensures all) c.in_ok-default.ensures closes (record { prints = refl; selects = refl; layout = refl }) places c.in_ok-end_ways.ensures.flow
 
 pub emit_select-returns : goal.emit_select-returns

@@ -1,7 +1,7 @@
 use Rattle.std.proofs.Common.{rules, arith, ◌≡◌, ◌∙◌, ap, sym, length, option_map}
 use Rattle.std.proofs.lemmas.Result.{on_ok_weaker}
 use Rattle.bytecode.specs.declared.instr.Instr.TheVariants as instrs
-use Rattle.syntax.specs.Tree.{Unary, Receive, Make, MakeSized, Length, Capacity}
+use Rattle.syntax.specs.Tree.{Unary, Make, MakeSized, Length, Capacity}
 use Rattle.syntax.specs.View.{expression_of, name_of, type_of}
 use Rattle.type_table.specs.Views.{kind_of}
 use Rattle.type_table.specs.Visible.{globals_in, scope_of, types_of}
@@ -12,7 +12,7 @@ use Rattle.codegen_expression.proofs.Operating.{puts_signed, puts_then}
 use Rattle.codegen_expression.proofs.Selecting.{literal_none, literal_some, puts_selection}
 use Rattle.codegen_expression.proofs.Pushed.{puts_pushes, puts_right}
 use Rattle.codegen_expression.proofs.Requesting.{emits_make, emits_make_sized, emits_receive}
-use Rattle.syntax.proofs.Nodes.{integer_is, selection_is, unary_is, composite_is, call_is, receive_is, make_is, make_sized_is, length_is, capacity_is}
+use Rattle.syntax.proofs.Nodes.{integer_is, selection_is, unary_is, composite_is, call_is, make_is, make_sized_is, length_is, capacity_is}
 use Rattle.codegen_expression.proofs.emission.+emit.Goals as goal
 
 pub emit-returns-in-Integer-clause-worth : goal.emit-returns-in-Integer-clause-worth
@@ -77,12 +77,10 @@ emit-returns-in-Call-clause-worth t c = rw (call_is _ _ _ _ c.in-Call.is) (c.emi
 pub emit-returns-in-Call-clause-emitted : goal.emit-returns-in-Call-clause-emitted
 emit-returns-in-Call-clause-emitted t c = rw (call_is _ _ _ _ c.in-Call.is) (rw c.as_slice-values-in-Call.ensures.value at (c.emit_call.ensures.emitted c.in-Call.field-2))
 
-pub emit-returns-in_ok-channel-in-Receive-clause-emitted : goal.emit-returns-in_ok-channel-in-Receive-clause-emitted
-emit-returns-in_ok-channel-in-Receive-clause-emitted t c =
-    let channel = expression_of c.deref-in-Receive.result.now in
-    let is : expression_of c.args.expression.now ≡ Receive channel = receive_is _ _ c.in-Receive.is ∙ ap (λ n. Receive (expression_of n)) (sym c.deref-in-Receive.ensures) in
-    rw is (on_ok_weaker c.emit_received.result (emits_receive (globals_in c.args.context.now.table.now) c.args.context.now.elements.now (scope_of c.args.context.now.table.now c.args.visible.now) channel
-    (option_map (worth_of (types_of c.args.context.now.table.now)) c.in_ok-channel-in-Receive.channel) c.args.code.now.items c.emit-in-Receive.new.code.items c.emit_received.new.code.items c.in_ok-channel-in-Receive.ensures.worth c.in_ok-channel-in-Receive.ensures.emitted) c.emit_received.ensures.emitted)
+pub emit_receive-returns-clause-emitted : goal.emit_receive-returns-clause-emitted
+emit_receive-returns-clause-emitted t c =
+    on_ok_weaker c.emit_received.result (emits_receive (globals_in c.args.context.now.table.now) c.args.context.now.elements.now (scope_of c.args.context.now.table.now c.args.visible.now) (expression_of c.args.channel.now)
+    (option_map (worth_of (types_of c.args.context.now.table.now)) c.in_ok-from.from.worth) c.args.code.now.items c.emit_channel.new.code.items c.emit_received.new.code.items c.in_ok-from.ensures.worth c.in_ok-from.ensures.emitted) c.emit_received.ensures.emitted
 
 pub emit-returns-in_ok-put-in-Make-clause-emitted : goal.emit-returns-in_ok-put-in-Make-clause-emitted
 emit-returns-in_ok-put-in-Make-clause-emitted t c =

@@ -8,6 +8,12 @@ use Rattle.codegen_expression.proofs.emission.+emit.Given as goal
 abbrev pub decreases-emit : goal.decreases-emit
 decreases-emit l = 8 * expression_size (expression_of l.expression.now)
 
+abbrev pub decreases-emit_channel : goal.decreases-emit_channel
+decreases-emit_channel l = 8 * expression_size (expression_of l.channel.now) + 1
+
+abbrev pub decreases-emit_receive : goal.decreases-emit_receive
+decreases-emit_receive l = 8 * expression_size (expression_of l.channel.now) + 2
+
 abbrev pub decreases-push : goal.decreases-push
 decreases-push l = 8 * expression_size (expression_of l.expression.now) + 1
 

@@ -7,8 +7,8 @@ use Rattle.codegen_simple.specs.Layouts.{layout_of}
 use Rattle.codegen_simple.proofs.Naming.{new_spot}
 use Rattle.codegen_simple.proofs.define.name_spot.Goals as goal
 
-pub returns-then-is_declarable : goal.returns-then-is_declarable
-returns-then-is_declarable c =
+pub returns-then-is_declarable-clause-spot : goal.returns-then-is_declarable-clause-spot
+returns-then-is_declarable-clause-spot c =
     let globals = globals_in c.args.context.now.table.now in
     let layout = layout_of c.args.context.now.table.now c.args.layout.now in
     let kind = kind_of (types_of c.args.context.now.table.now) c.args.kind in
