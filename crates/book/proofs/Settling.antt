@@ -12,17 +12,10 @@ use Rattle.turn_rule.specs.declared.Row.{Row}
 use Rattle.turn_rule.specs.Schedule.{has_turn}
 use Rattle.world_core_base.specs.Cores.{HasLease, HasTurn}
 use Rattle.world_core_base.specs.Slots.{State, Rows, IsAwake, IsBefore, raised_row, waiting_clock}
-use Rattle.book.specs.Desks.{Desk, IsDesk, IsNobodyLent, IsSeen, IsSight, Looks, OnlyLooks, Sighting, Waits, seen_desk}
+use Rattle.book.specs.Desks.{Desk, IsDesk, IsSeen, IsSight, Looks, OnlyLooks, Sighting, Waits, seen_desk}
 use Rattle.book.proofs.Books.{waits_free}
 use Rattle.book.proofs.Looks.{looks_keep, raised_rows, seen_is_desk, still_there, was_there}
 use Rattle.book.proofs.Whole.{looks_ending, looks_least, looks_more, looks_none, turn_by, waits_by}
-
-pub looks_desk : (old : Desk) (seen : List Sighting) (new : Desk) → IsDesk old → Looks old seen new → IsDesk new
-looks_desk old [] new h e = subst IsDesk (sym e) h
-looks_desk old (x ∷ xs) new h l = subst IsDesk (sym l.3) (seen_is_desk l.0 x (looks_desk old xs l.0 h l.1) l.2)
-
-pub looks_size : (old new : Desk) → OnlyLooks old new → length new.core.rows ≡ length old.core.rows
-looks_size old new h = (looks_keep old h.0 new h.1).size
 
 -- the floor of one that was looked at is what was found
 within : (rows : Rows) (n : ℕ) (row : Row State) → slice_index_or rows n None ≡ Some row → n < length rows
@@ -76,7 +69,7 @@ pub seen_ending : (mid new : Desk) (n : ℕ) → mid.core.ending ≡ None → (x
 seen_ending mid new n going s = ap (λ (d : Desk). d.core.ending) s.3 ∙ going
 
 -- how far the floor of one that is awake lies below the clock behind the key's
-pub behind : Key → Option (Row State) → ℕ
+abbrev pub behind : Key → Option (Row State) → ℕ
 behind k None = 0
 behind k (Some row) = k.clock + 1 - row.floor
 
@@ -107,10 +100,10 @@ pub waits_first : (d : Desk) (n : ℕ) (k : Key) → IsDesk d → d.core.ending 
 waits_first d n k h going e before unlent = waits_by d d n k h (looks_none d) going e before (λ lent. absurd (unlent lent))
 
 -- one that is lent, after a look at it
-pub waits_seen : (old new : Desk) (n : ℕ) (k : Key) → IsDesk old → old.core.ending ≡ None → least (keys waiting_clock 0 old.core.rows) ≡ Some k → IsSeen old new n → IsBefore new.core.rows k n → Waits old n new
-waits_seen old new n k h going e seen before =
-    let only : OnlyLooks old new = (seen.sight ∷ seen.earlier, seen.looks) in
-    waits_by old new n k (looks_desk old only.0 new h only.1) only (looks_ending old new only going) (looks_least old new (Some k) only e) before (λ lent. seen)
+pub waits_looked : (old mid new : Desk) (n : ℕ) (k : Key) → IsDesk mid → old.core.ending ≡ None → least (keys waiting_clock 0 old.core.rows) ≡ Some k → OnlyLooks old mid → (x : Sighting) × (x.number ≡ n) × IsSight mid x × (new ≡ seen_desk x mid) → IsBefore new.core.rows k n → Waits old n new
+waits_looked old mid new n k h going e only s before =
+    let more = seen_only old mid new n only s in
+    waits_by old new n k (subst IsDesk (sym s.3) (seen_is_desk mid s.0 h s.2)) more (looks_ending old new more going) (looks_least old new (Some k) more e) before (λ lent. seen_now old mid new n only s)
 
 -- one that is not lent, after looks at others
 pub waits_other : (old new : Desk) (n : ℕ) (k : Key) → IsDesk new → old.core.ending ≡ None → least (keys waiting_clock 0 old.core.rows) ≡ Some k → OnlyLooks old new → (HasLease new.core.rows n → ⊥) → IsBefore new.core.rows k n → Waits old n new
@@ -118,13 +111,3 @@ waits_other old new n k h going e only unlent before = waits_by old new n k h on
 
 pub turn_after : (old new : Desk) (k : Key) → old.core.ending ≡ None → least (keys waiting_clock 0 old.core.rows) ≡ Some k → OnlyLooks old new → has_turn k 0 new.core.rows ≡ true → HasTurn new.core k.number
 turn_after old new k going e only turn = turn_by new k (looks_ending old new only going) (looks_least old new (Some k) only e) turn
-
--- ---- answers that may be there
-
-pub when_none : (A : Type 0) (B : ℕ → Type 0) (C : Type 0) (o : Option ℕ) → MatchOption o A B → (A → C) → IfNone o C
-when_none A B C None m f = f m
-when_none A B C (Some x) m f = tt
-
-pub when_some : (A : Type 0) (B C : ℕ → Type 0) (o : Option ℕ) → MatchOption o A B → ((n : ℕ) → B n → C n) → IfSome o C
-when_some A B C None m f = tt
-when_some A B C (Some x) m f = f x m

@@ -229,10 +229,6 @@ pub record CommitsNext (old : Desk) (event : Recorded) (new : Desk) : Type 0 whe
   pub words : new.words ≡ old.words
   pub looks : new.looks ≡ old.looks
 
--- nobody who is lent stands before the key
-abbrev pub IsNobodyLent : Rows → Key → Type 0
-IsNobodyLent rows k = (n : ℕ) → HasLease rows n → IsBefore rows k n → ⊥
-
 -- n stands before the next event, and if it is lent, its floor is what a look has found now
 pub record Waits (old : Desk) (n : ℕ) (new : Desk) : Type 0 where
   pub only : OnlyLooks old new

@@ -4,7 +4,8 @@ use Rattle.std.specs.Option.{is_some}
 use Rattle.bytecode.specs.Code.{Code}
 use Rattle.clock_table.specs.declared.view.Loan.{Loan}
 use Rattle.clock_table.specs.declared.view.Row.{Row as Word}
-use Rattle.clock_table.specs.Clocks.{IsFree, IsLentOn, loan_for, row as word_at}
+use Rattle.clock_table.specs.declared.view.Row.TheVariants.{Home, Lent, Back}
+use Rattle.clock_table.specs.Clocks.{IsLentOn, loan_for, row as word_at}
 use Rattle.slot_index.specs.Numbers.{Numbered, number_at, slot_of}
 use Rattle.turn_rule.specs.declared.Row.{Row}
 use Rattle.world_core_base.specs.Cores.{IsLentRow}
@@ -15,9 +16,15 @@ use Rattle.book.specs.Desks.{Desk, IsDesk}
 abbrev pub place_of : Numbered → ℕ → ℕ
 place_of places n = unwrap_or (slot_of places n) 0
 
+-- whether the slot is not lent
+abbrev pub is_home : Word → Bool
+is_home (Home c) = true
+is_home (Lent loan seen) = false
+is_home (Back was loan c) = false
+
 -- a slot that nobody has is not lent
 abbrev pub AreFree : Numbered → List Word → Type 0
-AreFree places words = (s : ℕ) → number_at places s ≡ None → IsFree (word_at words s)
+AreFree places words = (s : ℕ) → number_at places s ≡ None → is_home (word_at words s) ≡ true
 
 -- goroutine n has slot s, and the others' are as they were
 pub record IsPlaced (old new : Numbered) (n s : ℕ) : Type 0 where

@@ -14,7 +14,7 @@ ghost use Rattle.world_core_base.specs.Slots.{IsBefore, State, waiting_clock};
 ghost use Rattle.word.specs.declared.request.Event.{Event as Recorded};
 ghost use Rattle.word.specs.Views.{event_of};
 ghost use Rattle.world_core_base.specs.Cores.{HasLease, HasTurn, IsFreeIn, Works, no_event, to_lend};
-ghost use Rattle.book.specs.Desks.{CommitsNext, IsDesk, IsLent, IsNobodyLent, IsPiece, IsSeen, IsSight, IsTracePiece, KeepsLeases, OnlyLooks, Settles, Sighting, Waits, brought, lent_desk, opened_desk, seen_desk, settled_by};
+ghost use Rattle.book.specs.Desks.{CommitsNext, IsDesk, IsLent, IsPiece, IsSeen, IsSight, IsTracePiece, KeepsLeases, OnlyLooks, Settles, Sighting, Waits, brought, lent_desk, opened_desk, seen_desk, settled_by};
 
 use crate::blank::Blank;
 use crate::kept_lines::{append_kept, reserve_kept};

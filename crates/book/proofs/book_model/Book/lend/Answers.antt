@@ -21,8 +21,8 @@ take_back-requires g c =
     let lent : c.lend_least.new.self ≡ record core { rows = slice_set core.rows n (Some (lent_row s)) } = c.in-Some.ensures.lent in
     rw lent (still_awake core.rows n s (lent_row s) c.in-Some.ensures.free)
 
-pub lend-requires-unplaced : goal.lend-requires-unplaced
-lend-requires-unplaced g c =
+pub lend-requires-clause-unplaced : goal.lend-requires-clause-unplaced
+lend-requires-clause-unplaced g c =
     let b = c.self.inside in
     let d : Desk = record { code = arc_value b.program; limit = b.limit; core = b.core; taken = b.taken; pending = b.pending.items; traces = b.traces; traced = b.traced; lines = b.lines.items; words = words_of b.slots.seat; looks = seat_looks b.slots.seat } in
     book_unplaced g.B.BookName.code g.B.BookName.limit d b.slots.places c.in-Some.number c.in-Some.state c.self.invariant c.in-Some.ensures.free

@@ -11,5 +11,5 @@ invariant_of-result g c =
       table_is = c.requires;
       seat_is = blank.own ∙ c.requires;
       size = as_many MAX_GOROUTINES (words_of blank.seat) blank.home;
-      free = all_home MAX_GOROUTINES c.new-places.result (words_of blank.seat) blank.home;
+      free = all_home MAX_GOROUTINES c.new.result (words_of blank.seat) blank.home;
     }
