@@ -49,7 +49,7 @@ use Rattle.world_core_base.specs.contracts.core_model.Core as Core
 use Rattle.world_core_base.specs.contracts.core_model.Core.TheInside as core
 use Rattle.world_core_base.specs.contracts.situation.Situation as Situation
 use Rattle.world_core_base.specs.contracts.situation.Situation.TheInside as situation
-use Rattle.world_core_base.specs.contracts.waking.Spare as Spare
+use Rattle.world_core_base.specs.contracts.spare.Spare as Spare
 use Rattle.awake_rows.specs.contracts.slot.Held as Held
 use Rattle.awake_rows.specs.contracts.slot.Slot as Slot
 use Rattle.awake_rows.specs.contracts.slot.Slot.TheInside as slot
@@ -150,7 +150,7 @@ situation_send : IsSend Situation.the_row
 situation_send = view_send _ _ _ _ _ situation_inside
 
 spare_send : IsSend Spare.the_field.row
-spare_send = struct_send (shape Spare.the_type) (search (sendable, crosses, room_send) depth 20, (search (sendable, crosses, woken_send) depth 20, tt))
+spare_send = struct_send (shape Spare.the_type) (search (sendable, crosses, room_send) depth 20, (search (sendable, crosses, state_send) depth 20, (search (sendable, crosses, woken_send) depth 20, tt)))
 
 core_inside : IsSend core.the_row
 core_inside = recorded_send core.the_field.row _ _ core.the_type.to_one (struct_send (shape core.the_type) (situation_send, (spare_send, tt)))
