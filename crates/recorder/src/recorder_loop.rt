@@ -44,7 +44,6 @@ pub fn record(
 }
 
 /// Like `record`, of the book of this name.
-#[tactic(auto, using(crate::proofs::Books::opened))]
 fn record_named<B: BookName>(
     alloc: Global,
     blank: Blank,
