@@ -1,1 +1,1 @@
-package main; func main() { c := make(chan int); for i := 0; i < 16383; i++ { go f(c) }; c <- 5; x := 0; go f(c); println(7) }; func f(c chan int) { <-c }
+package main; func main() { c := make(chan int); for i := 0; i < 1023; i++ { go f(c) }; c <- 5; x := 0; go f(c); println(7) }; func f(c chan int) { <-c }
