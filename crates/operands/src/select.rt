@@ -61,7 +61,7 @@ pub fn cases(
     requires { IsVerified code.now }
     ensures { IfOk result (λ o. MatchOption o (cases_of code.now clauses.now words.now ≡ None) (λ cases. cases_of code.now clauses.now words.now ≡ Some cases.items)) }
 {
-    let mut made = Vec::new(alloc);
+    let mut made = Vec::with_capacity(alloc, clauses.len())?;
     let mut index = 0;
     for clause in clauses {
         let some = words_from(words, index, clause_width(code, *clause));
