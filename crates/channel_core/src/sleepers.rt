@@ -149,7 +149,7 @@ impl Sleepers {
     pub(crate) fn has_partner(&self, chan: u32, sends: bool) -> bool
         ensures { result ≡ is_some (partner chan sends self.now) }
     {
-        self.queues.first(row_on(chan, sends)).is_some()
+        self.queues.has_offers(row_on(chan, sends))
     }
 
     /// Puts goroutine `number` at the back, in place of any of its number.

@@ -20,8 +20,8 @@ pub(crate) enum Kept {
     Items(VecDeque<Item>),
 }
 
-/// Items in order. Those that all have as many words as was told at first take 16 bytes a word; once another one comes, each
-/// takes as much as the largest. It takes no memory before the first one, and then at most twice what its items take.
+/// Items in order. As long as each has the `width` words that `new` was told, it takes 16 bytes a word. Once another one comes,
+/// each takes 272. There is no memory before the first one, and then at most twice what the items take.
 #[derive(Drop)]
 pub struct ItemQueue {
     kept: Kept,

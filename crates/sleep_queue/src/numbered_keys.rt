@@ -11,7 +11,7 @@ use std::collections::HashMap;
 use std::marker::Model;
 
 /// How many places the short list of `NumberedKeys` has at most.
-const NEAR: u64 = 1_024;
+const NEAR: u64 = 16_384;
 
 /// A key, and the number that has it.
 #[derive(Clone, Copy)]
@@ -21,7 +21,7 @@ pub(crate) struct NumberedKey {
 }
 
 /// A key for some numbers, which is found at once. Its size depends on how many numbers have one, not on how high they are:
-/// most stand in a short list of at most 24 KiB, at the place that is the number's remainder. If that place is another
+/// most stand in a short list of at most 384 KiB, at the place that is the number's remainder. If that place is another
 /// number's, they stand in a map.
 #[derive(Drop)]
 pub struct NumberedKeys {

@@ -137,6 +137,13 @@ impl SleepQueues {
         }
     }
 
+    /// Whether a row has an offer.
+    pub fn has_offers(&self, row: usize) -> bool
+        ensures { result ≡ is_some (first (row_of row self.now.waiting)) }
+    {
+        self.first_key(row).is_some()
+    }
+
     /// The first offer of two rows: the one that entered first.
     pub fn first_of_two(&self, row: usize, other: usize) -> Option<OfferView<'_>>
         ensures { option_map view_of result ≡ option_map (λ (w : Waiting). w.offer) (first (filter (is_in_either row other) self.now.waiting)) }

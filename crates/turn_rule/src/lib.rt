@@ -6,7 +6,10 @@ ghost use Rattle.std.specs.Prelude.{List, ℕ};
 ghost use Rattle.turn_rule.specs.Schedule.{IsPrefixOf, Laws, Records, Stable};
 ghost use Rattle.turn_rule.specs.Turns.{Rules, World, run};
 
+mod standing;
+
 use logical_clock::Clock;
+pub use standing::{Standing, has_turn, least};
 
 /// What is known of a goroutine that is lent.
 #[derive(Drop)]

@@ -1,18 +1,17 @@
 use Rattle.std.proofs.Common.{ℕ, List, ap, sym, ◌∙◌}
-use Rattle.std.specs.Prelude.{option_map}
 use Rattle.std.specs.Option.{is_some}
 use Rattle.slab.specs.Slab.{get, slab_len}
 use Rattle.sleep_queue.specs.Keys.{owned}
 use Rattle.sleep_queue.specs.Queue.{Waiting, first, row_of}
-use Rattle.sleep_queue.specs.Stored.{view_of}
 use Rattle.word.specs.Requests.{partner}
 use Rattle.word.specs.Values.{Sleeper}
+use Rattle.channel_core.specs.Asleep.{row_on}
 use Rattle.channel_core.proofs.Served.{has_partner_is, is_some-map}
 use Rattle.channel_core.proofs.sleepers.Sleepers.has_partner.Goals as goal
 
 pub returns : goal.returns
 returns c =
-    c.is_some.ensures ∙ sym (is_some-map view_of c.first.result)
-    ∙ ap is_some (c.first.ensures ∙ ap (λ (r : ℕ). option_map (λ (w : Waiting). w.offer) (first (row_of r c.self.inside.queues.waiting))) c.row_on.ensures)
+    c.has_offers.ensures ∙ ap (λ (r : ℕ). is_some (first (row_of r c.self.inside.queues.waiting))) c.row_on.ensures
+    ∙ sym (is_some-map (λ (w : Waiting). w.offer) (first (row_of (row_on c.args.chan c.args.sends) c.self.inside.queues.waiting)))
     ∙ sym (has_partner_is (get c.self.inside.slots) (owned c.self.inside.places) c.self.inside.order c.self.inside.queues (slab_len c.self.inside.slots) c.self.invariant c.args.chan c.args.sends)
     ∙ ap (λ (ss : List Sleeper). is_some (partner c.args.chan c.args.sends ss)) c.self.view_is
