@@ -16,6 +16,7 @@ use crate::told::words_of;
 use call_frame::frame::Frame;
 use call_frame::outcome::Stepped;
 use go_text::Memory;
+use goroutine_vm_request::RequestLists;
 use logical_clock::Clock;
 use std::alloc::{AllocError, Global};
 use std::marker::Model;
@@ -289,16 +290,17 @@ impl GoState {
         ensures verified { IsVerified code.now }
     {
         let mut request = Request::End;
-        if self.ask(alloc, code, limit, &mut request)? {
+        let mut lists = RequestLists::new(alloc);
+        if self.ask(&mut lists, code, limit, &mut request)? {
             return Ok(Some(request));
         }
         Ok(None)
     }
 
-    /// Whether the goroutine stands at a request, which is written to this place then.
+    /// Whether the goroutine stands at a request, which is written to this place then, in the room of `lists`.
     pub fn ask(
         &self,
-        alloc: Global,
+        lists: &mut RequestLists,
         code: &Verified,
         limit: u64,
         place: &mut Request,
@@ -319,7 +321,7 @@ impl GoState {
             }
             return Ok(false);
         }
-        if !self.frames.ask(alloc, code, place)? {
+        if !self.frames.ask(lists, code, place)? {
             return Ok(false);
         }
         Ok(true)
