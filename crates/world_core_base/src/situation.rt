@@ -17,7 +17,7 @@ use crate::waking::{doze, wake};
 use awake_rows::{Among, Goroutines};
 use channel_core::{Channels, Woken};
 use go_text::Memory;
-use goroutine_vm::{GoState, Room, spawn_state, RequestLists};
+use goroutine_vm::{GoState, RequestLists, Room, spawn_state};
 use logical_clock::limits::MAX_GOROUTINES;
 use logical_clock::{Clock, Key, LAST};
 use std::alloc::Global;
