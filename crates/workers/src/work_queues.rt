@@ -2,6 +2,7 @@
 
 ghost use Rattle.std.specs.Prelude.{◌≡◌, ◌≤◌, ◌^◌, ◌⊎◌, length, IfErr, IfNone, IfOk, IfSome, OnErr, OnOk, true};
 ghost use Rattle.std.specs.Arc.{arc_value};
+ghost use Rattle.workers.specs.declared.work_queues.TheConstants.{CAPACITY};
 ghost use Rattle.run_queue.specs.Passes.{IsPutOf, IsTakeOf, capacity_of, put_count, put_view, take_view};
 ghost use Rattle.run_queue.specs.Turns.{IsFull, PutsOne, TakesOne};
 
