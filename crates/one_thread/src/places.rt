@@ -48,7 +48,7 @@ impl<S: Drop> Model for Places<S> {
 }
 
 impl<S: Drop> Places<S> {
-    /// Nobody.
+    /// No goroutines.
     pub(crate) fn new(alloc: Global) -> Result<Places<S>, Memory>
         ensures { IfOk result (λ places. places ≡ None ∷ []) }
     {
