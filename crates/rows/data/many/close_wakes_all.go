@@ -1,15 +1,15 @@
 package main
 
-// As many goroutines as may be alive sleep at one channel, which is closed.
+// Thousands of goroutines sleep at one channel, which is closed.
 func main() {
 	c := make(chan int)
-	done := make(chan int, 16383)
-	for i := 0; i < 16383; i++ {
+	done := make(chan int, 4095)
+	for i := 0; i < 4095; i++ {
 		go wait(c, done)
 	}
 	close(c)
 	sum := 0
-	for i := 0; i < 16383; i++ {
+	for i := 0; i < 4095; i++ {
 		sum += <-done
 	}
 	println(sum)

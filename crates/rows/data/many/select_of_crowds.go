@@ -1,6 +1,6 @@
 package main
 
-// A select over 64 channels, at each of which 100 goroutines sleep.
+// A select over 64 channels, at each of which 20 goroutines sleep.
 func main() {
 	c0 := make(chan int)
 	crowd(c0)
@@ -131,7 +131,7 @@ func main() {
 	c63 := make(chan int)
 	crowd(c63)
 	sum := 0
-	for i := 0; i < 6400; i++ {
+	for i := 0; i < 1280; i++ {
 		select {
 		case n := <-c0:
 			sum += n * 1
@@ -267,7 +267,7 @@ func main() {
 }
 
 func crowd(c chan int) {
-	for i := 0; i < 100; i++ {
+	for i := 0; i < 20; i++ {
 		go send(c, i)
 	}
 }
