@@ -33,6 +33,17 @@ impl Checks {
     }
 }
 
+/// Whether a check was refused memory, so that it is to be made again.
+pub fn is_refused(found: &Result<bool, Fault>) -> bool {
+    matches!(found, Err(Fault::Memory))
+}
+
+/// Makes the calls that `make_calls` makes and memory can be refused to, of channels and goroutines: each once more if it is refused.
+pub fn make_refused_calls(alloc: Global, checks: &mut Checks) -> Result<(), Memory> {
+    requests::check_refused(alloc, checks)?;
+    channels::check(alloc, checks)
+}
+
 /// Makes all calls of this crate, and takes down the names of the checks that fail.
 pub fn make_calls(alloc: Global, checks: &mut Checks) -> Result<(), Memory> {
     rules::check(alloc, checks)?;

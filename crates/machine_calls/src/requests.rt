@@ -3,7 +3,7 @@
 ghost use Rattle.std.specs.Prelude.{◌≤◌, ◌^◌, IfOk};
 ghost use Rattle.goroutine_vm.specs.Advance.{IsStateOf};
 
-use crate::checks::Checks;
+use crate::checks::{Checks, is_refused};
 use crate::made::main_program;
 use bytecode::Instr;
 use bytecode::Instr::*;
@@ -31,7 +31,7 @@ pub fn main_state(alloc: Global, program: &Verified, limit: u64) -> Result<GoSta
     }
 }
 
-/// The request to which a goroutine comes next.
+/// The request to which a goroutine comes next. A call to which memory is refused is made once more.
 fn next_request(
     alloc: Global,
     program: &Verified,
@@ -40,7 +40,11 @@ fn next_request(
     requires { IsStateOf program.now LAST state.old }
     ensures { IsStateOf program.now LAST state.new }
 {
-    match state.advance(alloc, program, LAST, 10_000)? {
+    let stop = match state.advance(alloc, program, LAST, 10_000) {
+        Ok(stop) => stop,
+        Err(Memory) => state.advance(alloc, program, LAST, 10_000)?,
+    };
+    match stop {
         Stop::AtOp(request) => Ok(Some(request)),
         Stop::Quantum => Ok(None),
     }
@@ -284,6 +288,27 @@ fn ends(alloc: Global, program: &Verified, state: &mut GoState) -> Result<bool, 
 {
     let goes = goes_on(alloc, program, state, 2)?;
     Ok(goes && is_exhausted(alloc, program, state, 3)?)
+}
+
+/// Whether goroutines ask and go on so where memory is refused to them.
+pub(crate) fn check_refused(alloc: Global, checks: &mut Checks) -> Result<(), Memory> {
+    for (instrs, name, time) in &ASKED {
+        let mut asks = asks_first(alloc, instrs, name, *time);
+        if is_refused(&asks) {
+            asks = asks_first(alloc, instrs, name, *time);
+        }
+        checks.see(name, asks)?;
+    }
+    check_select(alloc, checks)
+}
+
+/// Whether a goroutine goes on so that has selected, where memory is refused to it.
+fn check_select(alloc: Global, checks: &mut Checks) -> Result<(), Memory> {
+    let mut sent = prints_after(alloc, &SELECT, Reply::Clause(2, None), "1\n");
+    if is_refused(&sent) {
+        sent = prints_after(alloc, &SELECT, Reply::Clause(2, None), "1\n");
+    }
+    checks.see("a select has sent", sent)
 }
 
 /// Whether goroutines ask, print and go on so.
