@@ -31,7 +31,18 @@ pub fn main_state(alloc: Global, program: &Verified, limit: u64) -> Result<GoSta
     }
 }
 
-/// The request to which a goroutine comes next. A call to which memory is refused is made once more.
+/// Where a goroutine comes by its next local steps. The call is made once more if memory is refused.
+fn advanced(alloc: Global, program: &Verified, state: &mut GoState) -> Result<Stop, Memory>
+    requires { IsStateOf program.now LAST state.old }
+    ensures { IsStateOf program.now LAST state.new }
+{
+    match state.advance(alloc, program, LAST, 10_000) {
+        Ok(stop) => Ok(stop),
+        Err(Memory) => state.advance(alloc, program, LAST, 10_000),
+    }
+}
+
+/// The request to which a goroutine comes next.
 fn next_request(
     alloc: Global,
     program: &Verified,
@@ -40,11 +51,7 @@ fn next_request(
     requires { IsStateOf program.now LAST state.old }
     ensures { IsStateOf program.now LAST state.new }
 {
-    let stop = match state.advance(alloc, program, LAST, 10_000) {
-        Ok(stop) => stop,
-        Err(Memory) => state.advance(alloc, program, LAST, 10_000)?,
-    };
-    match stop {
+    match advanced(alloc, program, state)? {
         Stop::AtOp(request) => Ok(Some(request)),
         Stop::Quantum => Ok(None),
     }
