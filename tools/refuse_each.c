@@ -96,7 +96,7 @@ int pthread_create(pthread_t *thread, const pthread_attr_t *attributes, void *(*
     return is_refused(THREADS) ? EAGAIN : create_thread(thread, attributes, start, argument);
 }
 
-/* How many bytes of so many a refused read or write takes; -1 with an error. */
+/* How many of `length` bytes a refused read or write takes; -1 with an error. */
 static ssize_t refused(size_t length, int error) {
     if (!strcmp(how, "nothing"))
         return 0;

@@ -193,7 +193,7 @@ const TALKS: [(&str, Talk); 9] = [
     ),
 ];
 
-/// Whether new channels answer so, also where a call is refused memory and made again.
+/// Whether new channels answer so, also if a call is refused memory and made again.
 pub(crate) fn check(alloc: Global, checks: &mut Checks) -> Result<(), Memory> {
     for (name, talk) in &TALKS {
         let mut answered = is_answered(alloc, talk);
@@ -219,7 +219,7 @@ fn answers(channels: &mut Channels, alloc: Global, talk: Talk) -> bool {
     true
 }
 
-/// What a call says. If memory is refused, that is what it says when it is made again: nobody has fallen asleep or was woken by then.
+/// What a call says. If it is refused memory, it is made again; `None` if a goroutine fell asleep or was woken before that.
 fn said_at_last(channels: &mut Channels, alloc: Global, call: Call) -> Option<Seen> {
     let asleep = channels.asleep();
     match said(channels, alloc, call) {

@@ -33,12 +33,12 @@ impl Checks {
     }
 }
 
-/// Whether a check was refused memory, so that it is to be made again.
+/// Whether a check was refused memory, and has to be made again.
 pub fn is_refused(found: &Result<bool, Fault>) -> bool {
     matches!(found, Err(Fault::Memory))
 }
 
-/// Makes the calls that `make_calls` makes and memory can be refused to, of channels and goroutines: each once more if it is refused.
+/// Makes those calls of channels and goroutines that can be refused memory. A call that is refused is made again.
 pub fn make_refused_calls(alloc: Global, checks: &mut Checks) -> Result<(), Memory> {
     requests::check_refused(alloc, checks)?;
     channels::check(alloc, checks)

@@ -31,7 +31,7 @@ pub fn main_state(alloc: Global, program: &Verified, limit: u64) -> Result<GoSta
     }
 }
 
-/// Where a goroutine comes by its next local steps. The call is made once more if memory is refused.
+/// Makes local steps up to the next request. The call is made again if it is refused memory.
 fn advanced(alloc: Global, program: &Verified, state: &mut GoState) -> Result<Stop, Memory>
     requires { IsStateOf program.now LAST state.old }
     ensures { IsStateOf program.now LAST state.new }
@@ -297,7 +297,7 @@ fn ends(alloc: Global, program: &Verified, state: &mut GoState) -> Result<bool, 
     Ok(goes && is_exhausted(alloc, program, state, 3)?)
 }
 
-/// Whether goroutines ask and go on so where memory is refused to them.
+/// Whether goroutines make these requests, also if a call is refused memory and made again.
 pub(crate) fn check_refused(alloc: Global, checks: &mut Checks) -> Result<(), Memory> {
     for (instrs, name, time) in &ASKED {
         let mut asks = asks_first(alloc, instrs, name, *time);
@@ -309,7 +309,7 @@ pub(crate) fn check_refused(alloc: Global, checks: &mut Checks) -> Result<(), Me
     check_select(alloc, checks)
 }
 
-/// Whether a goroutine goes on so that has selected, where memory is refused to it.
+/// Whether a goroutine goes on after its select, also if a call is refused memory and made again.
 fn check_select(alloc: Global, checks: &mut Checks) -> Result<(), Memory> {
     let mut sent = prints_after(alloc, &SELECT, Reply::Clause(2, None), "1\n");
     if is_refused(&sent) {

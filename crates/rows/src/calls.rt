@@ -175,7 +175,7 @@ pub(crate) fn check_early_writes<R: Threads + Wait + Sync>(
     Ok(())
 }
 
-/// Sees whether two workers hold leases at once, and 64 are there at once, and both runs are whole.
+/// Compares two runs: in one, two workers hold leases at once; in the other, 64 workers exist at once.
 pub(crate) fn check_gates<R: Threads + Wait + Sync>(rt: &R, alloc: Global) -> Result<(), Flaw> {
     let meet = Meet::new();
     check_gate(rt, alloc, 2, &meet)?;
@@ -188,7 +188,7 @@ pub(crate) fn check_gates<R: Threads + Wait + Sync>(rt: &R, alloc: Global) -> Re
     }
 }
 
-/// Sees whether the run of two goroutines is whole by so many workers, which pass this gate.
+/// Compares the run of `TWO_GOROUTINES` by `workers` workers, which pass this gate.
 fn check_gate<R: Threads + Wait + Sync, G: Gate + Sync>(
     rt: &R,
     alloc: Global,

@@ -43,7 +43,7 @@ fn main(rt: HostRuntime) -> ExitCode {
     }
 }
 
-/// Checks the rows of the folder that the command line names, or of the current one; with `--calls` only calls that may be refused
+/// Checks the rows of the folder that the command line names, or of the current one; with `--calls` only calls that can be refused
 /// memory.
 fn start<R: Files + Env + AllocGlobal + Print + Threads + Wait + Sync + Clone + Drop>(
     rt: &R,
@@ -55,7 +55,7 @@ fn start<R: Files + Env + AllocGlobal + Print + Threads + Wait + Sync + Clone + 
     }
 }
 
-/// The first word of the command line. It is read once more if memory is refused.
+/// The first word of the command line. It is read again if that is refused memory.
 fn first_word<R: Env + AllocGlobal>(rt: &R) -> io::Result<Option<String>> {
     let mut words = match env::args(rt) {
         Ok(words) => words,
@@ -64,7 +64,7 @@ fn first_word<R: Env + AllocGlobal>(rt: &R) -> io::Result<Option<String>> {
     Ok(words.nth(1))
 }
 
-/// Makes the calls that may be refused memory, each once more if it is, prints those that fail, and answers whether all hold.
+/// Makes the calls that can be refused memory, each again if it is. Prints the names of those that fail, and returns whether all hold.
 fn refused_calls<R: AllocGlobal + Print>(rt: &R) -> io::Result<bool> {
     let Ok(names) = failed_refused_calls(rt.alloc()) else {
         println!(rt; "the names of calls that fail: out of memory")?;

@@ -51,6 +51,10 @@ enum Move {
     Trace(&'static str),
 }
 
+/// The trace of a hand-over.
+const HAND_OVER_TRACE: &str =
+    "0 1 make 1\n2 1 go 2\n3 1 receive 1 sleeps\n3 2 send 1 to 1\n4 2 end\n5 1 print 2\n6 1 exit\n";
+
 /// Each event of a hand-over.
 const HAND_OVER: [Move; 11] = [
     Move::Next(Seen::Event(0, 1, false)),
@@ -63,9 +67,7 @@ const HAND_OVER: [Move; 11] = [
     Move::Next(Seen::Ended(End::Finished)),
     Move::Events(7),
     Move::Write("7\n"),
-    Move::Trace(
-        "0 1 make 1\n2 1 go 2\n3 1 receive 1 sleeps\n3 2 send 1 to 1\n4 2 end\n5 1 print 2\n6 1 exit\n",
-    ),
+    Move::Trace(HAND_OVER_TRACE),
 ];
 
 /// A deadlock.
@@ -103,17 +105,22 @@ pub(crate) fn check(alloc: Global, checks: &mut Checks) -> Result<(), Memory> {
     ] {
         checks.see(name, holds(alloc, bodies, moves))?;
     }
-    Ok(())
+    checks.see("steps are made in the book", works_in_place(alloc))
 }
 
-/// Whether books settle what they must, also where a call is refused memory and made again.
+/// Whether books settle what they must, also if a call is refused memory and made again.
 pub(crate) fn check_refused(alloc: Global, checks: &mut Checks) -> Result<(), Memory> {
     let moves = HAND_OVER.as_slice();
     let mut found = holds(alloc, &HANDS_OVER, moves);
     if is_refused(&found) {
         found = holds(alloc, &HANDS_OVER, moves);
     }
-    checks.see("a book hands over an item", found)
+    checks.see("a book hands over an item", found)?;
+    let mut found = works_in_place(alloc);
+    if is_refused(&found) {
+        found = works_in_place(alloc);
+    }
+    checks.see("steps are made in the book", found)
 }
 
 /// What a run begins with.
@@ -167,6 +174,41 @@ fn makes<B: BookName>(book: &mut Book<B>, step: Move) -> bool {
     }
 }
 
+/// Whether a hand-over has its output, its trace and its end if nobody is lent, but steps are made in the book.
+fn works_in_place(alloc: Global) -> Result<bool, Fault> {
+    works_as::<Brand>(begin(alloc, &HANDS_OVER)?)
+}
+
+/// Whether the book of this run, a hand-over, comes to its end by steps that are made in it.
+fn works_as<B: BookName>(start: Start) -> Result<bool, Fault>
+    requires { (arc_value start.program ≡ B.code) × (2 ^ 40 ≡ B.limit) × (table_of start.blank.table ≡ B.table) }
+{
+    let Start { blank, program } = start;
+    let mut book: Book<B> = Book::open(blank, program, LIMIT)?;
+    Ok(ends_in_place(&mut book))
+}
+
+/// Whether a hand-over of seven events ends by steps that are made in the book.
+fn ends_in_place<B: BookName>(book: &mut Book<B>) -> bool {
+    for _ in 0..7 {
+        park_in_place(book);
+        if !matches!(settled(book), Seen::Event(_, _, _)) {
+            return false;
+        }
+    }
+    let ended = settled(book) == Seen::Ended(End::Finished);
+    ended && has_written(book, "7\n") && has_traced(book, HAND_OVER_TRACE)
+}
+
+/// Makes steps in the book until all are parked, also if a call is refused memory.
+fn park_in_place<B: BookName>(book: &mut Book<B>) {
+    for _ in 0..10_000 {
+        if matches!(book.work(100), Ok(None)) {
+            return;
+        }
+    }
+}
+
 /// What the next settling comes to where all are parked.
 fn next<B: BookName>(book: &mut Book<B>) -> Seen {
     park_all(book);
@@ -193,7 +235,7 @@ fn park_all<B: BookName>(book: &mut Book<B>) {
     }
 }
 
-/// Lends whoever may be lent; once more if memory is refused.
+/// Lends a goroutine, if there is one to be lent. The call is made again if it is refused memory.
 fn lent<B: BookName>(book: &mut Book<B>) -> Result<Option<Lease<B>>, Memory> {
     match book.lend() {
         Err(Memory) => book.lend(),
@@ -201,7 +243,7 @@ fn lent<B: BookName>(book: &mut Book<B>) -> Result<Option<Lease<B>>, Memory> {
     }
 }
 
-/// Works on a lease, once more if memory is refused, and brings it back.
+/// Works on a lease, again if that is refused memory, and brings it back.
 fn work<B: BookName>(book: &mut Book<B>, lease: Lease<B>) {
     let mut lease = lease;
     if lease.work(100).is_err() {
@@ -230,7 +272,7 @@ fn waits_for<B: BookName>(book: &mut Book<B>, first: Lease<B>) -> bool {
         && settled(book) == Seen::Waiting(2)
 }
 
-/// What the next settling comes to; if memory is refused, the one after it.
+/// What the next settling comes to. The call is made again if it is refused memory.
 fn settled<B: BookName>(book: &mut Book<B>) -> Seen {
     match seen_in(book.settle()) {
         Seen::NoMemory => seen_in(book.settle()),
@@ -257,7 +299,7 @@ fn is_nobody<B: BookName>(lent: Result<Option<Lease<B>>, Memory>) -> bool {
     matches!(&lent, Ok(None))
 }
 
-/// Whether the output so far is this text. It is taken once more if memory is refused.
+/// Whether the output so far is this text. It is taken again if that is refused memory.
 fn has_written<B: BookName>(book: &mut Book<B>, text: &str) -> bool {
     match book.take_output() {
         Ok(piece) => is_text(&piece, text),
@@ -268,7 +310,7 @@ fn has_written<B: BookName>(book: &mut Book<B>, text: &str) -> bool {
     }
 }
 
-/// Whether the trace so far is this text. It is taken once more if memory is refused.
+/// Whether the trace so far is this text. It is taken again if that is refused memory.
 fn has_traced<B: BookName>(book: &mut Book<B>, text: &str) -> bool {
     match book.take_trace() {
         Ok(piece) => is_text(&piece, text),

@@ -23,7 +23,7 @@ pub fn failed_calls<R: Threads + Wait + Sync>(
     Ok(checks.into_failed())
 }
 
-/// Makes the calls to which memory can be refused, each once more if it is, and answers the names of the checks that fail.
+/// Makes the calls that can be refused memory, each again if it is, and returns the names of the checks that fail.
 pub fn failed_refused_calls(alloc: Global) -> Result<Vec<&'static str>, Memory> {
     let mut checks = Checks::new(alloc);
     make_refused_calls(alloc, &mut checks)?;

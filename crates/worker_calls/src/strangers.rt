@@ -31,7 +31,7 @@ enum Taken {
 /// the trace.
 type Target = (&'static [Body<'static>], u64, Kind);
 
-/// A piece, an output, and what comes of it: the fault, and how many bytes are written.
+/// A piece, an output, and the result: the fault, and how many bytes are written.
 const DRAINED: [(&str, Taken, Target, Option<DrainFault>, usize); 6] = [
     (
         "a run's first piece is written",
@@ -77,7 +77,7 @@ const DRAINED: [(&str, Taken, Target, Option<DrainFault>, usize); 6] = [
     ),
 ];
 
-/// Whether pieces of a run are written where they are next, and nowhere else.
+/// Whether pieces of a run are written to the output whose next bytes they are, and to no other.
 pub(crate) fn check(alloc: Global, checks: &mut Checks) -> Result<(), Memory> {
     for (name, taken, target, fault, count) in &DRAINED {
         checks.see(name, is_drained(alloc, *taken, *target, *fault, *count))?;
@@ -85,7 +85,7 @@ pub(crate) fn check(alloc: Global, checks: &mut Checks) -> Result<(), Memory> {
     Ok(())
 }
 
-/// Whether this comes of a piece.
+/// Whether a piece has this result.
 fn is_drained(
     alloc: Global,
     taken: Taken,
