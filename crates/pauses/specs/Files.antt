@@ -1,6 +1,6 @@
 -- The file of a plan: the line `kendo pauses 1`, and then a pause a line, as `1.2 4 wait 30` or `1.1 3 clause 2`.
-use Rattle.std.specs.Prelude.{◌≡◌, ℕ, ◌+◌, ◌-◌, ◌*◌, ◌^◌, ◌==◌, nat_lt, Bool, ◌&&◌, cond, bytes_eq, codes, List, [], ◌∷◌, ◌++◌, Option, Some, None}
-use Rattle.std.specs.List.{list_any, slice_split}
+use Rattle.std.specs.Prelude.{◌≡◌, ℕ, ◌+◌, ◌-◌, ◌*◌, ◌^◌, ◌==◌, nat_lt, Bool, ◌&&◌, cond, bytes_eq, codes, decimal, List, [], ◌∷◌, ◌++◌, Option, Some, None}
+use Rattle.std.specs.List.{flat_map, list_any, slice_split}
 use Rattle.pauses.specs.Plans.{Change, Wait, Clause, Pause, is_rival}
 use Rattle.pauses.specs.declared.error.PlanError.{PlanError}
 use Rattle.pauses.specs.declared.error.PlanError.TheVariants as errors
@@ -86,3 +86,22 @@ read_bytes bytes = read_lines (slice_split (λ b. b == 10) bytes)
 abbrev pub IsWhy : Reading → PlanError → Type 0
 IsWhy reading errors.Memory = Unit {0}
 IsWhy reading (errors.Broken line) = reading ≡ Breaks line
+
+-- ---- how a plan is written
+
+abbrev pub more_text : List ℕ → List ℕ
+more_text ns = flat_map (λ n. codes "." ++ decimal n) ns
+
+abbrev pub way_text : List ℕ → List ℕ
+way_text [] = []
+way_text (n ∷ ns) = decimal n ++ more_text ns
+
+abbrev pub change_text : Change → List ℕ
+change_text (Wait ticks) = codes " wait " ++ decimal ticks
+change_text (Clause clause) = codes " clause " ++ decimal clause
+
+abbrev pub pause_text : Pause → List ℕ
+pause_text p = way_text p.way ++ codes " " ++ decimal p.request ++ change_text p.change ++ codes "\n"
+
+abbrev pub plan_text : List Pause → List ℕ
+plan_text ps = codes "kendo pauses 1\n" ++ flat_map pause_text ps

@@ -7,6 +7,7 @@ mod line;
 mod number;
 mod plan;
 mod reading;
+mod writing;
 
 pub use error::PlanError;
 pub use plan::{Change, Pause, Plan};
