@@ -1,3 +1,6 @@
 pub mod Files
 pub mod Lines
+pub mod Paused
 pub mod Plans
+pub mod Selects
+pub mod Views

@@ -4,10 +4,17 @@
 
 mod error;
 mod line;
+mod lookup;
 mod number;
+mod paused;
 mod plan;
+mod progress;
 mod reading;
+mod select;
+mod way;
 mod writing;
 
 pub use error::PlanError;
+pub use paused::{Paused, PausedState};
 pub use plan::{Change, Pause, Plan};
+pub use progress::Progress;

@@ -1,6 +1,6 @@
 use Rattle.std.proofs.Common.{◌≡◌, ◌++◌, codes, drop}
 use Rattle.std.specs.List.{flat_map}
-use Rattle.pauses.specs.Files.{pause_text, plan_text}
+use Rattle.pauses.specs.Files.{pause_text}
 use Rattle.pauses.specs.Plans.{pauses_of}
 use Rattle.pauses.proofs.plan.Plan.bytes.Given as goal
 
