@@ -1,4 +1,5 @@
 pub mod Files
+pub mod Laws
 pub mod Lines
 pub mod Paused
 pub mod Plans

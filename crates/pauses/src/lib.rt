@@ -3,6 +3,7 @@
 #![tactic(auto)]
 
 mod error;
+mod laws;
 mod line;
 mod lookup;
 mod number;
@@ -15,6 +16,7 @@ mod way;
 mod writing;
 
 pub use error::PlanError;
+pub use laws::paused_goroutines_keep_requests;
 pub use paused::{Paused, PausedState};
 pub use plan::{Change, Pause, Plan};
 pub use progress::Progress;
