@@ -1,5 +1,5 @@
-//! Pauses: plans that let a goroutine wait before one of its requests, or try a clause of a select first, and goroutines that
-//! keep to a plan.
+//! Pauses: plans that let a goroutine wait before one of its requests, or try a clause of a select first; their files, and the kind
+//! of goroutine that keeps to a plan.
 #![tactic(auto)]
 
 mod error;
@@ -7,9 +7,7 @@ mod laws;
 mod line;
 mod lookup;
 mod number;
-mod paused;
 mod plan;
-mod progress;
 mod reading;
 mod select;
 mod way;
@@ -17,6 +15,6 @@ mod writing;
 
 pub use error::PlanError;
 pub use laws::paused_goroutines_keep_requests;
-pub use paused::{Paused, PausedState};
 pub use plan::{Change, Pause, Plan};
-pub use progress::Progress;
+pub use select::{alone, thinned};
+pub use way::{way_in, way_to, with_way};

@@ -58,7 +58,7 @@ impl Plan {
     }
 
     /// Like `wait_at`, but 0 if no way of the plan begins with the goroutine's.
-    pub(crate) fn wait_of(&self, way: &Option<Vec<u64>>, request: u64) -> u64
+    pub fn wait_of(&self, way: &Option<Vec<u64>>, request: u64) -> u64
         ensures { result ≡ wait_of (pauses_of self.now.pauses.items) (way_kept way.now) request }
     {
         match way {
@@ -68,7 +68,7 @@ impl Plan {
     }
 
     /// Like `clause_at`, but none if no way of the plan begins with the goroutine's.
-    pub(crate) fn clause_of(&self, way: &Option<Vec<u64>>, request: u64) -> Option<u64>
+    pub fn clause_of(&self, way: &Option<Vec<u64>>, request: u64) -> Option<u64>
         ensures { result ≡ clause_of (pauses_of self.now.pauses.items) (way_kept way.now) request }
     {
         match way {

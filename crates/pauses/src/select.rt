@@ -68,7 +68,7 @@ fn masked(alloc: Global, mask: Mask, cases: Vec<Case>) -> Result<Vec<Case>, Allo
 }
 
 /// The clause of this number, on its own.
-pub(crate) fn alone(alloc: Global, clause: u64, cases: Vec<Case>) -> Result<Vec<Case>, AllocError>
+pub fn alone(alloc: Global, clause: u64, cases: Vec<Case>) -> Result<Vec<Case>, AllocError>
     ensures { IfOk result (λ v. v.items ≡ alone clause cases.items) }
 {
     masked(alloc, Mask::Alone(clause), cases)
@@ -83,7 +83,7 @@ fn case_at(clause: u64, cases: &[Case]) -> Option<&Case>
 }
 
 /// The clauses without those that are on the same channel in the same direction as the one of this number.
-pub(crate) fn thinned(alloc: Global, clause: u64, cases: Vec<Case>) -> Result<Vec<Case>, AllocError>
+pub fn thinned(alloc: Global, clause: u64, cases: Vec<Case>) -> Result<Vec<Case>, AllocError>
     ensures { IfOk result (λ v. v.items ≡ thinned clause cases.items) }
 {
     let mask = match case_at(clause, cases.as_slice()) {

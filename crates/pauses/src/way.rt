@@ -22,7 +22,7 @@ fn known(plan: &Plan, way: Vec<u64>) -> Option<Vec<u64>>
 }
 
 /// The way of the goroutine of this number that a goroutine of this way starts, if a way of the plan begins with it.
-pub(crate) fn way_to(
+pub fn way_to(
     alloc: Global,
     plan: &Plan,
     way: &Option<Vec<u64>>,
@@ -39,7 +39,7 @@ pub(crate) fn way_to(
 }
 
 /// The way as words, and these arguments after it.
-pub(crate) fn with_way(
+pub fn with_way(
     alloc: Global,
     way: &Option<Vec<u64>>,
     arguments: &[Word],
@@ -72,7 +72,7 @@ fn push_numbers(words: &mut Vec<Word>, numbers: &[u64]) -> Result<(), Memory>
 }
 
 /// The way with which these words begin, and the arguments after it. Goroutine 1 begins without words.
-pub(crate) fn way_in(alloc: Global, words: &[Word]) -> Result<(Option<Vec<u64>>, &[Word]), Memory>
+pub fn way_in(alloc: Global, words: &[Word]) -> Result<(Option<Vec<u64>>, &[Word]), Memory>
     ensures { IfOk result (λ found. (way_kept found.0, found.1.now) ≡ way_in words.now) }
 {
     if words.is_empty() {

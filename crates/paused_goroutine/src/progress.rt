@@ -5,13 +5,12 @@ ghost use Rattle.one_thread.specs.Steps.{Moves};
 ghost use Rattle.word.specs.Views.{reply_of, request_of};
 ghost use Rattle.pauses.specs.Paused.{asking, clause_of, going, is_vain, onward, opening, selecting};
 ghost use Rattle.pauses.specs.Plans.{pauses_of};
-ghost use Rattle.pauses.specs.Views.{progress_of, way_kept};
+ghost use Rattle.pauses.specs.Views.{way_kept};
+ghost use Rattle.paused_goroutine.specs.Views.{progress_of};
 
-use crate::plan::Plan;
-use crate::select::{alone, thinned};
-use crate::way::{way_to, with_way};
 use go_text::Memory;
 use one_thread::Step;
+use pauses::{Plan, alone, thinned, way_to, with_way};
 use std::alloc::Global;
 use word::request::{Case, Reply, Request};
 use word::value::Word;
@@ -31,12 +30,12 @@ pub struct Progress {
     pub prepared: bool,
 }
 
-impl Plan {
+impl Progress {
     /// How far a goroutine of this way has come at its beginning.
-    pub(crate) fn opening(&self, way: Option<Vec<u64>>) -> Progress
-        ensures { progress_of result ≡ opening (pauses_of self.now.pauses.items) (way_kept way) }
+    pub(crate) fn opening(plan: &Plan, way: Option<Vec<u64>>) -> Progress
+        ensures { progress_of result ≡ opening (pauses_of plan.now.pauses.items) (way_kept way) }
     {
-        let left = self.wait_of(&way, 1);
+        let left = plan.wait_of(&way, 1);
         Progress {
             way,
             request: 1,
@@ -47,25 +46,25 @@ impl Plan {
     }
 
     /// A request is done.
-    pub(crate) fn onward(&self, progress: &mut Progress) -> Result<(), Memory>
-        ensures { OnOk result (progress_of progress.new ≡ onward (pauses_of self.now.pauses.items) (progress_of progress.old)) }
+    pub(crate) fn onward(&mut self, plan: &Plan) -> Result<(), Memory>
+        ensures { OnOk result (progress_of self.new ≡ onward (pauses_of plan.now.pauses.items) (progress_of self.old)) }
     {
-        let Some(request) = progress.request.checked_add(1) else {
+        let Some(request) = self.request.checked_add(1) else {
             return Err(Memory);
         };
-        progress.left = self.wait_of(&progress.way, request);
-        progress.request = request;
-        progress.prepared = false;
+        self.left = plan.wait_of(&self.way, request);
+        self.request = request;
+        self.prepared = false;
         Ok(())
     }
 
     /// Whether the reply says that the clause that was tried isn't ready.
-    pub(crate) fn is_vain(&self, progress: &Progress, reply: &Reply) -> bool
-        ensures { result ≡ is_vain (pauses_of self.now.pauses.items) (progress_of progress.now) (reply_of reply.now) }
+    pub(crate) fn is_vain(&self, plan: &Plan, reply: &Reply) -> bool
+        ensures { result ≡ is_vain (pauses_of plan.now.pauses.items) (progress_of self.now) (reply_of reply.now) }
     {
         match reply {
             Reply::Default => {
-                !progress.prepared && self.clause_of(&progress.way, progress.request).is_some()
+                !self.prepared && plan.clause_of(&self.way, self.request).is_some()
             }
             _ => false,
         }
@@ -73,39 +72,39 @@ impl Plan {
 
     /// What a goroutine does that would make this request.
     pub(crate) fn asking(
-        &self,
+        &mut self,
         alloc: Global,
-        progress: &mut Progress,
+        plan: &Plan,
         request: Request,
     ) -> Result<Step, Memory>
-        ensures { IfOk result (λ step. Moves (asking (pauses_of self.now.pauses.items) (progress_of progress.old) (request_of request)) step (progress_of progress.new) (progress_of progress.old)) }
+        ensures { IfOk result (λ step. Moves (asking (pauses_of plan.now.pauses.items) (progress_of self.old) (request_of request)) step (progress_of self.new) (progress_of self.old)) }
     {
         match request {
-            Request::Go(function, arguments) => self.going(alloc, progress, function, arguments),
-            Request::Select(cases, default) => self.selecting(alloc, progress, cases, default),
+            Request::Go(function, arguments) => self.going(alloc, plan, function, arguments),
+            Request::Select(cases, default) => self.selecting(alloc, plan, cases, default),
             request => Ok(Step::Asks(request)),
         }
     }
 
     /// Counts a goroutine, and then starts it.
     fn going(
-        &self,
+        &mut self,
         alloc: Global,
-        progress: &mut Progress,
+        plan: &Plan,
         function: u32,
         arguments: Vec<Word>,
     ) -> Result<Step, Memory>
-        ensures { IfOk result (λ step. Moves (going (pauses_of self.now.pauses.items) (progress_of progress.old) function arguments.items) step (progress_of progress.new) (progress_of progress.old)) }
+        ensures { IfOk result (λ step. Moves (going (pauses_of plan.now.pauses.items) (progress_of self.old) function arguments.items) step (progress_of self.new) (progress_of self.old)) }
     {
-        if !progress.prepared {
-            let Some(started) = progress.started.checked_add(1) else {
+        if !self.prepared {
+            let Some(started) = self.started.checked_add(1) else {
                 return Err(Memory);
             };
-            progress.started = started;
-            progress.prepared = true;
+            self.started = started;
+            self.prepared = true;
             return Ok(Step::Slides);
         }
-        let way = way_to(alloc, self, &progress.way, progress.started)?;
+        let way = way_to(alloc, plan, &self.way, self.started)?;
         let words = with_way(alloc, &way, arguments.as_slice())?;
         Ok(Step::Asks(Request::Go(function, words)))
     }
@@ -114,16 +113,16 @@ impl Plan {
     fn selecting(
         &self,
         alloc: Global,
-        progress: &Progress,
+        plan: &Plan,
         cases: Vec<Case>,
         default: bool,
     ) -> Result<Step, Memory>
-        ensures { IfOk result (λ step. let g = progress_of progress.now in let ps = pauses_of self.now.pauses.items in Moves (selecting ps g cases.items default (clause_of ps g.way g.request)) step g g) }
+        ensures { IfOk result (λ step. let g = progress_of self.now in let ps = pauses_of plan.now.pauses.items in Moves (selecting ps g cases.items default (clause_of ps g.way g.request)) step g g) }
     {
-        let Some(clause) = self.clause_of(&progress.way, progress.request) else {
+        let Some(clause) = plan.clause_of(&self.way, self.request) else {
             return Ok(Step::Asks(Request::Select(cases, default)));
         };
-        if progress.prepared {
+        if self.prepared {
             let cases = thinned(alloc, clause, cases)?;
             Ok(Step::Asks(Request::Select(cases, default)))
         } else {

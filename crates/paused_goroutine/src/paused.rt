@@ -1,10 +1,9 @@
 //! Goroutines that keep to a plan.
 
-use crate::plan::Plan;
 use crate::progress::Progress;
-use crate::way::way_in;
 use go_text::Memory;
 use one_thread::{Interpreter, Step};
+use pauses::{Plan, way_in};
 use std::alloc::Global;
 use word::request::Reply;
 use word::value::Word;
@@ -26,7 +25,7 @@ pub struct PausedState<S: Drop> {
 impl<P: Interpreter + Drop> Interpreter for Paused<P> {
     ghost use Rattle.pauses.specs.Paused.{PausedState, paused_parts};
     ghost use Rattle.pauses.specs.Plans.{pauses_of};
-    ghost use Rattle.pauses.specs.Views.{state_of};
+    ghost use Rattle.paused_goroutine.specs.Views.{state_of};
 
     type State = PausedState<P::State>;
 
@@ -42,18 +41,18 @@ impl<P: Interpreter + Drop> Interpreter for Paused<P> {
             return Ok(Step::Ticks);
         }
         match self.program.step(alloc, &mut state.state)? {
-            Step::Asks(request) => self.plan.asking(alloc, &mut state.progress, request),
+            Step::Asks(request) => state.progress.asking(alloc, &self.plan, request),
             step => Ok(step),
         }
     }
 
     fn answer(&self, alloc: Global, state: &mut Self::State, reply: Reply) -> Result<(), Memory> {
-        if self.plan.is_vain(&state.progress, &reply) {
+        if state.progress.is_vain(&self.plan, &reply) {
             state.progress.prepared = true;
             return Ok(());
         }
         self.program.answer(alloc, &mut state.state, reply)?;
-        self.plan.onward(&mut state.progress)
+        state.progress.onward(&self.plan)
     }
 
     fn begin(
@@ -64,7 +63,7 @@ impl<P: Interpreter + Drop> Interpreter for Paused<P> {
     ) -> Result<Self::State, Memory> {
         let (way, arguments) = way_in(alloc, arguments)?;
         let state = self.program.begin(alloc, function, arguments)?;
-        let progress = self.plan.opening(way);
+        let progress = Progress::opening(&self.plan, way);
         Ok(PausedState { state, progress })
     }
 
