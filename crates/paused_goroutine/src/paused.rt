@@ -10,9 +10,9 @@ use word::value::Word;
 
 /// A program whose goroutines keep to a plan.
 #[derive(Drop)]
-pub struct Paused<P: Drop> {
+pub struct Paused<'p, P: Drop> {
     pub program: P,
-    pub plan: Plan,
+    pub plan: &'p Plan,
 }
 
 /// A goroutine, and how far it has come.
@@ -22,7 +22,7 @@ pub struct PausedState<S: Drop> {
     pub progress: Progress,
 }
 
-impl<P: Interpreter + Drop> Interpreter for Paused<P> {
+impl<'p, P: Interpreter + Drop> Interpreter for Paused<'p, P> {
     ghost use Rattle.pauses.specs.Paused.{PausedState, paused_parts};
     ghost use Rattle.pauses.specs.Plans.{pauses_of};
     ghost use Rattle.paused_goroutine.specs.Views.{state_of};
@@ -31,7 +31,7 @@ impl<P: Interpreter + Drop> Interpreter for Paused<P> {
 
     ghost Held = { PausedState P.Held };
 
-    ghost parts = { λ paused. paused_parts (P.parts paused.program) (pauses_of paused.plan.pauses.items) };
+    ghost parts = { λ paused. paused_parts (P.parts paused.program) (pauses_of paused.plan.now.pauses.items) };
 
     ghost held = { λ paused kept. state_of (P.held paused.program) kept };
 
@@ -41,18 +41,18 @@ impl<P: Interpreter + Drop> Interpreter for Paused<P> {
             return Ok(Step::Ticks);
         }
         match self.program.step(alloc, &mut state.state)? {
-            Step::Asks(request) => state.progress.asking(alloc, &self.plan, request),
+            Step::Asks(request) => state.progress.asking(alloc, self.plan, request),
             step => Ok(step),
         }
     }
 
     fn answer(&self, alloc: Global, state: &mut Self::State, reply: Reply) -> Result<(), Memory> {
-        if state.progress.is_vain(&self.plan, &reply) {
+        if state.progress.is_vain(self.plan, &reply) {
             state.progress.prepared = true;
             return Ok(());
         }
         self.program.answer(alloc, &mut state.state, reply)?;
-        state.progress.onward(&self.plan)
+        state.progress.onward(self.plan)
     }
 
     fn begin(
@@ -63,7 +63,7 @@ impl<P: Interpreter + Drop> Interpreter for Paused<P> {
     ) -> Result<Self::State, Memory> {
         let (way, arguments) = way_in(alloc, arguments)?;
         let state = self.program.begin(alloc, function, arguments)?;
-        let progress = Progress::opening(&self.plan, way);
+        let progress = Progress::opening(self.plan, way);
         Ok(PausedState { state, progress })
     }
 
