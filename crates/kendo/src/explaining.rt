@@ -56,6 +56,7 @@ fn end_explained(
     match invocation.subcommand {
         Subcommand::Check
         | Subcommand::List
+        | Subcommand::Paused { .. }
         | Subcommand::Timeline { .. }
         | Subcommand::Explore { .. } => Ok(Vec::new(alloc)),
         Subcommand::Reference { limit } | Subcommand::Run { limit, .. } => {

@@ -48,6 +48,7 @@ pub(crate) fn explore_file(
 {
     let source = Invocation {
         out: None,
+        trace: None,
         ..*invocation
     };
     let Some((bytes, _no_trace)) = opened(rt, alloc, &source, file, None)? else {
@@ -90,7 +91,8 @@ fn status_of(
 {
     match (invocation.subcommand, outcome, verdict) {
         (Subcommand::Explore { .. }, Ok(_), Some(Verdict::Other)) => OTHER,
-        (Subcommand::Explore { .. }, Ok(_), Some(Verdict::SameSoFar)) if invocation.whole => NOT_ALL,
+        (Subcommand::Explore { .. }, Ok(_), Some(Verdict::SameSoFar)) if invocation.whole =>
+            NOT_ALL,
         _ => status,
     }
 }

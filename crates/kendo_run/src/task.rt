@@ -33,6 +33,7 @@ pub(crate) fn task_of(invocation: &Invocation<'_, '_>) -> Option<Task>
         Subcommand::Run { workers, limit } => Some(Task::Run { workers, limit }),
         Subcommand::List
         | Subcommand::Reference { .. }
+        | Subcommand::Paused { .. }
         | Subcommand::Timeline { .. }
         | Subcommand::Explore { .. } => None,
     }
