@@ -65,7 +65,10 @@ impl<'a, 'c> Shrinking<'a, 'c> {
             runner,
             space,
             wanted,
-            left: MOST_RUNS.min(MOST_EVENTS / events.max(1)),
+            left: MOST_EVENTS
+                .checked_div(events)
+                .unwrap_or(MOST_RUNS)
+                .min(MOST_RUNS),
         }
     }
 
@@ -99,7 +102,7 @@ impl<'a, 'c> Shrinking<'a, 'c> {
         let mut delays = delays;
         let mut size = delays.len();
         for _ in 0..usize::BITS {
-            size = size.div_ceil(2);
+            size = (size / 2).saturating_add(size % 2);
             delays = self.without_runs(delays, size)?;
             if size < 2 {
                 break;
@@ -149,7 +152,7 @@ impl<'a, 'c> Shrinking<'a, 'c> {
         let mut short = 0;
         let mut long = wait;
         for _ in 0..u64::BITS {
-            let half = short + (long.saturating_sub(short)) / 2;
+            let half = short.saturating_add(long.saturating_sub(short) / 2);
             if half <= short {
                 break;
             }
