@@ -5,7 +5,7 @@ use crate::shrink::{Shrinking, Wanted};
 use go_text::Memory;
 use orders::Found;
 use program_states::{Ending, Space, Step, World};
-use schedule::{Delay, Schedule, plan_of, schedule_of};
+use schedule::{Delay, Schedule, Standing, plan_of, schedule_of};
 use std::alloc::Global;
 
 /// An end that a run of the interpreter has shown.
@@ -42,18 +42,7 @@ pub(crate) fn show_end(
         last: actor,
     } = schedule_of(alloc, space, steps.as_slice(), ending == Ending::Leak)?;
     let last = last_of(space, &world, steps.as_slice(), ending);
-    let wanted = Wanted {
-        ending,
-        output: found.output,
-        sleepers: match ending {
-            Ending::Deadlock | Ending::Leak => Some(standing),
-            _ => None,
-        },
-        last: match ending {
-            Ending::Panicked(_) => actor,
-            _ => None,
-        },
-    };
+    let wanted = wanted_of(found, standing, actor);
     let runner = runner.up_to(clock);
     let mut shrinking = Shrinking::new(alloc, runner, space, wanted, steps.len());
     if shrinking.ran(delays.as_slice())?.is_none() {
@@ -72,6 +61,21 @@ pub(crate) fn show_end(
         world,
         last,
     }))
+}
+
+/// How a run ends that shows an end, after which goroutines stand so, and `actor` was the last one.
+fn wanted_of(found: &Found, standing: Vec<Standing>, actor: Option<Standing>) -> Wanted {
+    let (sleepers, last) = match found.ending {
+        Ending::Deadlock | Ending::Leak => (Some(standing), None),
+        Ending::Panicked(_) => (None, actor),
+        Ending::Finished | Ending::Endless => (None, None),
+    };
+    Wanted {
+        ending: found.ending,
+        output: found.output,
+        sleepers,
+        last,
+    }
 }
 
 /// The steps to an end; if goroutines are left that wait, `main` returns last.

@@ -149,7 +149,7 @@ impl<'a, 'c> Shrinking<'a, 'c> {
         else {
             return Ok(());
         };
-        let mut short = 0;
+        let mut short: u64 = 0;
         let mut long = wait;
         for _ in 0..u64::BITS {
             let half = short.saturating_add(long.saturating_sub(short) / 2);

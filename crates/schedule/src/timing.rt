@@ -70,15 +70,7 @@ pub fn schedule_of(
     steps: &[Step],
     all_wait_first: bool,
 ) -> Result<Schedule, Memory> {
-    let mut timing = Timing {
-        goroutines: Vec::new(alloc),
-        started: 0,
-        last: Moment {
-            clock: 0,
-            number: 0,
-        },
-        delays: Vec::new(alloc),
-    };
+    let mut timing = Timing::new(alloc);
     let mut world = space.opening()?;
     let mut last = None;
     timing.arrive(space, 0)?;
@@ -101,18 +93,40 @@ pub fn schedule_of(
     if !all_wait_first {
         timing.wait_after_all(space, &world)?;
     }
-    let clock = timing.last.clock;
-    let standing = timing.all_standing(alloc)?;
-    Ok(Schedule {
-        delays: timing.delays,
-        clock,
-        world,
-        standing,
-        last,
-    })
+    timing.into_schedule(alloc, world, last)
 }
 
 impl Timing {
+    /// No events.
+    fn new(alloc: Global) -> Timing {
+        Timing {
+            goroutines: Vec::new(alloc),
+            started: 0,
+            last: Moment {
+                clock: 0,
+                number: 0,
+            },
+            delays: Vec::new(alloc),
+        }
+    }
+
+    /// The delays of these events, after which the program stands in a state, and who acted last.
+    fn into_schedule(
+        self,
+        alloc: Global,
+        world: World,
+        last: Option<Standing>,
+    ) -> Result<Schedule, Memory> {
+        let standing = self.all_standing(alloc)?;
+        Ok(Schedule {
+            delays: self.delays,
+            clock: self.last.clock,
+            world,
+            standing,
+            last,
+        })
+    }
+
     /// The index of a goroutine.
     fn index_of(&self, goroutine: u32) -> Option<usize> {
         self.goroutines
