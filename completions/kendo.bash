@@ -4,11 +4,11 @@ _kendo() {
     local current=${COMP_WORDS[COMP_CWORD]} previous=${COMP_WORDS[COMP_CWORD - 1]} options=
     COMPREPLY=()
     if [ "$COMP_CWORD" -eq 1 ]; then
-        mapfile -t COMPREPLY < <(compgen -W 'check list reference timeline run help --help --version' -- "$current")
+        mapfile -t COMPREPLY < <(compgen -W 'check list reference timeline explore run help --help --version' -- "$current")
         return
     fi
     case $previous in
-        --workers | --limit | --from | --last) return ;;
+        --workers | --limit | --from | --last | --tries | --states) return ;;
         --trace | --out | --pauses)
             mapfile -t COMPREPLY < <(compgen -f -- "$current")
             return
@@ -16,13 +16,14 @@ _kendo() {
     esac
     case ${COMP_WORDS[1]} in
         help)
-            mapfile -t COMPREPLY < <(compgen -W 'check list reference timeline run' -- "$current")
+            mapfile -t COMPREPLY < <(compgen -W 'check list reference timeline explore run' -- "$current")
             return
             ;;
         check) options='--explain' ;;
         list) options='--explain' ;;
         reference) options='--limit --pauses --explain' ;;
         timeline) options='--limit --from --last --out --explain' ;;
+        explore) options='--limit --tries --states --ends --unordered --leaks --whole --out --explain' ;;
         run) options='--workers --limit --trace --pauses --explain' ;;
     esac
     case $current in

@@ -11,7 +11,7 @@ use Rattle.clap.specs.Words.{App, ReadsOne, Row, Rule, Text, all_of, first_of, o
 use Rattle.command_line.specs.declared.arguments.Argument.{Argument}
 use Rattle.command_line.specs.declared.arguments.Invocation.{Invocation}
 use Rattle.command_line.specs.declared.arguments.TextCommand.{TextCommand}
-use Rattle.command_line.specs.CommandLine.{Does, IsAsked, IsNumberThere, app_for, rule_for, with_commands, with_rules}
+use Rattle.command_line.specs.CommandLine.{Does, IsAsked, IsNumberThere, IsSet, app_for, rule_for, with_commands, with_rules}
 
 -- what reads a text as an unsigned number of 64 bits reads the number that it is
 pub number_read : {E : Type 0} (gives : List ℕ → Result ℕ E → Type 0) (text same : Option (List ℕ)) → text ≡ same → (result : Option ℕ) → (text ≡ None → result ≡ None)
@@ -47,9 +47,10 @@ pub asked : (found : Option (Text × List Row)) (name : Text) (rows : List Row) 
     → option_map (λ path. path.now) invocation.trace ≡ first_of (codes "trace") rows
     → option_map (λ path. path.now) invocation.pauses ≡ first_of (codes "pauses") rows
     → option_map (λ path. path.now) invocation.out ≡ first_of (codes "out") rows
-    → (IsTrue invocation.explains ↔ (first_of (codes "explain") rows ≡ Some (codes "true"))) → IsAsked found (Some invocation)
-asked found name rows invocation is does file files from last trace pauses out explains =
-    subst (λ x. IsAsked x (Some invocation)) (sym is) (does, sym file, sym files, from, last, sym trace, sym pauses, sym out, explains)
+    → IsSet (codes "ends") rows invocation.ends → IsSet (codes "unordered") rows invocation.unordered → IsSet (codes "leaks") rows invocation.leaks
+    → IsSet (codes "whole") rows invocation.whole → IsSet (codes "explain") rows invocation.explains → IsAsked found (Some invocation)
+asked found name rows invocation is does file files from last trace pauses out ends unordered leaks whole explains =
+    subst (λ x. IsAsked x (Some invocation)) (sym is) (does, sym file, sym files, from, last, sym trace, sym pauses, sym out, ends, unordered, leaks, whole, explains)
 
 -- without a file it asks for nothing
 pub not_asked : (found : Option (Text × List Row)) (name : Text) (rows : List Row) → found ≡ Some (name, rows)

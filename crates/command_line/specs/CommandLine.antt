@@ -48,9 +48,13 @@ whole name = record (new_rule name) {
   parser = Some (Unsigned 0 (2 ^ 64 - 1));
 }
 
+-- an option of this name without a value
+abbrev pub flag : (name : Text) → Rule
+flag name = record (new_rule name) { long = Some name; action = Some SetTrue }
+
 -- whether errors and ends are explained
 abbrev pub explain : Rule
-explain = record (new_rule (codes "explain")) { long = Some (codes "explain"); action = Some SetTrue }
+explain = flag (codes "explain")
 
 -- kendo check FILE.. [--explain]
 abbrev pub check : App
@@ -114,6 +118,19 @@ chosen_timeline = with_rule (with_rule (with_rule (with_rule (new_app (codes "ti
 abbrev pub timeline : App
 timeline = with_rule (with_rule chosen_timeline out) explain
 
+-- kendo explore FILE [--limit L] [--tries N] [--states N]
+abbrev pub long_explore : App
+long_explore =
+    with_rule (with_rule (with_rule (with_rule (new_app (codes "explore")) file) limit) (number (codes "tries") (codes "200"))) (number (codes "states") (codes "1000000"))
+
+-- kendo explore FILE [--limit L] [--tries N] [--states N] [--ends] [--unordered] [--leaks] [--whole]
+abbrev pub chosen_explore : App
+chosen_explore = with_rule (with_rule (with_rule (with_rule long_explore (flag (codes "ends"))) (flag (codes "unordered"))) (flag (codes "leaks"))) (flag (codes "whole"))
+
+-- kendo explore FILE [--limit L] [--tries N] [--states N] [--ends] [--unordered] [--leaks] [--whole] [--out DIR] [--explain]
+abbrev pub explore : App
+explore = with_rule (with_rule chosen_explore out) explain
+
 -- a command has to be there; kendo --version tells the version
 abbrev pub named : App
 named =
@@ -124,9 +141,9 @@ named =
 abbrev pub first_commands : App
 first_commands = with_subcommand (with_subcommand (with_subcommand named check.top) list.top) reference.top
 
--- all five
+-- all six
 abbrev pub kendo : App
-kendo = with_subcommand (with_subcommand first_commands timeline.top) run.top
+kendo = with_subcommand (with_subcommand (with_subcommand first_commands timeline.top) explore.top) run.top
 
 -- no argument of the command is taken by its subcommands too
 abbrev pub IsLocal : Command → Type 0
@@ -151,6 +168,13 @@ rule_for arguments.Pauses = pauses
 rule_for arguments.From = from
 rule_for arguments.Last = last
 rule_for arguments.Out = out
+rule_for arguments.Folder = out
+rule_for arguments.Tries = number (codes "tries") (codes "200")
+rule_for arguments.States = number (codes "states") (codes "1000000")
+rule_for arguments.Ends = flag (codes "ends")
+rule_for arguments.Unordered = flag (codes "unordered")
+rule_for arguments.Leaks = flag (codes "leaks")
+rule_for arguments.Whole = flag (codes "whole")
 rule_for arguments.Explain = explain
 
 -- a command that takes these arguments too, one behind the other
@@ -184,6 +208,9 @@ Does name rows subcommands.Check = name ≡ codes "check"
 Does name rows subcommands.List = name ≡ codes "list"
 Does name rows (subcommands.Reference limit) = (name ≡ codes "reference") × (is_paused rows ≡ false) × IsNumber (one_of (codes "limit") rows) limit
 Does name rows (subcommands.Timeline limit) = (name ≡ codes "timeline") × IsNumber (one_of (codes "limit") rows) limit
+Does name rows (subcommands.Explore limit tries states) =
+    (name ≡ codes "explore") × IsNumber (one_of (codes "limit") rows) limit × IsNumber (one_of (codes "tries") rows) tries
+    × IsNumber (one_of (codes "states") rows) states
 Does name rows (subcommands.Paused limit) =
     ((name ≡ codes "run") ⊎ (name ≡ codes "reference")) × (is_paused rows ≡ true) × IsNumber (one_of (codes "limit") rows) limit
 Does name rows (subcommands.Run workers limit) =
@@ -194,7 +221,11 @@ abbrev pub IsNumberThere : Option Text → Option ℕ → Type 0
 IsNumberThere text (Some n) = IsNumber text n
 IsNumberThere text None = (n : ℕ) → IsNumber text n → ⊥
 
--- Like `Does`, but with the source files, the files of the trace, of the plan and of the picture, the events of the picture, and whether errors and ends are explained
+-- whether an option without a value is there
+abbrev pub IsSet : (name : Text) → List Row → Bool → Type 0
+IsSet name rows set = IsTrue set ↔ (first_of name rows ≡ Some (codes "true"))
+
+-- Like `Does`, but with the source files, the files of the trace, of the plan and of the picture, the events of the picture, what counts in an exploration, and whether errors and ends are explained
 abbrev pub Asks : Text × List Row → Invocation → Type 0
 Asks (name, rows) invocation =
     Does name rows invocation.subcommand × (first_of (codes "FILE") rows ≡ Some invocation.file.now)
@@ -204,7 +235,11 @@ Asks (name, rows) invocation =
     × (first_of (codes "trace") rows ≡ option_map (λ path. path.now) invocation.trace)
     × (first_of (codes "pauses") rows ≡ option_map (λ path. path.now) invocation.pauses)
     × (first_of (codes "out") rows ≡ option_map (λ path. path.now) invocation.out)
-    × (IsTrue invocation.explains ↔ (first_of (codes "explain") rows ≡ Some (codes "true")))
+    × IsSet (codes "ends") rows invocation.ends
+    × IsSet (codes "unordered") rows invocation.unordered
+    × IsSet (codes "leaks") rows invocation.leaks
+    × IsSet (codes "whole") rows invocation.whole
+    × IsSet (codes "explain") rows invocation.explains
 
 -- what the command does, or none where it does nothing
 abbrev pub IsDone : (name : Text) → List Row → Option Subcommand → Type 0

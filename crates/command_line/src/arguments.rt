@@ -3,7 +3,7 @@
 ghost use Rattle.std.specs.Prelude.{◌≡◌, ◌↔◌, codes, IfOk, IsTrue, Some};
 ghost use Rattle.std.specs.Option.{is_some};
 ghost use Rattle.clap.specs.Words.{app_of, first_of, found_of, one_of, rows_of, subcommand_rows_of, with_subcommand};
-ghost use Rattle.command_line.specs.CommandLine.{IsAsked, IsDone, IsLocal, IsNumberThere, IsRead, app_for, file, files, kendo, named, number, option, rule_for, whole};
+ghost use Rattle.command_line.specs.CommandLine.{IsAsked, IsDone, IsLocal, IsNumberThere, IsRead, app_for, file, files, flag, kendo, named, number, option, rule_for, whole};
 
 use clap::{Arg, ArgAction, ArgMatches, Command, value_parser};
 use std::alloc::{AllocError, Global};
@@ -25,6 +25,8 @@ Exit status:\n  \
 4   the limit of logical time was reached\n  \
 5   out of memory (13)\n  \
 6   an output could not be written (14)\n  \
+8   another order of events ends in another way\n  \
+9   not all orders could be searched, with --whole\n  \
 64  the command line, a number of workers (15), a limit (16) or a file can't be used";
 
 /// A command line that was accepted: what is done with which files.
@@ -44,6 +46,14 @@ pub struct Invocation<'m, 'a> {
     pub from: Option<u64>,
     /// How many events a picture shows, of the last ones of the run.
     pub last: Option<u64>,
+    /// Whether outputs of other orders don't count.
+    pub ends: bool,
+    /// Whether the order of lines doesn't count.
+    pub unordered: bool,
+    /// Whether goroutines that wait when `main` has returned count.
+    pub leaks: bool,
+    /// Whether an exploration that did not search all orders is told by its exit status.
+    pub whole: bool,
     /// Whether errors in the program and the end of its run are explained.
     pub explains: bool,
     /// What is done with the program.
@@ -66,6 +76,15 @@ pub enum Subcommand {
     Timeline {
         /// The last logical time; the recording judges whether it is 1 to 2^62.
         limit: u64,
+    },
+    /// Other orders of its events are searched.
+    Explore {
+        /// The last logical time of the runs that show ends; the exploration judges whether it is 1 to 2^62.
+        limit: u64,
+        /// How many walks are made at random.
+        tries: u64,
+        /// How many states are visited at most.
+        states: u64,
     },
     /// Its source is interpreted by a plan of pauses.
     Paused {
@@ -102,6 +121,20 @@ enum Argument {
     Last,
     /// The file that a picture of a run goes to.
     Out,
+    /// The folder that plans go to.
+    Folder,
+    /// How many walks are made at random.
+    Tries,
+    /// How many states are visited at most.
+    States,
+    /// Whether outputs of other orders don't count.
+    Ends,
+    /// Whether the order of lines doesn't count.
+    Unordered,
+    /// Whether goroutines that wait when `main` has returned count.
+    Leaks,
+    /// Whether an exploration that did not search all orders is told by its exit status.
+    Whole,
     /// Whether errors and ends are explained.
     Explain,
 }
@@ -118,7 +151,7 @@ struct TextCommand {
 }
 
 /// The commands, in the order of the help.
-const TEXT_COMMANDS: [TextCommand; 5] = [
+const TEXT_COMMANDS: [TextCommand; 6] = [
     TextCommand {
         name: "check",
         about: "Checks programs for errors",
@@ -148,6 +181,22 @@ const TEXT_COMMANDS: [TextCommand; 5] = [
             Argument::From,
             Argument::Last,
             Argument::Out,
+            Argument::Explain,
+        ],
+    },
+    TextCommand {
+        name: "explore",
+        about: "Searches other orders of a program's events that Go allows",
+        arguments: &[
+            Argument::File,
+            Argument::Limit,
+            Argument::Tries,
+            Argument::States,
+            Argument::Ends,
+            Argument::Unordered,
+            Argument::Leaks,
+            Argument::Whole,
+            Argument::Folder,
             Argument::Explain,
         ],
     },
@@ -218,6 +267,13 @@ fn whole_argument<'a>(alloc: Global, name: &'a str, value: &'a str, help: &'a st
         .value_parser(value_parser!(u64))
 }
 
+/// An option without a value.
+fn flag_argument<'a>(alloc: Global, name: &'a str, help: &'a str) -> Arg<'a>
+    ensures { IsRead result (flag name.entry.now) }
+{
+    option_argument(alloc, name, help).action(ArgAction::SetTrue)
+}
+
 /// The argument as words are read with it.
 fn argument_of<'a>(alloc: Global, argument: Argument) -> Arg<'a>
     ensures { IsRead result (rule_for argument) }
@@ -264,12 +320,51 @@ fn argument_of<'a>(alloc: Global, argument: Argument) -> Arg<'a>
             "Writes the picture to this file, as JSON if it ends in .json, else as SVG",
         )
         .value_name("OUT"),
-        Argument::Explain => option_argument(
+        Argument::Folder => option_argument(
+            alloc,
+            "out",
+            "Writes the plans that show other ends to this folder",
+        )
+        .value_name("DIR"),
+        Argument::Tries => number_argument(
+            alloc,
+            "tries",
+            "N",
+            "How many walks are made at random",
+            "200",
+        ),
+        Argument::States => number_argument(
+            alloc,
+            "states",
+            "N",
+            "How many states are visited at most",
+            "1000000",
+        ),
+        Argument::Ends => flag_argument(
+            alloc,
+            "ends",
+            "Counts only deadlocks and panics as other ends, not outputs",
+        ),
+        Argument::Unordered => flag_argument(
+            alloc,
+            "unordered",
+            "Does not count the order of lines",
+        ),
+        Argument::Leaks => flag_argument(
+            alloc,
+            "leaks",
+            "Counts goroutines that wait when main has returned",
+        ),
+        Argument::Whole => flag_argument(
+            alloc,
+            "whole",
+            "Exits with 9 if not all orders could be searched",
+        ),
+        Argument::Explain => flag_argument(
             alloc,
             "explain",
             "Explains errors in the program, how its run ends, and why a file can't be used",
-        )
-        .action(ArgAction::SetTrue),
+        ),
     }
 }
 
@@ -361,6 +456,11 @@ fn subcommand_named(name: &str, matches: &ArgMatches<'_>) -> Option<Subcommand>
         "reference" if paused => Some(Subcommand::Paused { limit: limit? }),
         "reference" => Some(Subcommand::Reference { limit: limit? }),
         "timeline" => Some(Subcommand::Timeline { limit: limit? }),
+        "explore" => Some(Subcommand::Explore {
+            limit: limit?,
+            tries: option_number(matches, "tries")?,
+            states: option_number(matches, "states")?,
+        }),
         "run" if paused => Some(Subcommand::Paused { limit: limit? }),
         "run" => Some(Subcommand::Run {
             workers: option_number(matches, "workers")?,
@@ -385,6 +485,10 @@ pub fn invocation_of<'m, 'a>(matches: &'m ArgMatches<'a>) -> Option<Invocation<'
     let out = matches.get_str("out");
     let from = option_number(matches, "from");
     let last = option_number(matches, "last");
+    let ends = is_set(matches, "ends");
+    let unordered = is_set(matches, "unordered");
+    let leaks = is_set(matches, "leaks");
+    let whole = is_set(matches, "whole");
     let explains = is_set(matches, "explain");
     let files = matches.get_strs("FILE")?;
     Some(Invocation {
@@ -395,6 +499,10 @@ pub fn invocation_of<'m, 'a>(matches: &'m ArgMatches<'a>) -> Option<Invocation<'
         out,
         from,
         last,
+        ends,
+        unordered,
+        leaks,
+        whole,
         explains,
         subcommand,
     })

@@ -57,7 +57,8 @@ fn end_explained(
         Subcommand::Check
         | Subcommand::List
         | Subcommand::Paused { .. }
-        | Subcommand::Timeline { .. } => Ok(Vec::new(alloc)),
+        | Subcommand::Timeline { .. }
+        | Subcommand::Explore { .. } => Ok(Vec::new(alloc)),
         Subcommand::Reference { limit } | Subcommand::Run { limit, .. } => {
             explain_end(alloc, file, bytes, limit, end)
         }

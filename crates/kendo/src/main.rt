@@ -5,11 +5,13 @@ ghost use Rattle.std.specs.Prelude.{◌≡◌, ◌⊎◌, IfOk, map, string_byte
 ghost use Rattle.kendo_shell.specs.Answers.{Finds, IsStatus, Obeys, Tells};
 
 mod explaining;
+mod exploring;
 mod pictures;
 mod plans;
 
 use command_line::arguments::{Invocation, Subcommand, command, invocation_of};
 use explaining::{explain, kept_text};
+use exploring::explore_file;
 use go_text::{Fault, Memory};
 use kendo_base::run_text;
 use kendo_code::list_bytes;
@@ -127,6 +129,9 @@ fn perform_on(
 ) -> Result<u8, Memory>
     ensures { IfOk result (λ status. (status ≡ USAGE) ⊎ Tells invocation.now.subcommand status) }
 {
+    if let Subcommand::Explore { .. } = invocation.subcommand {
+        return explore_file(rt, alloc, invocation, file);
+    }
     match opened(rt, alloc, invocation, file, name_of(invocation, file))? {
         Some((bytes, trace)) => answer(rt, threads, alloc, invocation, plan, file, bytes, trace),
         None => Ok(USAGE),
@@ -181,6 +186,7 @@ fn find(
         Subcommand::Reference { limit } => interpret(alloc, bytes, limit, outputs),
         Subcommand::Paused { limit } => pause(alloc, bytes, plan, limit, outputs),
         Subcommand::Timeline { limit } => picture(alloc, bytes, limit, invocation, outputs),
+        Subcommand::Explore { .. } => Err(Fault::Memory),
         Subcommand::Run { workers, limit } => {
             run_text(threads, alloc, bytes, workers, limit, outputs)
         }

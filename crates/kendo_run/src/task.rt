@@ -34,6 +34,7 @@ pub(crate) fn task_of(invocation: &Invocation<'_, '_>) -> Option<Task>
         Subcommand::List
         | Subcommand::Reference { .. }
         | Subcommand::Paused { .. }
-        | Subcommand::Timeline { .. } => None,
+        | Subcommand::Timeline { .. }
+        | Subcommand::Explore { .. } => None,
     }
 }

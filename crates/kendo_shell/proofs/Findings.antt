@@ -1,7 +1,7 @@
 -- What a command finds in a text, and the exit status that tells it.
-use Rattle.std.proofs.Common.{◌≡◌, ◌↔◌, ℕ, ◌≤◌, ◌<◌, ◌^◌, ◌⊎◌, inl, inr, List, Result, Ok, Err, IfOk, IfErr, IsErrOf, refl, sym, ap, subst, arith}
+use Rattle.std.proofs.Common.{◌≡◌, ◌↔◌, ℕ, ◌≤◌, ◌<◌, ◌^◌, ◌⊎◌, inl, inr, List, Result, Ok, Err, IfOk, IfErr, IsErrOf, refl, sym, ap, subst, ◌∙◌, arith}
 use Rattle.std.proofs.lemmas.Bool.{cases_lt}
-use Rattle.kendo_shell.specs.Answers.{Finds, HasReading, IsInBounds, IsReason, IsStatus, Tells}
+use Rattle.kendo_shell.specs.Answers.{Finds, HasReading, IsInBounds, IsReason, IsStatus, IsVerdict, Tells}
 use Rattle.command_line.specs.declared.arguments.Subcommand.{Subcommand}
 use Rattle.command_line.specs.declared.arguments.Subcommand.TheVariants as subcommands
 use Rattle.kendo_report.specs.Outcome.{fault_status, report_status}
@@ -146,6 +146,27 @@ pub picture_loses : (limit : ℕ) (text : List ℕ) (fault : Fault) → (fault �
 picture_loses limit text fault (inl is) bounds read = no_memory (subcommands.Timeline limit) text fault is
 picture_loses limit text fault (inr is) bounds read = timeline_loses limit text fault is bounds read
 
+-- ---- a text that is explored
+
+explore_loses : (limit tries states : ℕ) (text : List ℕ) (fault : Fault) → fault ≡ faults.Write → IsLimit limit → HasReading text
+    → IsReason (subcommands.Explore limit tries states) text fault
+explore_loses limit tries states text fault is bounds read = subst (IsReason (subcommands.Explore limit tries states) text) (sym is) (bounds, read)
+
+pub explore_stops : {T : Type 0} (limit tries states : ℕ) (text : List ℕ) (fault : Fault) → IsErrOf {T = T} (Err fault) faults.BadLimit ↔ (IsLimit limit → ⊥)
+    → IsRefusal fault ⊎ ((fault ≡ faults.Memory) ⊎ (fault ≡ faults.BadLimit)) → (IsRefusal fault → HasNoReading text)
+    → (IsRefusal fault → IsWhy text fault) → IsReason (subcommands.Explore limit tries states) text fault
+explore_stops limit tries states text fault bad (inl is) refused why =
+    unreadable (subcommands.Explore limit tries states) text fault (limit_before limit fault bad (inl is)) is (refused is) (why is)
+explore_stops limit tries states text fault bad (inr (inl is)) refused why = no_memory (subcommands.Explore limit tries states) text fault is
+explore_stops limit tries states text fault bad (inr (inr is)) refused why =
+    subst (IsReason (subcommands.Explore limit tries states) text) (sym is) (bad.0 (ap (λ (f : Fault). Err f) is))
+
+-- what was found can't be written
+pub findings_lost : (limit tries states : ℕ) (text : List ℕ) (fault : Fault) → (fault ≡ faults.Memory) ⊎ (fault ≡ faults.Write) → IsLimit limit → HasReading text
+    → IsReason (subcommands.Explore limit tries states) text fault
+findings_lost limit tries states text fault (inl is) bounds read = no_memory (subcommands.Explore limit tries states) text fault is
+findings_lost limit tries states text fault (inr is) bounds read = explore_loses limit tries states text fault is bounds read
+
 -- ---- a text that is run
 
 pub run_loses : (workers limit : ℕ) (text : List ℕ) (fault : Fault) → fault ≡ faults.Write → IsWorkers workers × IsLimit limit → HasReading text → IsReason (subcommands.Run workers limit) text fault
@@ -169,12 +190,17 @@ run_stops workers limit text fault bad_workers bad_limit (inr (inr (inr (inr is)
 
 pub told : (subcommand : Subcommand) (text : List ℕ) (outcome : Result End Fault) (status : ℕ) → Finds subcommand text outcome → status ≡ report_status outcome
     → (status ≡ 64) ⊎ Tells subcommand status
-told subcommand text outcome status finds is = inr (text, outcome, finds, is)
+told subcommand text outcome status finds is = inr (text, outcome, finds, inl is)
+
+pub explored : (subcommand : Subcommand) (text : List ℕ) (outcome : Result End Fault) (status told : ℕ) → Finds subcommand text outcome → status ≡ report_status outcome
+    → (told ≡ status) ⊎ IsVerdict subcommand outcome told → (told ≡ 64) ⊎ Tells subcommand told
+explored subcommand text outcome status told finds is (inl same) = inr (text, outcome, finds, inl (same ∙ is))
+explored subcommand text outcome status told finds is (inr verdict) = inr (text, outcome, finds, inr verdict)
 
 fault_is : (subcommand : Subcommand) (text : List ℕ) (fault : Fault) → IsReason subcommand text fault → IsStatus (fault_status fault)
 fault_is subcommand text faults.NotYours is = elim is [ ]
-fault_is subcommand text faults.BadWorkers is = inr refl
-fault_is subcommand text faults.BadLimit is = inr refl
+fault_is subcommand text faults.BadWorkers is = inr (inl refl)
+fault_is subcommand text faults.BadLimit is = inr (inl refl)
 fault_is subcommand text fault is = inl (omega arith)
 
 outcome_is : (subcommand : Subcommand) (text : List ℕ) (outcome : Result End Fault) → Finds subcommand text outcome → IsStatus (report_status outcome)
@@ -184,9 +210,20 @@ outcome_is subcommand text (Ok Deadlock) finds = inl (omega arith)
 outcome_is subcommand text (Ok Exhausted) finds = inl (omega arith)
 outcome_is subcommand text (Err fault) finds = fault_is subcommand text fault finds
 
+verdict_is : (subcommand : Subcommand) (outcome : Result End Fault) (status : ℕ) → IsVerdict subcommand outcome status → (status ≡ 8) ⊎ (status ≡ 9)
+verdict_is (subcommands.Explore limit tries states) (Ok end) status is = is
+verdict_is (subcommands.Explore limit tries states) (Err fault) status is = absurd is
+verdict_is subcommands.Check outcome status is = absurd is
+verdict_is subcommands.List outcome status is = absurd is
+verdict_is (subcommands.Reference limit) outcome status is = absurd is
+verdict_is (subcommands.Timeline limit) outcome status is = absurd is
+verdict_is (subcommands.Paused limit) outcome status is = absurd is
+verdict_is (subcommands.Run workers limit) outcome status is = absurd is
+
 pub told_status : (subcommand : Subcommand) (status : ℕ) → (status ≡ 64) ⊎ Tells subcommand status → IsStatus status
-told_status subcommand status (inl is) = inr is
-told_status subcommand status (inr (text, outcome, finds, is)) = subst IsStatus (sym is) (outcome_is subcommand text outcome finds)
+told_status subcommand status (inl is) = inr (inl is)
+told_status subcommand status (inr (text, outcome, finds, inl is)) = subst IsStatus (sym is) (outcome_is subcommand text outcome finds)
+told_status subcommand status (inr (text, outcome, finds, inr is)) = inr (inr (verdict_is subcommand outcome status is))
 
 -- one of two exit statuses that tell what was found
 pub either_tells : (subcommand : Subcommand) (first second status : ℕ) → (status ≡ first) ⊎ (status ≡ second) → (first ≡ 64) ⊎ Tells subcommand first → (second ≡ 64) ⊎ Tells subcommand second

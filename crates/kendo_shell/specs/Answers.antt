@@ -40,6 +40,7 @@ abbrev pub IsInBounds : Subcommand → Type 0
 IsInBounds (subcommands.Run workers limit) = IsWorkers workers × IsLimit limit
 IsInBounds (subcommands.Reference limit) = IsLimit limit
 IsInBounds (subcommands.Timeline limit) = IsLimit limit
+IsInBounds (subcommands.Explore limit tries states) = IsLimit limit
 IsInBounds (subcommands.Paused limit) = IsLimit limit
 IsInBounds subcommand = Unit {0}
 
@@ -52,6 +53,7 @@ IsReason subcommand text faults.BadWorkers = ⊥
 IsReason (subcommands.Run workers limit) text faults.BadLimit = IsWorkers workers × (IsLimit limit → ⊥)
 IsReason (subcommands.Reference limit) text faults.BadLimit = IsLimit limit → ⊥
 IsReason (subcommands.Timeline limit) text faults.BadLimit = IsLimit limit → ⊥
+IsReason (subcommands.Explore limit tries states) text faults.BadLimit = IsLimit limit → ⊥
 IsReason (subcommands.Paused limit) text faults.BadLimit = IsLimit limit → ⊥
 IsReason subcommand text faults.BadLimit = ⊥
 IsReason subcommands.Check text faults.Write = ⊥
@@ -60,23 +62,31 @@ IsReason subcommand text (faults.Unverified rule function place) = ⊥
 IsReason subcommand text faults.NotYours = ⊥
 IsReason subcommand text fault = IsInBounds subcommand × HasNoReading text × IsWhy text fault
 
--- what the command finds in the text: that it has a reading, or that a picture was made of its run, or how its run ends, or why none of these
+-- what the command finds in the text: that it has a reading, or that a picture was made of its run, or that it was explored, or how its run ends, or why none
+-- of these
 abbrev pub Finds : Subcommand → List ℕ → Result End Fault → Type 0
 Finds subcommands.Check text (Ok end) = (end ≡ Finished) × HasReading text
 Finds subcommands.List text (Ok end) = (end ≡ Finished) × HasReading text
 Finds (subcommands.Reference limit) text (Ok end) = IsLimit limit × EndsAs text limit end
 Finds (subcommands.Timeline limit) text (Ok end) = (end ≡ Finished) × IsLimit limit × HasReading text
+Finds (subcommands.Explore limit tries states) text (Ok end) = (end ≡ Finished) × IsLimit limit × HasReading text
 Finds (subcommands.Paused limit) text (Ok end) = IsLimit limit × EndsPaused text limit end
 Finds (subcommands.Run workers limit) text (Ok end) = IsWorkers workers × IsLimit limit × EndsAs text limit end
 Finds subcommand text (Err fault) = IsReason subcommand text fault
 
+-- the exit status of an exploration that found another end, or could not search all orders
+abbrev pub IsVerdict : Subcommand → Result End Fault → ℕ → Type 0
+IsVerdict (subcommands.Explore limit tries states) (Ok end) status = (status ≡ 8) ⊎ (status ≡ 9)
+IsVerdict subcommand outcome status = ⊥
+
 -- an exit status that tells what was found in some text
 abbrev pub Tells : Subcommand → ℕ → Type 0
-Tells subcommand status = (text : List ℕ) × (outcome : Result End Fault) × Finds subcommand text outcome × (status ≡ report_status outcome)
+Tells subcommand status =
+    (text : List ℕ) × (outcome : Result End Fault) × Finds subcommand text outcome × ((status ≡ report_status outcome) ⊎ IsVerdict subcommand outcome status)
 
 -- an exit status of the program
 abbrev pub IsStatus : ℕ → Type 0
-IsStatus status = (status ≤ 6) ⊎ (status ≡ 64)
+IsStatus status = (status ≤ 6) ⊎ ((status ≡ 64) ⊎ ((status ≡ 8) ⊎ (status ≡ 9)))
 
 -- the exit status where help or the version was asked for, or the words are refused for another reason
 abbrev pub ShowsAs : ErrorKind → ℕ → Type 0

@@ -57,6 +57,10 @@ fn told(alloc: Global, asked: &Invocation<'_, '_>) -> Result<String, AllocError>
         out,
         from,
         last,
+        ends,
+        unordered,
+        leaks,
+        whole,
         explains,
         subcommand,
     } = *asked;
@@ -68,9 +72,24 @@ fn told(alloc: Global, asked: &Invocation<'_, '_>) -> Result<String, AllocError>
     }
     let events = events(alloc, from, last)?;
     let plan = plan(alloc, pauses)?;
+    let scope = scope(alloc, [ends, unordered, leaks, whole])?;
     format!(in alloc;
-        "file {file:?} {more}trace {trace:?} {plan}out {out:?} {events}explains {explains}: {done}"
+        "file {file:?} {more}trace {trace:?} {plan}out {out:?} {events}{scope}explains {explains}: {done}"
     )
+}
+
+/// What counts in an exploration, if anything is chosen.
+fn scope(alloc: Global, chosen: [bool; 4]) -> Result<String, AllocError> {
+    let mut text = String::new(alloc);
+    for (name, is_chosen) in ["ends ", "unordered ", "leaks ", "whole "]
+        .iter()
+        .zip(chosen.iter())
+    {
+        if *is_chosen {
+            text.push_str(name)?;
+        }
+    }
+    Ok(text)
 }
 
 /// The file of the plan, if one is named.
@@ -97,6 +116,11 @@ fn done(alloc: Global, subcommand: Subcommand) -> Result<String, AllocError> {
         Subcommand::Reference { limit } => format!(in alloc; "reference to {limit}"),
         Subcommand::Paused { limit } => format!(in alloc; "paused to {limit}"),
         Subcommand::Timeline { limit } => format!(in alloc; "timeline to {limit}"),
+        Subcommand::Explore {
+            limit,
+            tries,
+            states,
+        } => format!(in alloc; "explore to {limit} by {tries} walks and {states} states"),
         Subcommand::Run { workers, limit } => format!(in alloc; "run by {workers} to {limit}"),
     }
 }

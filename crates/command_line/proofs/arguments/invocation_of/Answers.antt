@@ -23,4 +23,5 @@ returns c =
     c.option_number-from.ensures c.option_number-last.ensures
     (c.get_str-trace.ensures ∙ first_value-rows (found_of c.in-Some.matches.now) (codes "trace"))
     (c.get_str-pauses.ensures ∙ first_value-rows (found_of c.in-Some.matches.now) (codes "pauses"))
-    (c.get_str-out.ensures ∙ first_value-rows (found_of c.in-Some.matches.now) (codes "out")) c.is_set-explains.ensures
+    (c.get_str-out.ensures ∙ first_value-rows (found_of c.in-Some.matches.now) (codes "out"))
+    c.is_set-ends.ensures c.is_set-unordered.ensures c.is_set-leaks.ensures c.is_set-whole.ensures c.is_set-explains.ensures

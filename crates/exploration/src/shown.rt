@@ -1,0 +1,106 @@
+//! Ends that runs of the interpreter have shown.
+
+use crate::runner::{Ran, Runner};
+use crate::shrink::{Shrinking, Wanted};
+use go_text::Memory;
+use orders::Found;
+use program_states::{Ending, Space, Step, World};
+use schedule::{Delay, Schedule, Standing, plan_of, schedule_of};
+use std::alloc::Global;
+
+/// An end that a run of the interpreter has shown.
+#[derive(Drop)]
+pub struct Shown {
+    pub ending: Ending,
+    /// What the run printed.
+    pub output: Vec<u8>,
+    /// The file of the plan with which it runs so.
+    pub plan: Vec<u8>,
+    pub(crate) delays: Vec<Delay>,
+    /// Where the goroutines stand at the end.
+    pub(crate) world: World,
+    /// The state of the goroutine that ended the program, if one did.
+    pub(crate) last: Option<u32>,
+}
+
+/// Shows an end that was found by a run of the interpreter with as few pauses as are found to be enough; none if no run shows it.
+///
+/// Errors: out of memory.
+pub(crate) fn show_end(
+    alloc: Global,
+    runner: Runner<'_>,
+    space: &mut Space<'_>,
+    found: &Found,
+) -> Result<Option<Shown>, Memory> {
+    let ending = found.ending;
+    let steps = in_order(alloc, found)?;
+    let Schedule {
+        delays,
+        clock,
+        world,
+        standing,
+        last: actor,
+    } = schedule_of(alloc, space, steps.as_slice(), ending == Ending::Leak)?;
+    let last = last_of(space, &world, steps.as_slice(), ending);
+    let wanted = wanted_of(found, standing, actor);
+    let runner = runner.up_to(clock);
+    let mut shrinking = Shrinking::new(alloc, runner, space, wanted, steps.len());
+    if shrinking.ran(delays.as_slice())?.is_none() {
+        return Ok(None);
+    }
+    let delays = shrinking.shrunk(delays)?;
+    let Some(Ran { output, .. }) = shrinking.ran(delays.as_slice())? else {
+        return Ok(None);
+    };
+    let plan = plan_of(alloc, space.locals().goroutines(), delays.as_slice())?.bytes(alloc)?;
+    Ok(Some(Shown {
+        ending,
+        output,
+        plan,
+        delays,
+        world,
+        last,
+    }))
+}
+
+/// How a run ends that shows an end, after which goroutines stand so, and `actor` was the last one.
+fn wanted_of(found: &Found, standing: Vec<Standing>, actor: Option<Standing>) -> Wanted {
+    let (sleepers, last) = match found.ending {
+        Ending::Deadlock | Ending::Leak => (Some(standing), None),
+        Ending::Panicked(_) => (None, actor),
+        Ending::Finished | Ending::Endless => (None, None),
+    };
+    Wanted {
+        ending: found.ending,
+        output: found.output,
+        sleepers,
+        last,
+    }
+}
+
+/// The steps to an end; if goroutines are left that wait, `main` returns last.
+fn in_order(alloc: Global, found: &Found) -> Result<Vec<Step>, Memory> {
+    let mut steps = Vec::new(alloc);
+    let mut ends = None;
+    let last_of_main = found.steps.iter().rposition(|step| step.actor == 0);
+    for (index, step) in found.steps.iter().enumerate() {
+        if found.ending == Ending::Leak && last_of_main == Some(index) {
+            ends = Some(*step);
+        } else {
+            steps.push(*step)?;
+        }
+    }
+    if let Some(step) = ends {
+        steps.push(step)?;
+    }
+    Ok(steps)
+}
+
+/// The state of the goroutine that ends the program by the last step, if it panics.
+fn last_of(space: &Space<'_>, world: &World, steps: &[Step], ending: Ending) -> Option<u32> {
+    if !matches!(ending, Ending::Panicked(_)) {
+        return None;
+    }
+    let place = space.place_of(world, steps.last()?.actor)?;
+    world.locals.get(place as usize).copied()
+}

@@ -1,0 +1,62 @@
+//! Explores each program of `data`, and prints what is told of it, and the plans that show its ends again.
+//!
+//! Line 2 of each program names what is to be found: `deadlock`, a panic, `output`, `leak` or `none`.
+#![tactic(auto)]
+
+use kendo_explore::{Explored, Options, Progress, Scope, Verdict, explore_bytes};
+use row_format::folder::names;
+use std::io::Write;
+use std::{fs, io};
+
+fn main(rt: HostRuntime) -> io::Result<()> {
+    for name in names(&rt, ".")?.iter() {
+        if name.as_str().ends_with(".go") {
+            explore(&rt, name.as_str())?;
+        }
+    }
+    Ok(())
+}
+
+/// Nothing is told while an exploration goes on.
+#[derive(Drop)]
+struct Silent;
+
+impl Progress for Silent {
+    fn visited(&mut self, _states: usize) {}
+}
+
+/// Explores the program of a file, and prints what is told of it.
+fn explore(rt: &HostRuntime, name: &str) -> io::Result<()> {
+    let alloc = rt.alloc();
+    let bytes = fs::read(rt, name)?;
+    let options = Options {
+        tries: 200,
+        states: 100_000,
+        limit: 1 << 40,
+        scope: Scope {
+            outputs: true,
+            lines_in_order: true,
+            leaks: name.contains("leak"),
+        },
+    };
+    match explore_bytes(alloc, name, bytes, options, &mut Silent) {
+        Ok(explored) => print(rt, &explored),
+        Err(fault) => println!(rt; "{name}: {fault}"),
+    }
+}
+
+/// Prints what is told of a program.
+fn print(rt: &HostRuntime, explored: &Explored) -> io::Result<()> {
+    let mut out = rt.stdout();
+    out.write_all(explored.report.as_slice())?;
+    for plan in explored.plans.iter() {
+        let name = plan.name.as_str();
+        println!(rt; "{name}:")?;
+        out.write_all(plan.bytes.as_slice())?;
+    }
+    match explored.verdict {
+        Verdict::Same => println!(rt; "same"),
+        Verdict::SameSoFar => println!(rt; "same so far"),
+        Verdict::Other => println!(rt; "other"),
+    }
+}

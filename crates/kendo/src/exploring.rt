@@ -1,0 +1,177 @@
+//! The exploration of a program in other orders of its events.
+
+ghost use Rattle.std.specs.Prelude.{◌≡◌, ◌⊎◌, IfErr, IfOk};
+ghost use Rattle.kendo_shell.specs.Answers.{Finds, IsVerdict, Tells};
+
+use crate::explaining::{explain, kept_text};
+use command_line::arguments::{Invocation, Subcommand};
+use go_text::{Fault, Memory};
+use kendo_explore::{Explored, Options, PlanFile, Progress, Scope, Verdict, explore_bytes};
+use kendo_shell::USAGE;
+use kendo_shell::files::opened;
+use kendo_shell::streams::{tell, told};
+use kendo_shell::tracing::{Outputs, Trace};
+use std::alloc::Global;
+use std::fs;
+use word::end::End;
+use word::write_all;
+
+/// The exit status if another end was found.
+const OTHER: u8 = 8;
+
+/// The exit status if not all orders could be searched, and that counts.
+const NOT_ALL: u8 = 9;
+
+/// Tells on standard error how many states were visited.
+struct Counter<'r> {
+    rt: &'r HostRuntime,
+    alloc: Global,
+}
+
+impl Progress for Counter<'_> {
+    fn visited(&mut self, states: usize) {
+        if let Ok(line) = format!(in self.alloc; "{states} states\n") {
+            tell(self.rt, line.as_bytes());
+        }
+    }
+}
+
+/// Explores the program of a file, and reports what is found. The plans that show its ends again go to files.
+#[tactic(auto, using(kendo_shell::proofs::Findings::explored))]
+pub(crate) fn explore_file(
+    rt: &HostRuntime,
+    alloc: Global,
+    invocation: &Invocation<'_, '_>,
+    file: &str,
+) -> Result<u8, Memory>
+    ensures { IfOk result (λ status. (status ≡ USAGE) ⊎ Tells invocation.now.subcommand status) }
+{
+    let source = Invocation {
+        out: None,
+        trace: None,
+        ..*invocation
+    };
+    let Some((bytes, _no_trace)) = opened(rt, alloc, &source, file, None)? else {
+        return Ok(USAGE);
+    };
+    let kept = kept_text(alloc, invocation, bytes.as_slice());
+    let mut outputs = Outputs::new(rt, Trace::Dropped);
+    let mut verdict = None;
+    let outcome = explore(
+        rt,
+        alloc,
+        invocation,
+        file,
+        bytes,
+        &mut outputs,
+        &mut verdict,
+    );
+    let status = told(rt, alloc, None, &outcome)?;
+    let status = status_of(invocation, &outcome, verdict, status);
+    explain(
+        rt,
+        alloc,
+        invocation,
+        file,
+        kept,
+        outcome,
+        outputs.refused(),
+    );
+    Ok(status)
+}
+
+/// The exit status of an exploration: what it comes to if it was made, else `status`.
+fn status_of(
+    invocation: &Invocation<'_, '_>,
+    outcome: &Result<End, Fault>,
+    verdict: Option<Verdict>,
+    status: u8,
+) -> u8
+    ensures { (result ≡ status) ⊎ IsVerdict invocation.now.subcommand outcome.now result }
+{
+    match (invocation.subcommand, outcome, verdict) {
+        (Subcommand::Explore { .. }, Ok(_), Some(Verdict::Other)) => OTHER,
+        (Subcommand::Explore { .. }, Ok(_), Some(Verdict::SameSoFar)) if invocation.whole =>
+            NOT_ALL,
+        _ => status,
+    }
+}
+
+/// Explores a program, and writes what is found; what it comes to goes to `verdict`.
+fn explore(
+    rt: &HostRuntime,
+    alloc: Global,
+    invocation: &Invocation<'_, '_>,
+    file: &str,
+    bytes: Vec<u8>,
+    outputs: &mut Outputs,
+    verdict: &mut Option<Verdict>,
+) -> Result<End, Fault>
+    ensures { Finds invocation.now.subcommand bytes.items result }
+{
+    let Subcommand::Explore {
+        limit,
+        tries,
+        states,
+    } = invocation.subcommand
+    else {
+        return Err(Fault::Memory);
+    };
+    let options = Options {
+        tries,
+        states,
+        limit,
+        scope: Scope {
+            outputs: !invocation.ends,
+            lines_in_order: !invocation.unordered,
+            leaks: invocation.leaks,
+        },
+    };
+    let mut counter = Counter { rt, alloc };
+    let explored = explore_bytes(alloc, file, bytes, options, &mut counter)?;
+    write(rt, alloc, invocation, &explored, outputs)?;
+    *verdict = Some(explored.verdict);
+    Ok(End::Finished)
+}
+
+/// Writes the report to standard output, and the plans to their files.
+fn write(
+    rt: &HostRuntime,
+    alloc: Global,
+    invocation: &Invocation<'_, '_>,
+    explored: &Explored,
+    outputs: &mut Outputs,
+) -> Result<(), Fault>
+    ensures { IfErr result (λ fault. (fault ≡ Fault.Memory) ⊎ (fault ≡ Fault.Write)) }
+{
+    for plan in explored.plans.iter() {
+        write_plan(rt, alloc, invocation.out, plan)?;
+    }
+    match write_all(&mut outputs.standard, explored.report.as_slice()) {
+        Ok(()) => Ok(()),
+        Err(_) => Err(Fault::Write),
+    }
+}
+
+/// Writes a plan to its file in a folder, or in the current one.
+fn write_plan(
+    rt: &HostRuntime,
+    alloc: Global,
+    folder: Option<&str>,
+    plan: &PlanFile,
+) -> Result<(), Fault>
+    ensures { IfErr result (λ fault. (fault ≡ Fault.Memory) ⊎ (fault ≡ Fault.Write)) }
+{
+    let name = plan.name.as_str();
+    let path = match folder {
+        Some(folder) => format!(in alloc; "{folder}/{name}"),
+        None => format!(in alloc; "{name}"),
+    };
+    let Ok(path) = path else {
+        return Err(Fault::Memory);
+    };
+    match fs::write(rt, path.as_str(), plan.bytes.as_slice()) {
+        Ok(()) => Ok(()),
+        Err(_) => Err(Fault::Write),
+    }
+}

@@ -1,0 +1,9 @@
+//! The exploration of the program that a source file is: its report, and the files of plans that show its ends again.
+#![tactic(auto)]
+
+mod exploring;
+mod names;
+
+pub use exploration::{Options, Verdict};
+pub use exploring::{Explored, PlanFile, Progress, explore_bytes};
+pub use program_states::Scope;
