@@ -1,6 +1,6 @@
 -- Goroutines as a core keeps them.
 use Rattle.std.specs.Prelude.{◌≡◌, ◌≢◌, ℕ, ◌||◌, Bool, true, false, cond, List, Option, Some, None, IfSome, slice_index_or, slice_set}
-use Rattle.std.specs.Option.{is_some, option_map}
+use Rattle.std.specs.Option.{MatchOption, is_some, option_map}
 use Rattle.bytecode.specs.Code.{Code}
 use Rattle.bytecode.specs.Machine.{Frames, code_kind}
 use Rattle.goroutine_vm.specs.Advance.{Goes, IsStateOf, steps}
@@ -136,11 +136,11 @@ abbrev pub FitsBeds : Code → ℕ → Beds → Type 0
 FitsBeds code limit beds = (k : ℕ) → IfSome (slice_index_or beds k None) (λ s. IsStateOf code limit s)
 
 -- one that was in this state has made local steps, at most so many, and is parked if it asks; what it answers is whether it does,
--- and where it doesn't it has made all of them. It answers nothing where memory is wanting
+-- and where it doesn't it has made all of them. It answers nothing where memory is wanting, and then does not ask
 abbrev pub IsWorked : Code → ℕ → ℕ → State → Option Bool → Row State → Type 0
 IsWorked code limit quantum base answer row =
     Goes code limit quantum base row.state × IsStateOf code limit row.state × (row ≡ back_row row.state (is_some (asks (code_kind code) limit row.state)))
-    × IfSome answer (λ asking. (asking ≡ row.parked) × (asking ≡ false → steps code limit quantum base ≡ row.state))
+    × MatchOption answer (row.parked ≡ false) (λ asking. (asking ≡ row.parked) × (asking ≡ false → steps code limit quantum base ≡ row.state))
 
 -- goroutine n, which may be lent, has made local steps where it stands
 abbrev pub WorksIn : Code → ℕ → ℕ → Rows → ℕ → Option Bool → Rows → Type 0

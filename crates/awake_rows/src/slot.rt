@@ -231,10 +231,7 @@ impl Slot {
             unreachable!()
         };
         let worked = state.step_ahead(alloc, code, limit, quantum);
-        self.parked = match &worked {
-            Ok(asking) => *asking,
-            Err(_) => state.is_asking(code, limit),
-        };
+        self.parked = matches!(worked, Ok(true));
         self.floor = state.clock();
         worked
     }

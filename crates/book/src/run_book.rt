@@ -27,7 +27,7 @@ use word::request::Event;
 pub struct RunBook<B: RunName> {
     pub book: Book<OfRun<B>>,
     /// Where each event is written in its turn.
-    pub event: Event,
+    event: Event,
     pub ghost ours: { IsOfRun B.code B.limit B.traces book },
 }
 

@@ -16,6 +16,7 @@ mod step;
 mod told;
 
 pub use call_frame::frame::Frame;
+pub use goroutine_vm_request::RequestLists;
 pub use sleeping::{Room, Sleeping};
 pub use state::{GoState, Stop, spawn_state};
 

@@ -11,7 +11,7 @@ use crate::told::Told;
 use call_frame::frame::Frame;
 use go_text::Memory;
 use goroutine_vm_base::call_stack::CallStack;
-use goroutine_vm_request::request;
+use goroutine_vm_request::{RequestLists, request};
 use logical_clock::Clock;
 use std::alloc::Global;
 use std::marker::Model;
@@ -88,7 +88,8 @@ impl Sleeping {
     pub fn ask(&self, alloc: Global, code: &Verified, place: &mut Request) -> Result<bool, Memory>
         ensures asks { IfOk result (λ asking. AsksFor (code_next code.now self.now.state) (cond asking (Some place.new) None)) }
     {
-        let asking = request(alloc, code.code(), self.running.as_ref(), place)?;
+        let mut lists = RequestLists::new(alloc);
+        let asking = request(&mut lists, code.code(), self.running.as_ref(), place)?;
         Ok(asking)
     }
 

@@ -7,7 +7,7 @@ ghost use Rattle.bytecode.specs.Machine.{code_begin, code_kind, code_next, frame
 ghost use Rattle.bytecode.specs.Rules.{IsFrameOf, IsVerified};
 ghost use Rattle.call_frame.specs.Steps.{Does};
 ghost use Rattle.goroutine_vm.specs.Told.{with_told};
-ghost use Rattle.goroutine_vm.specs.Advance.{Advances, Bursts, Goes, IsFew, IsStateOf, IsStop, Turns, steps};
+ghost use Rattle.goroutine_vm.specs.Advance.{Advances, Bursts, Goes, IsAsking, IsFew, IsStateOf, IsStop, Turns, steps};
 ghost use Rattle.word.specs.Kinds.{asks, at, told};
 ghost use Rattle.word.specs.Views.{reply_of, request_of};
 
@@ -16,6 +16,7 @@ use crate::told::words_of;
 use call_frame::frame::Frame;
 use call_frame::outcome::Stepped;
 use go_text::Memory;
+use goroutine_vm_request::RequestLists;
 use logical_clock::Clock;
 use std::alloc::{AllocError, Global};
 use std::marker::Model;
@@ -174,7 +175,8 @@ impl GoState {
         self.stop(alloc, code, limit)
     }
 
-    /// The same steps: whether the goroutine then stands at a request, which is not made.
+    /// The same steps: whether the goroutine then stands at a request, which is not made. After 13 it stands at none, and some of the
+    /// steps may be made.
     pub fn step_ahead(
         &mut self,
         alloc: Global,
@@ -185,17 +187,31 @@ impl GoState {
         requires { IsStateOf code.now limit self.old }
         ensures asks { IfOk result (λ asking. asking ≡ is_some (asks (code_kind code.now) limit self.new)) }
         ensures quantum { IfOk result (λ asking. asking ≡ false → steps code.now limit quantum self.old ≡ self.new) }
+        ensures local { OnErr result (asks (code_kind code.now) limit self.new ≡ None) }
         ensures steps { Goes code.now limit quantum self.old self.new }
         ensures state { IsStateOf code.now limit self.new }
     {
         let mut made = 0;
         while made < quantum {
-            match self.burst(alloc, code, limit, quantum - made)? {
-                Some(steps) => made += steps,
-                None => return Ok(true),
+            match self.burst(alloc, code, limit, quantum - made) {
+                Ok(Some(steps)) => made += steps,
+                Ok(None) => return Ok(true),
+                Err(Memory) => return self.refused(code, limit),
             }
         }
         Ok(self.is_asking(code, limit))
+    }
+
+    /// What becomes of steps when memory is refused: the goroutine is not at a request, at which it would need none.
+    fn refused(&self, code: &Verified, limit: u64) -> Result<bool, Memory>
+        requires { IsStateOf code.now limit self.now }
+        ensures asks { IfOk result (λ asking. (asking ≡ true) × IsAsking code.now limit self.now) }
+        ensures local { OnErr result (asks (code_kind code.now) limit self.now ≡ None) }
+    {
+        if self.is_asking(code, limit) {
+            return Ok(true);
+        }
+        Err(Memory)
     }
 
     /// The request at which the goroutine stands, or that it stands at none.
@@ -289,16 +305,17 @@ impl GoState {
         ensures verified { IsVerified code.now }
     {
         let mut request = Request::End;
-        if self.ask(alloc, code, limit, &mut request)? {
+        let mut lists = RequestLists::new(alloc);
+        if self.ask(&mut lists, code, limit, &mut request)? {
             return Ok(Some(request));
         }
         Ok(None)
     }
 
-    /// Whether the goroutine stands at a request, which is written to this place then.
+    /// Whether the goroutine stands at a request, which is written to this place then, in the room of `lists`.
     pub fn ask(
         &self,
-        alloc: Global,
+        lists: &mut RequestLists,
         code: &Verified,
         limit: u64,
         place: &mut Request,
@@ -319,7 +336,7 @@ impl GoState {
             }
             return Ok(false);
         }
-        if !self.frames.ask(alloc, code, place)? {
+        if !self.frames.ask(lists, code, place)? {
             return Ok(false);
         }
         Ok(true)

@@ -10,6 +10,7 @@ ghost use Rattle.goroutine_vm_base.specs.Steps.{AsksFor, IsChannelOn, stops};
 ghost use Rattle.word.specs.declared.value.Word.{Word as WordValue};
 ghost use Rattle.word.specs.Kinds.{Stuck};
 
+use crate::lists::RequestLists;
 use crate::select::select;
 use bytecode::{Code, Instr};
 use call_frame::fetch::{fetch, instr_of, sent_words};
@@ -57,7 +58,7 @@ fn make(
 
 /// What a start of a goroutine asks, likewise.
 fn go(
-    alloc: Global,
+    lists: &mut RequestLists,
     code: &Code,
     frame: &Frame,
     function: u32,
@@ -70,7 +71,7 @@ fn go(
     if function as usize >= code.functions().len() {
         return Ok(false);
     }
-    let args = Vec::from_slice(alloc, &frame.stack()[at..])?;
+    let args = lists.arguments(&frame.stack()[at..])?;
     *place = Request::Go(function, args);
     Ok(true)
 }
@@ -197,7 +198,7 @@ fn channel(frame: &Frame, at: usize) -> Option<Option<u32>>
 /// What an instruction asks, whose operands begin at a place of the stack, where so many functions wait for the running one,
 /// likewise; false where it is a local step.
 fn ask(
-    alloc: Global,
+    lists: &mut RequestLists,
     code: &Code,
     frame: &Frame,
     depth: usize,
@@ -220,9 +221,9 @@ fn ask(
             *place = Request::End;
             Ok(true)
         }
-        Instr::Make(shape) => make(alloc, code, frame, shape, at, place),
-        Instr::Go(function) => go(alloc, code, frame, function, at, place),
-        Instr::Send(shape) => Ok(send(alloc, frame, shape, at, place)),
+        Instr::Make(shape) => make(lists.alloc, code, frame, shape, at, place),
+        Instr::Go(function) => go(lists, code, frame, function, at, place),
+        Instr::Send(shape) => Ok(send(lists.alloc, frame, shape, at, place)),
         Instr::Receive(shape) => Ok(receive(frame, shape, at, place)),
         Instr::Close => Ok(close(frame, at, place)),
         Instr::Len => Ok(len(frame, at, place)),
@@ -232,11 +233,11 @@ fn ask(
             if table as usize >= prints.len() {
                 return Ok(false);
             }
-            let text = print(alloc, &prints[table as usize], &frame.stack()[at..])?;
+            let text = print(lists.alloc, &prints[table as usize], &frame.stack()[at..])?;
             *place = Request::Print(text);
             Ok(true)
         }
-        Instr::Select(table) => select(alloc, code, frame, table, at, place),
+        Instr::Select(table) => select(lists, code, frame, table, at, place),
         _ => Ok(false),
     }
 }
@@ -313,7 +314,7 @@ fn asks(at_limit: bool, frame: &Frame, depth: usize, i: Instr, at: usize) -> boo
 /// send or receive.
 #[inline(always)]
 pub fn request(
-    alloc: Global,
+    lists: &mut RequestLists,
     code: &Code,
     frames: &CallStack,
     place: &mut Request,
@@ -330,7 +331,7 @@ pub fn request(
             if have < wanted {
                 return Ok(false);
             }
-            Ok(send(alloc, frame, shape, have - wanted, place))
+            Ok(send(lists.alloc, frame, shape, have - wanted, place))
         }
         Some(&Instr::Receive(shape)) => {
             if have < 1 {
@@ -338,14 +339,14 @@ pub fn request(
             }
             Ok(receive(frame, shape, have - 1, place))
         }
-        _ => request_any(alloc, code, frames, place),
+        _ => request_any(lists, code, frames, place),
     }
 }
 
 /// The same at any instruction.
 #[inline(never)]
 fn request_any(
-    alloc: Global,
+    lists: &mut RequestLists,
     code: &Code,
     frames: &CallStack,
     place: &mut Request,
@@ -363,7 +364,7 @@ fn request_any(
                 return Ok(false);
             }
             let depth = frames.len() - 1;
-            ask(alloc, code, frame, depth, i, have - wanted, place)
+            ask(lists, code, frame, depth, i, have - wanted, place)
         }
     }
 }

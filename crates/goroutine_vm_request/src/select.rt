@@ -5,15 +5,16 @@ ghost use Rattle.bytecode.specs.Machine.{Frames, instr_next};
 ghost use Rattle.bytecode.specs.Rules.{IsVerified};
 ghost use Rattle.goroutine_vm_base.specs.Steps.{AsksFor};
 
+use crate::lists::RequestLists;
 use bytecode::{Code, Instr};
 use call_frame::frame::Frame;
 use operands::select::cases;
-use std::alloc::{AllocError, Global};
+use std::alloc::AllocError;
 use word::request::Request;
 
 /// What a select asks, whose operands begin at a place of the stack, written to this place; false where it asks nothing.
 pub(crate) fn select(
-    alloc: Global,
+    lists: &mut RequestLists,
     code: &Code,
     frame: &Frame,
     table: u32,
@@ -26,12 +27,21 @@ pub(crate) fn select(
 {
     match code.selects().get(table as usize) {
         None => Ok(false),
-        Some(table) => match cases(alloc, code, table.clauses(), &frame.stack()[at..])? {
-            None => Ok(false),
-            Some(cases) => {
-                *place = Request::Select(cases, table.default().is_some());
-                Ok(true)
+        Some(table) => {
+            let room = lists.cases();
+            match cases(
+                lists.alloc,
+                code,
+                table.clauses(),
+                &frame.stack()[at..],
+                room,
+            )? {
+                None => Ok(false),
+                Some(cases) => {
+                    *place = Request::Select(cases, table.default().is_some());
+                    Ok(true)
+                }
             }
-        },
+        }
     }
 }

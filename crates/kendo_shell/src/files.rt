@@ -127,13 +127,16 @@ fn create(rt: &HostRuntime, path: &str, source: Option<Identity>) -> Result<Trac
     }
 }
 
-/// Like `create`; `None` if it is the source file, which stays as it is.
+/// Like `create`; `None` if it is the source file, which stays as it is. A file that is opened while a standard stream is closed
+/// gets the stream's descriptor, and would get what is written to the stream. Its clone gets a descriptor above these.
 fn create_other(
     rt: &HostRuntime,
     path: &str,
     source: Option<Identity>,
 ) -> io::Result<Option<File>> {
-    let file = File::options().write(true).create(true).open(rt, path)?;
+    let first = File::options().write(true).create(true).open(rt, path)?;
+    let file = first.try_clone()?;
+    drop(first);
     let identity = Identity::of(&file.metadata()?);
     if identity.is_none() {
         return Ok(Some(file));

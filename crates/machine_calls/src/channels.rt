@@ -1,6 +1,6 @@
 //! What channels answer.
 
-use crate::checks::Checks;
+use crate::checks::{Checks, is_refused};
 use channel_core::{Channels, Outcome, Woken};
 use go_text::{Fault, Memory};
 use logical_clock::{Clock, Key, LAST};
@@ -193,10 +193,14 @@ const TALKS: [(&str, Talk); 9] = [
     ),
 ];
 
-/// Whether new channels answer so.
+/// Whether new channels answer so, also if a call is refused memory and made again.
 pub(crate) fn check(alloc: Global, checks: &mut Checks) -> Result<(), Memory> {
     for (name, talk) in &TALKS {
-        checks.see(name, is_answered(alloc, talk))?;
+        let mut answered = is_answered(alloc, talk);
+        if is_refused(&answered) {
+            answered = is_answered(alloc, talk);
+        }
+        checks.see(name, answered)?;
     }
     Ok(())
 }
@@ -208,11 +212,21 @@ fn is_answered(alloc: Global, talk: Talk) -> Result<bool, Fault> {
 
 fn answers(channels: &mut Channels, alloc: Global, talk: Talk) -> bool {
     for (call, wanted) in talk {
-        if said(channels, alloc, *call) != *wanted {
+        if said_at_last(channels, alloc, *call) != Some(*wanted) {
             return false;
         }
     }
     true
+}
+
+/// What a call says. If it is refused memory, it is made again; `None` if a goroutine fell asleep or was woken before that.
+fn said_at_last(channels: &mut Channels, alloc: Global, call: Call) -> Option<Seen> {
+    let asleep = channels.asleep();
+    match said(channels, alloc, call) {
+        Seen::NoMemory if channels.asleep() != asleep => None,
+        Seen::NoMemory => Some(said(channels, alloc, call)),
+        seen => Some(seen),
+    }
 }
 
 /// An item of one number.

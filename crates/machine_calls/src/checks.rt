@@ -33,6 +33,17 @@ impl Checks {
     }
 }
 
+/// Whether a check was refused memory, and has to be made again.
+pub fn is_refused(found: &Result<bool, Fault>) -> bool {
+    matches!(found, Err(Fault::Memory))
+}
+
+/// Makes those calls of channels and goroutines that can be refused memory. A call that is refused is made again.
+pub fn make_refused_calls(alloc: Global, checks: &mut Checks) -> Result<(), Memory> {
+    requests::check_refused(alloc, checks)?;
+    channels::check(alloc, checks)
+}
+
 /// Makes all calls of this crate, and takes down the names of the checks that fail.
 pub fn make_calls(alloc: Global, checks: &mut Checks) -> Result<(), Memory> {
     rules::check(alloc, checks)?;

@@ -11,4 +11,4 @@ pub mod requests;
 mod rules;
 mod schedules;
 
-pub use checks::{Checks, make_calls};
+pub use checks::{Checks, is_refused, make_calls, make_refused_calls};

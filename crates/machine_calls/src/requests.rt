@@ -3,7 +3,7 @@
 ghost use Rattle.std.specs.Prelude.{◌≤◌, ◌^◌, IfOk};
 ghost use Rattle.goroutine_vm.specs.Advance.{IsStateOf};
 
-use crate::checks::Checks;
+use crate::checks::{Checks, is_refused};
 use crate::made::main_program;
 use bytecode::Instr;
 use bytecode::Instr::*;
@@ -31,6 +31,17 @@ pub fn main_state(alloc: Global, program: &Verified, limit: u64) -> Result<GoSta
     }
 }
 
+/// Makes local steps up to the next request. The call is made again if it is refused memory.
+fn advanced(alloc: Global, program: &Verified, state: &mut GoState) -> Result<Stop, Memory>
+    requires { IsStateOf program.now LAST state.old }
+    ensures { IsStateOf program.now LAST state.new }
+{
+    match state.advance(alloc, program, LAST, 10_000) {
+        Ok(stop) => Ok(stop),
+        Err(Memory) => state.advance(alloc, program, LAST, 10_000),
+    }
+}
+
 /// The request to which a goroutine comes next.
 fn next_request(
     alloc: Global,
@@ -40,7 +51,7 @@ fn next_request(
     requires { IsStateOf program.now LAST state.old }
     ensures { IsStateOf program.now LAST state.new }
 {
-    match state.advance(alloc, program, LAST, 10_000)? {
+    match advanced(alloc, program, state)? {
         Stop::AtOp(request) => Ok(Some(request)),
         Stop::Quantum => Ok(None),
     }
@@ -284,6 +295,27 @@ fn ends(alloc: Global, program: &Verified, state: &mut GoState) -> Result<bool, 
 {
     let goes = goes_on(alloc, program, state, 2)?;
     Ok(goes && is_exhausted(alloc, program, state, 3)?)
+}
+
+/// Whether goroutines make these requests, also if a call is refused memory and made again.
+pub(crate) fn check_refused(alloc: Global, checks: &mut Checks) -> Result<(), Memory> {
+    for (instrs, name, time) in &ASKED {
+        let mut asks = asks_first(alloc, instrs, name, *time);
+        if is_refused(&asks) {
+            asks = asks_first(alloc, instrs, name, *time);
+        }
+        checks.see(name, asks)?;
+    }
+    check_select(alloc, checks)
+}
+
+/// Whether a goroutine goes on after its select, also if a call is refused memory and made again.
+fn check_select(alloc: Global, checks: &mut Checks) -> Result<(), Memory> {
+    let mut sent = prints_after(alloc, &SELECT, Reply::Clause(2, None), "1\n");
+    if is_refused(&sent) {
+        sent = prints_after(alloc, &SELECT, Reply::Clause(2, None), "1\n");
+    }
+    checks.see("a select has sent", sent)
 }
 
 /// Whether goroutines ask, print and go on so.

@@ -161,6 +161,55 @@ const FOOLISH: [Step; 7] = [
     Step::Settle,
 ];
 
+/// Steps of goroutines that there are none of.
+fn of_nobody(steps: &mut Vec<Step>) -> Result<(), AllocError> {
+    for number in [0, u64::MAX] {
+        for step in [
+            Step::Lend(number),
+            Step::Local(number),
+            Step::Publish(number),
+            Step::Look(number),
+            Step::Return(number),
+        ] {
+            steps.push(step)?;
+        }
+    }
+    Ok(())
+}
+
+/// Steps that nobody can make after this one: a second Lend, and what only a goroutine that is lent can do, after its Return.
+fn of_the_wrong_state(steps: &mut Vec<Step>, after: Step) -> Result<(), AllocError> {
+    match after {
+        Step::Lend(number) => steps.push(Step::Lend(number))?,
+        Step::Return(number) => {
+            steps.push(Step::Return(number))?;
+            steps.push(Step::Local(number))?;
+            steps.push(Step::Publish(number))?;
+        }
+        _ => {}
+    }
+    Ok(())
+}
+
+/// A schedule with steps that nobody can make after each of its own.
+fn with_foolish_steps(alloc: Global, steps: &[Step]) -> Result<Vec<Step>, AllocError> {
+    let mut all = Vec::new(alloc);
+    for step in steps {
+        all.push(*step)?;
+        of_the_wrong_state(&mut all, *step)?;
+        of_nobody(&mut all)?;
+    }
+    Ok(all)
+}
+
+/// Whether goroutines that hand over an item do so, whatever steps that nobody can make stand between theirs, and after the end.
+fn hands_over_among_foolish_steps(alloc: Global) -> Result<bool, Fault> {
+    let steps = rounds(alloc, 2, 9)?;
+    let steps = with_foolish_steps(alloc, &steps)?;
+    let end = Some(End::Finished);
+    leads(alloc, &HANDS_OVER, &steps, &HANDED_OVER, "7\n", end)
+}
+
 /// Whether goroutines that hand over an item do so.
 fn hands_over(alloc: Global) -> Result<bool, Fault> {
     let steps = rounds(alloc, 2, 9)?;
@@ -221,6 +270,10 @@ pub(crate) fn check(alloc: Global, checks: &mut Checks) -> Result<(), Memory> {
     )?;
     let nothing = leads(alloc, &HANDS_OVER, &FOOLISH, &[], "", None);
     checks.see("foolish steps change nothing", nothing)?;
+    checks.see(
+        "foolish steps between others change nothing",
+        hands_over_among_foolish_steps(alloc),
+    )?;
     checks.see(
         "a state is lent and taken back",
         state_is_lent_and_taken_back(alloc),

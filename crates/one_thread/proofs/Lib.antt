@@ -3,4 +3,4 @@ pub mod Moves
 pub mod Orderly
 pub mod Standing
 pub mod Within
-pub mod Least
+pub mod Keyed

@@ -1,10 +1,10 @@
 -- One place changes.
-use Rattle.std.proofs.Common.{◌≡◌, ℕ, suc, zero, ◌<◌, ◌≤◌, Bool, true, false, cond, List, [], ◌∷◌, ◌++◌, length, take, drop, Option, Some, None, refl, sym, ap, ◌∙◌, subst, arith, inl, inr, get_or-set_same, get_or-set_other}
+use Rattle.std.proofs.Common.{◌≡◌, ℕ, suc, zero, ◌<◌, ◌≤◌, Bool, true, false, cond, List, [], ◌∷◌, ◌++◌, length, Option, Some, None, refl, sym, ap, ◌∙◌, subst, arith, inl, inr, get_or-set_same, get_or-set_other}
 use Rattle.std.specs.Prelude.{slice_index_or, slice_set, Result, Ok, Err, IfOk, OnOk}
 use Rattle.std.proofs.lemmas.Bool.{cases_eq, cases_lt}
-use Rattle.std.proofs.lemmas.List.{map-set, get_or_past, length-map, take-append-le}
+use Rattle.std.proofs.lemmas.List.{map-set, get_or_past}
 use Rattle.std.proofs.lemmas.List.Elements.{All-set}
-use Rattle.std.proofs.Math.Seq.{map-set_same, set_out, take-length}
+use Rattle.std.proofs.Math.Seq.{map-set_same}
 use Rattle.turn_rule.specs.Turns.{World, move_at, move_on}
 use Rattle.word.specs.Values.{Reply}
 use Rattle.word.specs.Kinds.{Clocked, GoroutineKind, told}
@@ -32,17 +32,6 @@ set_twice : {A : Type 0} (xs : List A) (n : ℕ) (x y : A) → slice_set (slice_
 set_twice [] n x y = refl
 set_twice (z ∷ zs) zero x y = refl
 set_twice (z ∷ zs) (suc n) x y = ap (λ ws. z ∷ ws) (set_twice zs n x y)
-
--- what stands at a place is written there
-set_here : {A : Type 0} (xs : List A) (n : ℕ) (d : A) → slice_set xs n (slice_index_or xs n d) ≡ xs
-set_here [] n d = refl
-set_here (x ∷ xs) zero d = refl
-set_here (x ∷ xs) (suc n) d = ap (λ ws. x ∷ ws) (set_here xs n d)
-
-pub read_as : {A : Type 0} (xs : List A) (n : ℕ) (x d y : A) → n < length xs → slice_index_or xs n x ≡ y → slice_index_or xs n d ≡ y
-read_as [] n x d y lt is = absurd (omega (arith, lt))
-read_as (z ∷ zs) zero x d y lt is = is
-read_as (z ∷ zs) (suc n) x d y lt is = read_as zs n x d y (omega (arith, lt)) is
 
 module _ {S H : Type 0} (held : S → H) where
   pub awake_is : (g : Goroutine S) → g.asleep ≡ false → awake_of held (Some g) ≡ Some (clocked held g)
@@ -75,20 +64,6 @@ module _ {S H : Type 0} (held : S → H) where
       go false e' = refl
 
 module _ {S : Type 0} (K : GoroutineKind) (held : S → K.State) (limit : ℕ) where
-  pub nobody : (old : List (Option (Goroutine S))) (n : ℕ) → here (awake_of held) old n ≡ None → AdvancesAt K held limit turns.Stepped old n old
-  nobody old n none = ((λ w. ap (move_at (rules K limit) (record { awake = awake_in held old; shared = w }) n) none), λ k. refl)
-
-  -- nobody is there, or who is there is asleep
-  pub nobody_stays : (old : List (Option (Goroutine S))) (n : ℕ) (r : Option (Goroutine S)) → n < length old → r ≡ slice_index_or old n r → r ≡ None → AdvancesAt K held limit turns.Stepped old n (slice_set old n (slice_index_or old n r))
-  nobody_stays old n r lt is none =
-      let at : slice_index_or old n None ≡ None = read_at old n r None lt is ∙ none in
-      subst (λ (ws : List (Option (Goroutine S))). AdvancesAt K held limit turns.Stepped old n ws) (sym (set_here old n r)) (nobody old n (ap (awake_of held) at))
-
-  pub asleep_stays : (old : List (Option (Goroutine S))) (n : ℕ) (g : Goroutine S) → slice_index_or old n None ≡ Some g → g.asleep ≡ true → AdvancesAt K held limit turns.Stepped old n (slice_set old n (Some g))
-  asleep_stays old n g at down =
-      let same : slice_set old n (Some g) ≡ old = ap (slice_set old n) (sym at) ∙ set_here old n None in
-      subst (λ (ws : List (Option (Goroutine S))). AdvancesAt K held limit turns.Stepped old n ws) (sym same) (nobody old n (ap (awake_of held) at ∙ ap (λ b. cond b None (Some (clocked held g))) down))
-
   pub turned : (old : List (Option (Goroutine S))) (n : ℕ) (g h : Goroutine S) (turn : Turn) → slice_index_or old n None ≡ Some g → n < length old → g.asleep ≡ false → h.asleep ≡ g.asleep → Advances K limit turn (clocked held g) (clocked held h) → AdvancesAt K held limit turn old n (slice_set old n (Some h))
   turned old n g h turns.Stepped at lt up same step =
       let there : here (awake_of held) old n ≡ Some (clocked held g) = ap (awake_of held) at ∙ awake_is held g up in
@@ -153,10 +128,10 @@ module _ {S : Type 0} (K : GoroutineKind) (held : S → K.State) where
   pub none_woken : (old : List (Option (Goroutine S))) (n : ℕ) (clock : ℕ) (reply : Reply) → bed_at held old n ≡ None → n < length old → Sets held old (slice_set old n None) n (woken_to K clock reply (bed_at held old n)) None
   none_woken old n clock reply none lt = sets held old n None (woken_to K clock reply (bed_at held old n)) None lt (sym (ap (woken_to K clock reply) none)) refl
 
-  pub none_stays : (old : List (Option (Goroutine S))) (n : ℕ) (r : Option (Goroutine S)) (clock : ℕ) (reply : Reply) → n < length old → r ≡ slice_index_or old n r → r ≡ None → Sets held old (slice_set old n (slice_index_or old n r)) n (woken_to K clock reply (bed_at held old n)) None
+  pub none_stays : (old : List (Option (Goroutine S))) (n : ℕ) (r : Option (Goroutine S)) (clock : ℕ) (reply : Reply) → n < length old → r ≡ slice_index_or old n r → r ≡ None → Sets held old (slice_set old n r) n (woken_to K clock reply (bed_at held old n)) None
   none_stays old n r clock reply lt is none =
       let at : slice_index_or old n None ≡ None = read_at old n r None lt is ∙ none in
-      subst (λ (x : Option (Goroutine S)). Sets held old (slice_set old n x) n (woken_to K clock reply (bed_at held old n)) None) (sym none ∙ is)
+      subst (λ (x : Option (Goroutine S)). Sets held old (slice_set old n x) n (woken_to K clock reply (bed_at held old n)) None) (sym none)
       (none_woken old n clock reply (ap (bed_of held) at) lt)
 
   pub awake_woken : (old : List (Option (Goroutine S))) (n : ℕ) (g : Goroutine S) (clock : ℕ) (reply : Reply) → n < length old → slice_index_or old n None ≡ Some g → g.asleep ≡ false → Sets held old (slice_set (slice_set old n (Some g)) n None) n (woken_to K clock reply (bed_at held old n)) None
@@ -168,15 +143,6 @@ module _ {S : Type 0} (K : GoroutineKind) (held : S → K.State) where
   pub wakes_more : (clock : ℕ) (ws : List (ℕ × Reply)) (w : ℕ × Reply) (old mid new : List (Option (Goroutine S))) → Wakes K held clock old ws mid → Sets held mid new w.0 (woken_to K clock w.1 (bed_at held mid w.0)) None → Wakes K held clock old (ws ++ w ∷ []) new
   wakes_more clock [] w old mid new is set = (new, subst (λ (x : List (Option (Goroutine S))). Sets held x new w.0 (woken_to K clock w.1 (bed_at held x w.0)) None) is set, refl)
   wakes_more clock (v ∷ vs) w old mid new h set = (h.0, h.1, wakes_more clock vs w h.0 mid new h.2 set)
-
-  pub none_beyond : (old : List (Option (Goroutine S))) (n : ℕ) (clock : ℕ) (reply : Reply) → length old ≤ n → Sets held old old n (woken_to K clock reply (bed_at held old n)) None
-  none_beyond old n clock reply le =
-      let none : bed_at held old n ≡ None = ap (bed_of held) (get_or_past old n None le) in
-      record {
-        awake = sym (set_out (awake_in held old) n (woken_to K clock reply (bed_at held old n)) (rw length-map le));
-        bed = none;
-        others = λ k ne. refl;
-      }
 
 module _ {S H : Type 0} (held : S → H) where
   -- the awake goroutine at a place falls asleep
@@ -210,7 +176,3 @@ module _ {S H : Type 0} (held : S → H) where
 
   pub ended_by : (old : List (Option (Goroutine S))) (n : ℕ) (new : List (Option (Goroutine S))) (s : Clocked H) → new ≡ slice_set old n None → here (awake_of held) old n ≡ Some s → Sets held old new n None None
   ended_by old n new s is up = subst (λ (x : List (Option (Goroutine S))). Sets held old x n None None) (sym is) (ended old n (within old n s up))
-
--- a slice of a whole list, written back
-pub written_back : {A : Type 0} (len : ℕ) (old new : List A) → len ≡ length old → length new ≡ length old → take len (new ++ drop (length new) old) ≡ new
-written_back len old new a b = ap (λ (n : ℕ). take n (new ++ drop (length new) old)) (a ∙ sym b) ∙ take-append-le (length new) new (drop (length new) old) (omega arith) ∙ take-length new

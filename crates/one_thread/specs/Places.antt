@@ -1,6 +1,7 @@
 -- Goroutines in memory, goroutine n at place n, and what changes of them.
-use Rattle.std.specs.Prelude.{◌≡◌, ◌≢◌, ◌≤◌, ℕ, ◌+◌, true, cond, List, [], ◌∷◌, map, Option, Some, None, option_map, slice_index_or, slice_set}
+use Rattle.std.specs.Prelude.{◌≡◌, ◌≢◌, ◌≤◌, ℕ, ◌+◌, true, cond, List, [], ◌∷◌, length, map, Option, Some, None, option_map, slice_index_or, slice_set}
 use Rattle.std.specs.List.{All}
+use Rattle.logical_clock.specs.declared.key.Key.{Key}
 use Rattle.turn_rule.specs.Turns.{move_at}
 use Rattle.word.specs.Values.{Reply, Exhausted}
 use Rattle.word.specs.Kinds.{Clocked, GoroutineKind, asks, local, told}
@@ -14,6 +15,15 @@ use Rattle.one_thread.specs.declared.goroutine.Turn.TheVariants as turns
 abbrev pub clock_of : {S : Type 0} → Option (Goroutine S) → Option ℕ
 clock_of None = None
 clock_of (Some g) = cond g.asleep None (Some g.clock)
+
+-- the key of the goroutine at place n, if it is awake
+abbrev pub key_of : {S : Type 0} → ℕ → Option (Goroutine S) → Option Key
+key_of n place = option_map (λ (c : ℕ). record { clock = c; number = n }) (clock_of place)
+
+-- slot n has the key of the goroutine at place n, if it is awake
+pub record AreKeyed {S : Type 0} (places : List (Option (Goroutine S))) (slots : List (Option Key)) : Type 0 where
+  pub size : length slots ≡ length places
+  pub keys : (n : ℕ) → slice_index_or slots n None ≡ key_of n (slice_index_or places n None)
 
 -- no clock is beyond the limit
 abbrev pub IsWithin : {S : Type 0} → ℕ → Option (Goroutine S) → Type 0

@@ -7,7 +7,6 @@ ghost use Rattle.whole_run.specs.Runs.{IsWhole};
 
 use crate::goroutine::Goroutine;
 use crate::interpreter::Interpreter;
-use crate::places::least;
 use crate::running::{one_move, opening};
 use go_text::Fault;
 use logical_clock::Key;
@@ -45,11 +44,11 @@ pub fn last_moment<P: Interpreter, W: Write>(
     let mut goroutines = opening(alloc, program)?;
     let mut shared = Shared::new(alloc)?;
     for _ in 0..most {
-        let Some(turn) = least(goroutines.as_slice()) else {
-            return Ok(Some(deserted(goroutines)));
+        let Some(turn) = goroutines.least() else {
+            return Ok(Some(deserted(goroutines.into_all())));
         };
         if let Some(end) = one_move(alloc, program, &mut goroutines, &mut shared, limit, output)? {
-            return Ok(Some(stopped(end, turn, goroutines)));
+            return Ok(Some(stopped(end, turn, goroutines.into_all())));
         }
     }
     Ok(None)

@@ -1,46 +1,155 @@
 //! All goroutines, goroutine n at place n.
 
-ghost use Rattle.std.specs.Prelude.{◌≡◌, ℕ, ◌^◌, ◌≤◌, None, OnOk, Some, IfOk, slice_set};
+ghost use Rattle.std.specs.Prelude.{◌≡◌, ℕ, ◌^◌, ◌≤◌, ◌∷◌, ◌++◌, [], None, OnOk, Some, IfOk, slice_set};
 ghost use Rattle.logical_clock.specs.Order.{keys, least};
 ghost use Rattle.word.specs.Kinds.{Clocked, told};
 ghost use Rattle.word.specs.Related.{kind_of};
 ghost use Rattle.word.specs.Views.{reply_of};
-ghost use Rattle.one_thread.specs.Places.{AdvancesAt, AreWithin, IsLaid, IsSoon, Sets, Wakes, awake_of, bed_at, clock_of, here, woken_to};
+ghost use Rattle.one_thread.specs.Places.{AdvancesAt, AreWithin, IsLaid, IsSoon, Sets, Wakes, awake_of, bed_at, clock_of, here, key_of, woken_to};
 
 use crate::goroutine::{Goroutine, Turn, advance, tell};
 use crate::interpreter::Interpreter;
 use go_text::Memory;
-use logical_clock::{Clock, Key, sooner};
+use key_index::KeyIndex;
+use logical_clock::{Clock, Key};
 use reference_world::Woken;
 use std::alloc::Global;
+use std::marker::{Brand, Model};
+use std::sync::ledger::{Blank, Ledger};
+use steps::Steps;
 use word::request::Reply;
 
-/// The awake goroutine of least key.
-pub(crate) fn least<S: Drop>(places: &[Option<Goroutine<S>>]) -> Option<Key>
-    ensures { result ≡ least (keys clock_of 0 places.now) }
-{
-    let mut best: Option<Key> = None;
-    for place in (0..places.len()).rev() {
-        if let Some(goroutine) = &places[place] {
-            if !goroutine.asleep {
-                best = Some(sooner(
-                    Key {
-                        clock: goroutine.clock,
-                        number: place as u64,
-                    },
-                    best,
-                ));
-            }
+/// All goroutines, goroutine n at place n; nobody is at place 0. The keys of those that are awake stand in a heap, so the least one
+/// is found without a walk.
+pub(crate) struct Places<S: Drop> {
+    all: Vec<Option<Goroutine<S>>>,
+    /// Slot n has the key of goroutine n, if it is awake.
+    keys: KeyIndex,
+}
+
+impl<S: Drop> Drop for Places<S> {
+    fn drop(self) {
+        let Places { all, keys } = self;
+        drop(all);
+        drop(keys);
+    }
+}
+
+impl<S: Drop> Model for Places<S> {
+    ghost use Rattle.std.specs.Prelude.{List, Option};
+    ghost use Rattle.one_thread.specs.declared.goroutine.Goroutine.{Goroutine as One};
+    ghost use Rattle.one_thread.specs.Places.{AreKeyed};
+
+    ghost Value = { List (Option (One S)) };
+
+    ghost view = { λ p. p.all.items };
+
+    ghost invariant = { λ p. AreKeyed p.all.items p.keys };
+}
+
+impl<S: Drop> Places<S> {
+    /// No goroutines.
+    pub(crate) fn new(alloc: Global) -> Result<Places<S>, Memory>
+        ensures { IfOk result (λ places. places ≡ None ∷ []) }
+    {
+        let mut all = Vec::new(alloc);
+        all.push(None)?;
+        let keys = KeyIndex::new(alloc, 1)?;
+        Ok(Places { all, keys })
+    }
+
+    /// One goroutine more.
+    pub(crate) fn start(&mut self, goroutine: Goroutine<S>) -> Result<(), Memory>
+        ensures { OnOk result (self.new ≡ self.old ++ Some goroutine ∷ []) }
+    {
+        self.all.reserve(1)?;
+        self.keys.push()?;
+        let place = self.all.len();
+        note(&mut self.keys, place, key_of(&goroutine, place));
+        self.all.push_reserved(Some(goroutine));
+        Ok(())
+    }
+
+    /// All goroutines, without their keys.
+    pub(crate) fn into_all(self) -> Vec<Option<Goroutine<S>>>
+        ensures { result.items ≡ self }
+    {
+        let Places { all, keys } = self;
+        drop(keys);
+        all
+    }
+
+    /// The least key of those that are awake.
+    pub(crate) fn least(&self) -> Option<Key>
+        ensures { result ≡ least (keys clock_of 0 self.now) }
+    {
+        let (_, key) = self.keys.least()?;
+        Some(key)
+    }
+
+    /// The awake goroutine at this place falls asleep.
+    pub(crate) fn lay(&mut self, place: usize)
+        ensures within { (limit : ℕ) → AreWithin limit self.old → AreWithin limit self.new }
+        ensures laid { IsLaid self.old place self.new }
+    {
+        if place >= self.all.len() {
+            return;
+        }
+        let Some(goroutine) = &mut self.all[place] else {
+            return;
+        };
+        goroutine.asleep = true;
+        note(&mut self.keys, place, None);
+    }
+
+    /// The awake goroutine at this place has ended.
+    pub(crate) fn end(&mut self, place: usize)
+        ensures within { (limit : ℕ) → AreWithin limit self.old → AreWithin limit self.new }
+        ensures ended { self.new ≡ slice_set self.old place None }
+    {
+        if place < self.all.len() {
+            self.all[place] = None;
+            note(&mut self.keys, place, None);
         }
     }
-    best
+}
+
+/// The key of this goroutine, which is at this place, if it is awake.
+fn key_of<S: Drop>(goroutine: &Goroutine<S>, place: usize) -> Option<Key>
+    ensures { result ≡ key_of place (Some goroutine.now) }
+{
+    if goroutine.asleep {
+        return None;
+    }
+    Some(Key {
+        clock: goroutine.clock,
+        number: place as u64,
+    })
+}
+
+/// The goroutine at this place has this key now, or none.
+fn note(keys: &mut KeyIndex, place: usize, key: Option<Key>)
+    ensures { keys.new ≡ slice_set keys.old place key }
+{
+    note_counted::<Brand>(keys, place, key, Blank::new(1));
+}
+
+/// Like `note`, but it counts its steps, which costs nothing.
+fn note_counted<L: Ledger>(keys: &mut KeyIndex, place: usize, key: Option<Key>, blank: Blank)
+    requires name { blank.name ≡ L.name }
+    requires parts { blank.parts ≡ L.parts }
+    requires one { blank.parts ≡ 1 }
+    ensures { keys.new ≡ slice_set keys.old place key }
+{
+    let mut steps = Steps::<L>::new(blank);
+    keys.set(place, key, &mut steps);
 }
 
 /// The goroutine at this place has its turn, if it is awake.
 pub(crate) fn advance_at<P: Interpreter>(
     program: &P,
     alloc: Global,
-    places: &mut [Option<Goroutine<P::State>>],
+    places: &mut Places<P::State>,
     place: usize,
     limit: u64,
 ) -> Result<Turn, Memory>
@@ -50,23 +159,25 @@ pub(crate) fn advance_at<P: Interpreter>(
     ensures soon { IfOk result (IsSoon limit) }
     ensures turn { IfOk result (λ turn. AdvancesAt (kind_of (P.parts program.now)) (P.held program.now) limit turn places.old place places.new) }
 {
-    if place >= places.len() {
+    if place >= places.all.len() {
         return Ok(Turn::Stepped);
     }
-    let Some(goroutine) = &mut places[place] else {
+    let Some(goroutine) = &mut places.all[place] else {
         return Ok(Turn::Stepped);
     };
     if goroutine.asleep {
         return Ok(Turn::Stepped);
     }
-    advance(program, alloc, goroutine, limit)
+    let turn = advance(program, alloc, goroutine, limit);
+    note(&mut places.keys, place, key_of(goroutine, place));
+    turn
 }
 
 /// The awake goroutine at this place goes on at this clock, and is told this.
 pub(crate) fn tell_at<P: Interpreter>(
     program: &P,
     alloc: Global,
-    places: &mut [Option<Goroutine<P::State>>],
+    places: &mut Places<P::State>,
     place: usize,
     clock: Clock,
     reply: Reply,
@@ -74,20 +185,22 @@ pub(crate) fn tell_at<P: Interpreter>(
     ensures within { OnOk result ((limit : ℕ) → clock ≤ limit → AreWithin limit places.old → AreWithin limit places.new) }
     ensures told { OnOk result ((s : Clocked P.Held) → here (awake_of (P.held program.now)) places.old place ≡ Some s → Sets (P.held program.now) places.old places.new place (Some (told (kind_of (P.parts program.now)) s clock (reply_of reply))) None) }
 {
-    if place >= places.len() {
+    if place >= places.all.len() {
         return Ok(());
     }
-    let Some(goroutine) = &mut places[place] else {
+    let Some(goroutine) = &mut places.all[place] else {
         return Ok(());
     };
-    tell(program, alloc, goroutine, clock, reply)
+    let told = tell(program, alloc, goroutine, clock, reply);
+    note(&mut places.keys, place, key_of(goroutine, place));
+    told
 }
 
 /// The sleeping goroutine at this place is woken, told this, and goes on at this clock.
 fn wake_at<P: Interpreter>(
     program: &P,
     alloc: Global,
-    places: &mut [Option<Goroutine<P::State>>],
+    places: &mut Places<P::State>,
     place: usize,
     clock: Clock,
     reply: Reply,
@@ -95,24 +208,27 @@ fn wake_at<P: Interpreter>(
     ensures within { OnOk result ((limit : ℕ) → clock ≤ limit → AreWithin limit places.old → AreWithin limit places.new) }
     ensures woken { OnOk result (Sets (P.held program.now) places.old places.new place (woken_to (kind_of (P.parts program.now)) clock (reply_of reply) (bed_at (P.held program.now) places.old place)) None) }
 {
-    if place >= places.len() {
+    if place >= places.all.len() {
         return Ok(());
     }
-    let Some(goroutine) = &mut places[place] else {
+    let Some(goroutine) = &mut places.all[place] else {
         return Ok(());
     };
-    if !goroutine.asleep {
-        places[place] = None;
-        return Ok(());
+    if goroutine.asleep {
+        let told = tell(program, alloc, goroutine, clock, reply);
+        note(&mut places.keys, place, key_of(goroutine, place));
+        return told;
     }
-    tell(program, alloc, goroutine, clock, reply)
+    places.all[place] = None;
+    note(&mut places.keys, place, None);
+    Ok(())
 }
 
 /// Those who were asleep are woken, in this order, and go on at this clock.
 pub(crate) fn wake_all<P: Interpreter>(
     program: &P,
     alloc: Global,
-    places: &mut [Option<Goroutine<P::State>>],
+    places: &mut Places<P::State>,
     clock: Clock,
     woken: Vec<Woken>,
 ) -> Result<(), Memory>
@@ -130,29 +246,4 @@ pub(crate) fn wake_all<P: Interpreter>(
         )?;
     }
     Ok(())
-}
-
-/// The awake goroutine at this place falls asleep.
-#[tactic(auto, using(crate::proofs::Standing::laid, crate::proofs::Standing::beyond))]
-pub(crate) fn lay<S: Drop>(places: &mut [Option<Goroutine<S>>], place: usize)
-    ensures within { (limit : ℕ) → AreWithin limit places.old → AreWithin limit places.new }
-    ensures laid { IsLaid places.old place places.new }
-{
-    if place >= places.len() {
-        return;
-    }
-    let Some(goroutine) = &mut places[place] else {
-        return;
-    };
-    goroutine.asleep = true;
-}
-
-/// The awake goroutine at this place has ended.
-pub(crate) fn end<S: Drop>(places: &mut [Option<Goroutine<S>>], place: usize)
-    ensures within { (limit : ℕ) → AreWithin limit places.old → AreWithin limit places.new }
-    ensures ended { places.new ≡ slice_set places.old place None }
-{
-    if place < places.len() {
-        places[place] = None;
-    }
 }

@@ -12,7 +12,7 @@ ghost use Rattle.whole_run.specs.Runs.{BeginsOutput, IsLimit, IsWhole};
 
 use crate::goroutine::{Goroutine, Turn};
 use crate::interpreter::Interpreter;
-use crate::places::{advance_at, end, lay, least, tell_at, wake_all};
+use crate::places::{Places, advance_at, tell_at, wake_all};
 use go_text::{Fault, Memory};
 use logical_clock::{Clock, Key};
 use reference_world::{Deed, Shared};
@@ -72,19 +72,18 @@ fn run_below<P: Interpreter, W: Write>(
 pub(crate) fn opening<P: Interpreter>(
     alloc: Global,
     program: &P,
-) -> Result<Vec<Option<Goroutine<P::State>>>, Memory>
-    ensures within { (limit : ℕ) → IfOk result (λ places. AreWithin limit places.items) }
-    ensures open { IfOk result (λ places. IsOpen (kind_of (P.parts program.now)) (P.held program.now) places.items) }
+) -> Result<Places<P::State>, Memory>
+    ensures within { (limit : ℕ) → IfOk result (AreWithin limit) }
+    ensures open { IfOk result (IsOpen (kind_of (P.parts program.now)) (P.held program.now)) }
 {
     let state = program.begin(alloc, program.main(), [].as_slice())?;
-    let mut places = Vec::new(alloc);
-    places.push(None)?;
-    places.push(Some(Goroutine {
+    let mut places = Places::new(alloc)?;
+    places.start(Goroutine {
         clock: Clock::START,
         doomed: false,
         asleep: false,
         state,
-    }))?;
+    })?;
     Ok(places)
 }
 
@@ -92,17 +91,17 @@ pub(crate) fn opening<P: Interpreter>(
 fn most_moves<P: Interpreter, W: Write>(
     alloc: Global,
     program: &P,
-    places: &mut Vec<Option<Goroutine<P::State>>>,
+    places: &mut Places<P::State>,
     shared: &mut Shared,
     limit: u64,
     output: &mut W,
 ) -> Result<Option<End>, Fault>
     requires going { shared.old.ending ≡ None }
-    requires within { AreWithin limit places.old.items }
+    requires within { AreWithin limit places.old }
     requires limit { limit ≤ 2 ^ 62 }
-    ensures within { OnOk result (AreWithin limit places.new.items) }
-    ensures goes { IfOk result (λ ending. (known : Option (List ℕ)) → Stands (kind_of (P.parts program.now)) (P.held program.now) limit known (W.contents output.old) places.old.items shared.old → Goes (kind_of (P.parts program.now)) (P.held program.now) limit known (W.contents output.new) places.new.items shared.new ending) }
-    ensures begins { (known : Option (List ℕ)) → Stands (kind_of (P.parts program.now)) (P.held program.now) limit known (W.contents output.old) places.old.items shared.old → BeginsOutput (kind_of (P.parts program.now)) limit known (W.contents output.new) }
+    ensures within { OnOk result (AreWithin limit places.new) }
+    ensures goes { IfOk result (λ ending. (known : Option (List ℕ)) → Stands (kind_of (P.parts program.now)) (P.held program.now) limit known (W.contents output.old) places.old shared.old → Goes (kind_of (P.parts program.now)) (P.held program.now) limit known (W.contents output.new) places.new shared.new ending) }
+    ensures begins { (known : Option (List ℕ)) → Stands (kind_of (P.parts program.now)) (P.held program.now) limit known (W.contents output.old) places.old shared.old → BeginsOutput (kind_of (P.parts program.now)) limit known (W.contents output.new) }
     ensures going { IfOk result (λ ending. ending ≡ None → shared.new.ending ≡ None) }
     ensures write { IsErrOf result Fault.Write → W.has_failed output.new ≡ true }
     ensures only { IfErr result (λ fault. (fault ≡ Fault.Memory) ⊎ (fault ≡ Fault.Write)) }
@@ -119,17 +118,17 @@ fn most_moves<P: Interpreter, W: Write>(
 fn moves<P: Interpreter, W: Write>(
     alloc: Global,
     program: &P,
-    places: &mut Vec<Option<Goroutine<P::State>>>,
+    places: &mut Places<P::State>,
     shared: &mut Shared,
     limit: u64,
     output: &mut W,
 ) -> Result<Option<End>, Fault>
     requires going { shared.old.ending ≡ None }
-    requires within { AreWithin limit places.old.items }
+    requires within { AreWithin limit places.old }
     requires limit { limit ≤ 2 ^ 62 }
-    ensures within { OnOk result (AreWithin limit places.new.items) }
-    ensures goes { IfOk result (λ ending. (known : Option (List ℕ)) → Stands (kind_of (P.parts program.now)) (P.held program.now) limit known (W.contents output.old) places.old.items shared.old → Goes (kind_of (P.parts program.now)) (P.held program.now) limit known (W.contents output.new) places.new.items shared.new ending) }
-    ensures begins { (known : Option (List ℕ)) → Stands (kind_of (P.parts program.now)) (P.held program.now) limit known (W.contents output.old) places.old.items shared.old → BeginsOutput (kind_of (P.parts program.now)) limit known (W.contents output.new) }
+    ensures within { OnOk result (AreWithin limit places.new) }
+    ensures goes { IfOk result (λ ending. (known : Option (List ℕ)) → Stands (kind_of (P.parts program.now)) (P.held program.now) limit known (W.contents output.old) places.old shared.old → Goes (kind_of (P.parts program.now)) (P.held program.now) limit known (W.contents output.new) places.new shared.new ending) }
+    ensures begins { (known : Option (List ℕ)) → Stands (kind_of (P.parts program.now)) (P.held program.now) limit known (W.contents output.old) places.old shared.old → BeginsOutput (kind_of (P.parts program.now)) limit known (W.contents output.new) }
     ensures going { IfOk result (λ ending. ending ≡ None → shared.new.ending ≡ None) }
     ensures write { IsErrOf result Fault.Write → W.has_failed output.new ≡ true }
     ensures only { IfErr result (λ fault. (fault ≡ Fault.Memory) ⊎ (fault ≡ Fault.Write)) }
@@ -146,26 +145,26 @@ fn moves<P: Interpreter, W: Write>(
 pub(crate) fn one_move<P: Interpreter, W: Write>(
     alloc: Global,
     program: &P,
-    places: &mut Vec<Option<Goroutine<P::State>>>,
+    places: &mut Places<P::State>,
     shared: &mut Shared,
     limit: u64,
     output: &mut W,
 ) -> Result<Option<End>, Fault>
     requires going { shared.old.ending ≡ None }
-    requires within { AreWithin limit places.old.items }
+    requires within { AreWithin limit places.old }
     requires limit { limit ≤ 2 ^ 62 }
-    ensures within { OnOk result (AreWithin limit places.new.items) }
-    ensures goes { IfOk result (λ ending. (known : Option (List ℕ)) → Stands (kind_of (P.parts program.now)) (P.held program.now) limit known (W.contents output.old) places.old.items shared.old → Goes (kind_of (P.parts program.now)) (P.held program.now) limit known (W.contents output.new) places.new.items shared.new ending) }
-    ensures begins { (known : Option (List ℕ)) → Stands (kind_of (P.parts program.now)) (P.held program.now) limit known (W.contents output.old) places.old.items shared.old → BeginsOutput (kind_of (P.parts program.now)) limit known (W.contents output.new) }
+    ensures within { OnOk result (AreWithin limit places.new) }
+    ensures goes { IfOk result (λ ending. (known : Option (List ℕ)) → Stands (kind_of (P.parts program.now)) (P.held program.now) limit known (W.contents output.old) places.old shared.old → Goes (kind_of (P.parts program.now)) (P.held program.now) limit known (W.contents output.new) places.new shared.new ending) }
+    ensures begins { (known : Option (List ℕ)) → Stands (kind_of (P.parts program.now)) (P.held program.now) limit known (W.contents output.old) places.old shared.old → BeginsOutput (kind_of (P.parts program.now)) limit known (W.contents output.new) }
     ensures going { IfOk result (λ ending. ending ≡ None → shared.new.ending ≡ None) }
     ensures write { IsErrOf result Fault.Write → W.has_failed output.new ≡ true }
     ensures only { IfErr result (λ fault. (fault ≡ Fault.Memory) ⊎ (fault ≡ Fault.Write)) }
 {
-    let Some(key) = least(places.as_slice()) else {
+    let Some(key) = places.least() else {
         return Ok(Some(End::Deadlock));
     };
     let place = key.number as usize;
-    match advance_at(program, alloc, places.as_mut_slice(), place, limit)? {
+    match advance_at(program, alloc, places, place, limit)? {
         Turn::Stepped => Ok(None),
         Turn::Exhausted => Ok(Some(End::Exhausted)),
         Turn::Asks(request, clock) => {
@@ -181,7 +180,7 @@ pub(crate) fn one_move<P: Interpreter, W: Write>(
 fn perform<P: Interpreter, W: Write>(
     alloc: Global,
     program: &P,
-    places: &mut Vec<Option<Goroutine<P::State>>>,
+    places: &mut Places<P::State>,
     shared: &mut Shared,
     place: usize,
     clock: Clock,
@@ -190,9 +189,9 @@ fn perform<P: Interpreter, W: Write>(
 ) -> Result<Option<End>, Fault>
     requires going { shared.old.ending ≡ None }
     requires last { clock < 2 ^ 62 }
-    ensures within { OnOk result ((limit : ℕ) → clock + 1 ≤ limit → AreWithin limit places.old.items → AreWithin limit places.new.items) }
-    ensures goes { IfOk result (λ ending. (limit : ℕ) (known : Option (List ℕ)) → IsAsked (kind_of (P.parts program.now)) (P.held program.now) limit places.old.items place clock (request_of request) → Stands (kind_of (P.parts program.now)) (P.held program.now) limit known (W.contents output.old) places.old.items shared.old → Goes (kind_of (P.parts program.now)) (P.held program.now) limit known (W.contents output.new) places.new.items shared.new ending) }
-    ensures begins { (limit : ℕ) (known : Option (List ℕ)) → IsAsked (kind_of (P.parts program.now)) (P.held program.now) limit places.old.items place clock (request_of request) → Stands (kind_of (P.parts program.now)) (P.held program.now) limit known (W.contents output.old) places.old.items shared.old → BeginsOutput (kind_of (P.parts program.now)) limit known (W.contents output.new) }
+    ensures within { OnOk result ((limit : ℕ) → clock + 1 ≤ limit → AreWithin limit places.old → AreWithin limit places.new) }
+    ensures goes { IfOk result (λ ending. (limit : ℕ) (known : Option (List ℕ)) → IsAsked (kind_of (P.parts program.now)) (P.held program.now) limit places.old place clock (request_of request) → Stands (kind_of (P.parts program.now)) (P.held program.now) limit known (W.contents output.old) places.old shared.old → Goes (kind_of (P.parts program.now)) (P.held program.now) limit known (W.contents output.new) places.new shared.new ending) }
+    ensures begins { (limit : ℕ) (known : Option (List ℕ)) → IsAsked (kind_of (P.parts program.now)) (P.held program.now) limit places.old place clock (request_of request) → Stands (kind_of (P.parts program.now)) (P.held program.now) limit known (W.contents output.old) places.old shared.old → BeginsOutput (kind_of (P.parts program.now)) limit known (W.contents output.new) }
     ensures going { IfOk result (λ ending. ending ≡ None → shared.new.ending ≡ None) }
     ensures write { IsErrOf result Fault.Write → W.has_failed output.new ≡ true }
     ensures only { IfErr result (λ fault. (fault ≡ Fault.Memory) ⊎ (fault ≡ Fault.Write)) }
@@ -228,41 +227,36 @@ fn print<W: Write>(deed: &Deed, output: &mut W) -> Result<(), Fault>
 fn apply<P: Interpreter>(
     alloc: Global,
     program: &P,
-    places: &mut Vec<Option<Goroutine<P::State>>>,
+    places: &mut Places<P::State>,
     place: usize,
     later: Clock,
     deed: Deed,
 ) -> Result<(), Memory>
-    ensures within { OnOk result ((limit : ℕ) → later ≤ limit → AreWithin limit places.old.items → AreWithin limit places.new.items) }
-    ensures applies { OnOk result ((s : Clocked P.Held) → here (awake_of (P.held program.now)) places.old.items place ≡ Some s → Applies (kind_of (P.parts program.now)) (P.held program.now) later place s deed places.old.items places.new.items) }
+    ensures within { OnOk result ((limit : ℕ) → later ≤ limit → AreWithin limit places.old → AreWithin limit places.new) }
+    ensures applies { OnOk result ((s : Clocked P.Held) → here (awake_of (P.held program.now)) places.old place ≡ Some s → Applies (kind_of (P.parts program.now)) (P.held program.now) later place s deed places.old places.new) }
 {
     match deed {
         Deed::Done(reply, woken) => {
-            tell_at(program, alloc, places.as_mut_slice(), place, later, reply)?;
-            wake_all(program, alloc, places.as_mut_slice(), later, woken)
+            tell_at(program, alloc, places, place, later, reply)?;
+            wake_all(program, alloc, places, later, woken)
         }
-        Deed::Prints(_) => {
-            let all = places.as_mut_slice();
-            tell_at(program, alloc, all, place, later, Reply::Nothing)
-        }
+        Deed::Prints(_) => tell_at(program, alloc, places, place, later, Reply::Nothing),
         Deed::Starts(function, arguments) => {
-            let all = places.as_mut_slice();
-            tell_at(program, alloc, all, place, later, Reply::Nothing)?;
+            tell_at(program, alloc, places, place, later, Reply::Nothing)?;
             let state = program.begin(alloc, function, arguments.as_slice())?;
-            places.push(Some(Goroutine {
+            places.start(Goroutine {
                 clock: later,
                 doomed: false,
                 asleep: false,
                 state,
-            }))?;
-            Ok(())
+            })
         }
         Deed::Sleeps => {
-            lay(places.as_mut_slice(), place);
+            places.lay(place);
             Ok(())
         }
         Deed::Leaves => {
-            end(places.as_mut_slice(), place);
+            places.end(place);
             Ok(())
         }
         Deed::Panics(..) | Deed::Ends(_) => Ok(()),

@@ -1,6 +1,6 @@
 //! What the clauses of a select offer.
 
-ghost use Rattle.std.specs.Prelude.{◌≡◌, ◌≤◌, IfOk, MatchOption, None, Some, drop, length, take};
+ghost use Rattle.std.specs.Prelude.{◌≡◌, ◌≤◌, [], IfOk, MatchOption, None, Some, drop, length, take};
 ghost use Rattle.bytecode.specs.Machine.{case_of, cases_of};
 ghost use Rattle.bytecode.specs.Rules.{IsVerified};
 
@@ -51,17 +51,20 @@ fn words_from(words: &[Word], index: usize, count: usize) -> &[Word]
     }
 }
 
-/// What the clauses offer, by their operands; none where they are not of their kinds.
+/// What the clauses offer, by their operands, in the room of an empty list; none where they are not of their kinds.
 pub fn cases(
     alloc: Global,
     code: &Code,
     clauses: &[Clause],
     words: &[Word],
+    room: Vec<Case>,
 ) -> Result<Option<Vec<Case>>, AllocError>
-    requires { IsVerified code.now }
+    requires verified { IsVerified code.now }
+    requires room { room.items ≡ [] }
     ensures { IfOk result (λ o. MatchOption o (cases_of code.now clauses.now words.now ≡ None) (λ cases. cases_of code.now clauses.now words.now ≡ Some cases.items)) }
 {
-    let mut made = Vec::with_capacity(alloc, clauses.len())?;
+    let mut made = room;
+    made.reserve(clauses.len())?;
     let mut index = 0;
     for clause in clauses {
         let some = words_from(words, index, clause_width(code, *clause));

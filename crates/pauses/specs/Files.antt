@@ -1,5 +1,5 @@
 -- The file of a plan: the line `kendo pauses 1`, and then a pause a line, as `1.2 4 wait 30` or `1.1 3 clause 2`.
-use Rattle.std.specs.Prelude.{◌≡◌, ℕ, ◌+◌, ◌-◌, ◌*◌, ◌^◌, ◌==◌, nat_lt, Bool, ◌&&◌, cond, bytes_eq, codes, decimal, List, [], ◌∷◌, ◌++◌, Option, Some, None}
+use Rattle.std.specs.Prelude.{◌≡◌, ℕ, ◌+◌, ◌-◌, ◌*◌, ◌^◌, ◌==◌, ◌<◌, nat_lt, Bool, false, ◌&&◌, cond, bytes_eq, codes, decimal, List, [], ◌∷◌, ◌++◌, Option, Some, None}
 use Rattle.std.specs.List.{flat_map, list_any, slice_split}
 use Rattle.pauses.specs.Plans.{Change, Wait, Clause, Pause, is_rival}
 use Rattle.pauses.specs.declared.error.PlanError.{PlanError}
@@ -105,3 +105,28 @@ pause_text p = way_text p.way ++ codes " " ++ decimal p.request ++ change_text p
 
 abbrev pub plan_text : List Pause → List ℕ
 plan_text ps = codes "kendo pauses 1\n" ++ flat_map pause_text ps
+
+-- ---- which plans are read again
+
+abbrev pub IsNumber : ℕ → Type 0
+IsNumber n = (0 < n) × (n < 10 ^ 18)
+
+abbrev pub AreNumbers : List ℕ → Type 0
+AreNumbers [] = Unit {0}
+AreNumbers (n ∷ ns) = IsNumber n × AreNumbers ns
+
+abbrev pub IsWay : List ℕ → Type 0
+IsWay [] = ⊥
+IsWay (n ∷ ns) = AreNumbers (n ∷ ns)
+
+abbrev pub IsChange : Change → Type 0
+IsChange (Wait ticks) = IsNumber ticks
+IsChange (Clause clause) = IsNumber clause
+
+-- none of the pauses behind these changes the same as an earlier one, and each has a way, and numbers that can be written
+abbrev pub ArePauses : (before : List Pause) → List Pause → Type 0
+ArePauses before [] = Unit {0}
+ArePauses before (p ∷ ps) = (IsWay p.way × IsNumber p.request × IsChange p.change) × (list_any (is_rival p) before ≡ false) × ArePauses (before ++ p ∷ []) ps
+
+abbrev pub IsPlan : List Pause → Type 0
+IsPlan ps = ArePauses [] ps

@@ -14,7 +14,7 @@ mod way;
 mod writing;
 
 pub use error::PlanError;
-pub use laws::paused_goroutines_keep_requests;
+pub use laws::{paused_goroutines_keep_requests, plans_are_read_again};
 pub use plan::{Change, Pause, Plan};
 pub use select::{alone, thinned};
 pub use way::{way_in, way_to, with_way};

@@ -4,7 +4,7 @@ ghost use Rattle.std.specs.Prelude.{Some};
 
 use crate::run::{Open, differs};
 use go_text::{Fault, Place, Span};
-use kendo_base::{TraceWriter, run_bytes};
+use kendo_base::{Gate, TraceWriter, run_bytes};
 use kendo_report::report;
 use row_format::flaw::{Flaw, same};
 use row_format::row::LIMIT;
@@ -14,12 +14,23 @@ use std::thread::Threads;
 use word::end::End;
 use word::panic::Panic;
 use word::{Flagged, Write, WriteFault};
+use worker_calls::gates::{All, Meet};
 
 /// A program that prints, and then computes for hours.
 const ENDLESS: &str = "package main; func main() { println(12); for {} }";
 
 /// A program that prints twice.
 const TWO_PRINTS: &str = "package main; func main() { println(12); println(3) }";
+
+/// Two goroutines that print, and send to the first one.
+const TWO_GOROUTINES: &str =
+    "package main; func main() { d := make(chan bool); go a(d); go b(d); <-d; <-d }; \
+    func a(d chan bool) { x := 1; println(1); d <- true }; func b(d chan bool) { println(2); d <- true }";
+
+/// Its trace.
+const TWO_TRACE: &str =
+    "0 1 make 1\n2 1 go 2\n3 1 go 3\n4 1 receive 1 sleeps\n4 2 print 2\n4 3 print 2\n\
+    5 2 send 1 to 1\n5 3 send 1 sleeps\n6 1 receive 1 from 3\n6 2 end\n7 1 exit\n";
 
 /// Takes one byte a call, and fails at its n-th call and from then on.
 #[derive(Drop)]
@@ -162,6 +173,40 @@ pub(crate) fn check_early_writes<R: Threads + Wait + Sync>(
         same(alloc, "the early trace", b"0 1 ".as_slice(), &trace.taken)?;
     }
     Ok(())
+}
+
+/// Compares two runs: in one, two workers hold leases at once; in the other, 64 workers exist at once.
+pub(crate) fn check_gates<R: Threads + Wait + Sync>(rt: &R, alloc: Global) -> Result<(), Flaw> {
+    let meet = Meet::new();
+    check_gate(rt, alloc, 2, &meet)?;
+    let all = All::new();
+    check_gate(rt, alloc, 64, &all)?;
+    if meet.have_met() && all.have_met() {
+        Ok(())
+    } else {
+        Err(Flaw::Call)
+    }
+}
+
+/// Compares the run of `TWO_GOROUTINES` by `workers` workers, which pass this gate.
+fn check_gate<R: Threads + Wait + Sync, G: Gate + Sync>(
+    rt: &R,
+    alloc: Global,
+    workers: u64,
+    gate: &G,
+) -> Result<(), Flaw> {
+    let bytes = Vec::from_slice(alloc, TWO_GOROUTINES.as_bytes())?;
+    let mut out = Flagged::new(Vec::new(alloc));
+    let mut trace = Flagged::new(Vec::new(alloc));
+    let outcome = run_bytes(rt, alloc, bytes, LIMIT, workers, gate, &mut out, &mut trace);
+    check_report(alloc, &outcome, "", 0)?;
+    same(alloc, "the output", b"1\n2\n".as_slice(), &out.into_inner())?;
+    same(
+        alloc,
+        "the trace",
+        TWO_TRACE.as_bytes(),
+        &trace.into_inner(),
+    )
 }
 
 /// Sees whether each panic has its line, and its status.

@@ -16,7 +16,8 @@ mod run;
 mod table;
 
 use calls::{
-    check_early_writes, check_failing_traces, check_failing_writers, check_panics, check_refusals,
+    check_early_writes, check_failing_traces, check_failing_writers, check_gates, check_panics,
+    check_refusals,
 };
 use check::check;
 use go_text::Fault;
@@ -29,7 +30,7 @@ use std::sync::Wait;
 use std::thread::Threads;
 use std::{env, io};
 use table::Table;
-use worker_calls::failed_calls;
+use worker_calls::{failed_calls, failed_refused_calls};
 
 fn main(rt: HostRuntime) -> ExitCode {
     match start(&rt) {
@@ -42,14 +43,40 @@ fn main(rt: HostRuntime) -> ExitCode {
     }
 }
 
-/// Checks the rows of the folder that the command line names, or of the current one.
+/// Checks the rows of the folder that the command line names, or of the current one; with `--calls` only calls that can be refused
+/// memory.
 fn start<R: Files + Env + AllocGlobal + Print + Threads + Wait + Sync + Clone + Drop>(
     rt: &R,
 ) -> io::Result<bool> {
-    match env::args(rt)?.nth(1) {
+    match first_word(rt)? {
+        Some(word) if word.as_str() == "--calls" => refused_calls(rt),
         Some(root) => all(rt, root.as_str()),
         None => all(rt, "."),
     }
+}
+
+/// The first word of the command line. It is read again if that is refused memory.
+fn first_word<R: Env + AllocGlobal>(rt: &R) -> io::Result<Option<String>> {
+    let mut words = match env::args(rt) {
+        Ok(words) => words,
+        Err(_) => env::args(rt)?,
+    };
+    Ok(words.nth(1))
+}
+
+/// Makes the calls that can be refused memory, each again if it is. Prints the names of those that fail, and returns whether all hold.
+fn refused_calls<R: AllocGlobal + Print>(rt: &R) -> io::Result<bool> {
+    let Ok(names) = failed_refused_calls(rt.alloc()) else {
+        println!(rt; "the names of calls that fail: out of memory")?;
+        return Ok(false);
+    };
+    for name in names.iter() {
+        println!(rt; "{name}")?;
+    }
+    if names.is_empty() {
+        println!(rt; "every call holds")?;
+    }
+    Ok(names.is_empty())
 }
 
 /// Checks all folders in this one, prints what fails, and answers whether all holds.
@@ -102,6 +129,7 @@ impl Report {
         self.tell(rt, "failing writers", check_failing_writers(rt, rt.alloc()))?;
         self.tell(rt, "failing traces", check_failing_traces(rt, rt.alloc()))?;
         self.tell(rt, "early writes", check_early_writes(rt, rt.alloc()))?;
+        self.tell(rt, "gates", check_gates(rt, rt.alloc()))?;
         self.tell(rt, "panics", check_panics(rt.alloc()))?;
         self.tell(rt, "refusals", check_refusals(rt.alloc()))?;
         self.machine_calls(rt)

@@ -6,9 +6,10 @@ ghost use Rattle.clock_table.specs.Seats.{table_of};
 
 use book::{Blank, Book, BookName, Lease, Settled};
 use go_text::{Fault, Memory};
-use machine_calls::Checks;
 use machine_calls::made::{Body, program};
 use machine_calls::programs::{HANDS_OVER, STARTS_MORE, WAITS_FOR_GOOD};
+use machine_calls::{Checks, is_refused};
+use output::Piece;
 use std::alloc::Global;
 use std::marker::Brand;
 use std::sync::Arc;
@@ -18,7 +19,7 @@ use word::panic::Panic;
 use word::request::{Event, EventOutcome};
 
 /// A clock limit that is not reached.
-const LIMIT: u64 = 1 << 40;
+pub(crate) const LIMIT: u64 = 1 << 40;
 
 /// What is compared of a settling: the clock and the number of its event, and whether it sleeps.
 #[derive(Clone, Copy, PartialEq, Eq)]
@@ -46,10 +47,16 @@ enum Move {
     Events(u64),
     /// The output so far is this text.
     Write(&'static str),
+    /// The trace so far is this text.
+    Trace(&'static str),
 }
 
+/// The trace of a hand-over.
+const HAND_OVER_TRACE: &str =
+    "0 1 make 1\n2 1 go 2\n3 1 receive 1 sleeps\n3 2 send 1 to 1\n4 2 end\n5 1 print 2\n6 1 exit\n";
+
 /// Each event of a hand-over.
-const HAND_OVER: [Move; 10] = [
+const HAND_OVER: [Move; 11] = [
     Move::Next(Seen::Event(0, 1, false)),
     Move::Next(Seen::Event(2, 1, false)),
     Move::Next(Seen::Event(3, 1, true)),
@@ -60,6 +67,7 @@ const HAND_OVER: [Move; 10] = [
     Move::Next(Seen::Ended(End::Finished)),
     Move::Events(7),
     Move::Write("7\n"),
+    Move::Trace(HAND_OVER_TRACE),
 ];
 
 /// A deadlock.
@@ -97,18 +105,33 @@ pub(crate) fn check(alloc: Global, checks: &mut Checks) -> Result<(), Memory> {
     ] {
         checks.see(name, holds(alloc, bodies, moves))?;
     }
-    Ok(())
+    checks.see("steps are made in the book", works_in_place(alloc))
+}
+
+/// Whether books settle what they must, also if a call is refused memory and made again.
+pub(crate) fn check_refused(alloc: Global, checks: &mut Checks) -> Result<(), Memory> {
+    let moves = HAND_OVER.as_slice();
+    let mut found = holds(alloc, &HANDS_OVER, moves);
+    if is_refused(&found) {
+        found = holds(alloc, &HANDS_OVER, moves);
+    }
+    checks.see("a book hands over an item", found)?;
+    let mut found = works_in_place(alloc);
+    if is_refused(&found) {
+        found = works_in_place(alloc);
+    }
+    checks.see("steps are made in the book", found)
 }
 
 /// What a run begins with.
 #[derive(Drop)]
-struct Start {
-    blank: Blank,
-    program: Arc<Verified>,
+pub(crate) struct Start {
+    pub blank: Blank,
+    pub program: Arc<Verified>,
 }
 
 /// The beginning of this program's run.
-fn begin(alloc: Global, bodies: &[Body]) -> Result<Start, Fault> {
+pub(crate) fn begin(alloc: Global, bodies: &[Body]) -> Result<Start, Fault> {
     let program = Arc::new(alloc, program(alloc, bodies)?)?;
     let blank = Blank::new(alloc)?;
     Ok(Start { blank, program })
@@ -147,6 +170,42 @@ fn makes<B: BookName>(book: &mut Book<B>, step: Move) -> bool {
         Move::LendNobody => is_nobody(book.lend()),
         Move::Events(count) => book.events() == count,
         Move::Write(text) => has_written(book, text),
+        Move::Trace(text) => has_traced(book, text),
+    }
+}
+
+/// Whether a hand-over has its output, its trace and its end if nobody is lent, but steps are made in the book.
+fn works_in_place(alloc: Global) -> Result<bool, Fault> {
+    works_as::<Brand>(begin(alloc, &HANDS_OVER)?)
+}
+
+/// Whether the book of this run, a hand-over, comes to its end by steps that are made in it.
+fn works_as<B: BookName>(start: Start) -> Result<bool, Fault>
+    requires { (arc_value start.program ≡ B.code) × (2 ^ 40 ≡ B.limit) × (table_of start.blank.table ≡ B.table) }
+{
+    let Start { blank, program } = start;
+    let mut book: Book<B> = Book::open(blank, program, LIMIT)?;
+    Ok(ends_in_place(&mut book))
+}
+
+/// Whether a hand-over of seven events ends by steps that are made in the book.
+fn ends_in_place<B: BookName>(book: &mut Book<B>) -> bool {
+    for _ in 0..7 {
+        park_in_place(book);
+        if !matches!(settled(book), Seen::Event(_, _, _)) {
+            return false;
+        }
+    }
+    let ended = settled(book) == Seen::Ended(End::Finished);
+    ended && has_written(book, "7\n") && has_traced(book, HAND_OVER_TRACE)
+}
+
+/// Makes steps in the book until all are parked, also if a call is refused memory.
+fn park_in_place<B: BookName>(book: &mut Book<B>) {
+    for _ in 0..10_000 {
+        if matches!(book.work(100), Ok(None)) {
+            return;
+        }
     }
 }
 
@@ -157,7 +216,7 @@ fn next<B: BookName>(book: &mut Book<B>) -> Seen {
 }
 
 /// Settles so often where all are parked.
-fn skip<B: BookName>(book: &mut Book<B>, count: u32) -> bool {
+pub(crate) fn skip<B: BookName>(book: &mut Book<B>, count: u32) -> bool {
     for _ in 0..count {
         if next(book) == Seen::NoMemory {
             return false;
@@ -169,17 +228,27 @@ fn skip<B: BookName>(book: &mut Book<B>, count: u32) -> bool {
 /// Lends whoever may be lent, one by one, until each of them is parked.
 fn park_all<B: BookName>(book: &mut Book<B>) {
     for _ in 0..10_000 {
-        match book.lend() {
+        match lent(book) {
             Ok(Some(lease)) => work(book, lease),
             _ => return,
         }
     }
 }
 
-/// Works on a lease, and brings it back.
+/// Lends a goroutine, if there is one to be lent. The call is made again if it is refused memory.
+fn lent<B: BookName>(book: &mut Book<B>) -> Result<Option<Lease<B>>, Memory> {
+    match book.lend() {
+        Err(Memory) => book.lend(),
+        lent => lent,
+    }
+}
+
+/// Works on a lease, again if that is refused memory, and brings it back.
 fn work<B: BookName>(book: &mut Book<B>, lease: Lease<B>) {
     let mut lease = lease;
-    let _worked = lease.work(100).is_ok();
+    if lease.work(100).is_err() {
+        let _worked = lease.work(100).is_ok();
+    }
     book.bring(lease);
 }
 
@@ -203,9 +272,12 @@ fn waits_for<B: BookName>(book: &mut Book<B>, first: Lease<B>) -> bool {
         && settled(book) == Seen::Waiting(2)
 }
 
-/// What the next settling comes to.
+/// What the next settling comes to. The call is made again if it is refused memory.
 fn settled<B: BookName>(book: &mut Book<B>) -> Seen {
-    seen_in(book.settle())
+    match seen_in(book.settle()) {
+        Seen::NoMemory => seen_in(book.settle()),
+        seen => seen,
+    }
 }
 
 fn seen_in(settled: Result<Settled, Memory>) -> Seen {
@@ -227,10 +299,29 @@ fn is_nobody<B: BookName>(lent: Result<Option<Lease<B>>, Memory>) -> bool {
     matches!(&lent, Ok(None))
 }
 
-/// Whether the output so far is this text.
+/// Whether the output so far is this text. It is taken again if that is refused memory.
 fn has_written<B: BookName>(book: &mut Book<B>, text: &str) -> bool {
-    match &book.take_output() {
-        Ok(piece) => piece.bytes.as_slice() == text.as_bytes(),
-        Err(_) => false,
+    match book.take_output() {
+        Ok(piece) => is_text(&piece, text),
+        Err(Memory) => match book.take_output() {
+            Ok(piece) => is_text(&piece, text),
+            Err(Memory) => false,
+        },
     }
+}
+
+/// Whether the trace so far is this text. It is taken again if that is refused memory.
+fn has_traced<B: BookName>(book: &mut Book<B>, text: &str) -> bool {
+    match book.take_trace() {
+        Ok(piece) => is_text(&piece, text),
+        Err(Memory) => match book.take_trace() {
+            Ok(piece) => is_text(&piece, text),
+            Err(Memory) => false,
+        },
+    }
+}
+
+/// Whether these are the bytes of a piece.
+fn is_text(piece: &Piece, text: &str) -> bool {
+    piece.bytes.as_slice() == text.as_bytes()
 }

@@ -4,8 +4,10 @@
 mod books;
 mod calls;
 mod clocks;
+pub mod gates;
 mod keys;
 mod queues;
 mod runs;
+mod strangers;
 
-pub use calls::failed_calls;
+pub use calls::{failed_calls, failed_refused_calls};

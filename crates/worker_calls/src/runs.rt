@@ -1,12 +1,11 @@
 //! Runs of a small program by several workers.
 
-use crate::clocks::comes_to;
+use crate::gates::{All, Meet};
 use go_text::{Fault, Memory};
 use machine_calls::Checks;
 use machine_calls::made::program;
 use machine_calls::programs::MEETS_TWICE;
 use std::alloc::Global;
-use std::sync::atomic::{AtomicU64, Ordering};
 use std::sync::{Arc, Wait};
 use std::thread::Threads;
 use word::end::End;
@@ -175,76 +174,14 @@ fn trace_fails<R: Threads + Wait + Sync>(rt: &R, alloc: Global) -> Result<bool, 
     Ok(outcome == Err(Fault::Write) && trace.taken)
 }
 
-/// The first leases of goroutines 2 and 3 are each held until the other is.
-#[derive(Drop)]
-struct Meet {
-    second: AtomicU64,
-    third: AtomicU64,
-    met: AtomicU64,
-}
-
-impl Meet {
-    fn meet(&self, mine: &AtomicU64, other: &AtomicU64) {
-        if mine.fetch_add(1, Ordering::SeqCst) == 0 && comes_to(other, 1) {
-            self.met.fetch_add(1, Ordering::SeqCst);
-        }
-    }
-}
-
-impl Gate for Meet {
-    fn at_start(&self, _worker: u64) {}
-
-    fn at_lent(&self, _worker: u64, number: u64) {
-        if number == 2 {
-            self.meet(&self.second, &self.third);
-        } else if number == 3 {
-            self.meet(&self.third, &self.second);
-        }
-    }
-
-    fn at_end(&self, _worker: u64) {}
-}
-
 /// Whether two workers hold leases at once.
 fn two_meet<R: Threads + Wait + Sync>(rt: &R, alloc: Global) -> Result<bool, Fault> {
-    let gate = Meet {
-        second: AtomicU64::new(0),
-        third: AtomicU64::new(0),
-        met: AtomicU64::new(0),
-    };
-    Ok(writes_whole(rt, alloc, 2, &gate) && gate.met.load(Ordering::SeqCst) == 2)
-}
-
-/// All workers wait at their start for all.
-#[derive(Drop)]
-struct All {
-    begun: AtomicU64,
-    saw_all: AtomicU64,
-    ended: AtomicU64,
-}
-
-impl Gate for All {
-    fn at_start(&self, _worker: u64) {
-        self.begun.fetch_add(1, Ordering::SeqCst);
-        if comes_to(&self.begun, 64) {
-            self.saw_all.fetch_add(1, Ordering::SeqCst);
-        }
-    }
-
-    fn at_lent(&self, _worker: u64, _number: u64) {}
-
-    fn at_end(&self, _worker: u64) {
-        self.ended.fetch_add(1, Ordering::SeqCst);
-    }
+    let gate = Meet::new();
+    Ok(writes_whole(rt, alloc, 2, &gate) && gate.have_met())
 }
 
 /// Whether 64 workers are there at once, and all end.
 fn all_are_there<R: Threads + Wait + Sync>(rt: &R, alloc: Global) -> Result<bool, Fault> {
-    let gate = All {
-        begun: AtomicU64::new(0),
-        saw_all: AtomicU64::new(0),
-        ended: AtomicU64::new(0),
-    };
-    let saw_all = writes_whole(rt, alloc, 64, &gate) && gate.saw_all.load(Ordering::SeqCst) == 64;
-    Ok(saw_all && gate.ended.load(Ordering::SeqCst) == 64)
+    let gate = All::new();
+    Ok(writes_whole(rt, alloc, 64, &gate) && gate.have_met())
 }

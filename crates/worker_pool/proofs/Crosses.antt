@@ -25,6 +25,7 @@ use Rattle.clock_table.proofs.table.LeaseSeat.TheSendSync.{the_field_send as sea
 use Rattle.goroutine_vm.proofs.sleeping.Room.TheSendSync.{the_field_send as room_send}
 use Rattle.goroutine_vm.proofs.sleeping.Sleeping.TheSendSync.{the_send as sleeping_send}
 use Rattle.goroutine_vm.proofs.state.GoState.TheSendSync.{the_send as state_send}
+use Rattle.goroutine_vm_request.proofs.lists.RequestLists.TheSendSync.{the_field_send as lists_send}
 use Rattle.slab.proofs.Slab.TheSendSync.{the_send as slab_send}
 use Rattle.sleep_queue.proofs.numbered_keys.NumberedKeys.TheSendSync.{the_send as keys_send}
 use Rattle.sleep_queue.proofs.owners.Owners.TheSendSync.{the_send as owners_send}
@@ -150,7 +151,7 @@ situation_send : IsSend Situation.the_row
 situation_send = view_send _ _ _ _ _ situation_inside
 
 spare_send : IsSend Spare.the_field.row
-spare_send = struct_send (shape Spare.the_type) (search (sendable, crosses, room_send) depth 20, (search (sendable, crosses, state_send) depth 20, (search (sendable, crosses, woken_send) depth 20, tt)))
+spare_send = struct_send (shape Spare.the_type) (search (sendable, crosses, room_send) depth 20, (search (sendable, crosses, state_send) depth 20, (search (sendable, crosses, woken_send) depth 20, (lists_send, tt))))
 
 core_inside : IsSend core.the_row
 core_inside = recorded_send core.the_field.row _ _ core.the_type.to_one (struct_send (shape core.the_type) (situation_send, (spare_send, tt)))

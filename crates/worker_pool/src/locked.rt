@@ -47,8 +47,12 @@ impl<B: RunName> Locked<B> {
         }
     }
 
-    /// Takes what a worker comes back with, and commits all that can be committed.
+    /// Takes what a worker comes back with, and commits all that can be committed. Once the run is over, as after another
+    /// worker's `Memory`, nothing is tried any more.
     pub fn take_back(&mut self, back: Back<RunLease<B>>) {
+        if self.signals.is_over() {
+            return;
+        }
         match back {
             Back::Begun => {}
             Back::Talking(lease) | Back::Asking(lease) | Back::Running(lease) => self.bring(lease),

@@ -1,9 +1,10 @@
 //! The queues in which items lie until a worker takes them.
 
-ghost use Rattle.std.specs.Prelude.{◌≡◌, length, IfErr, IfNone, IfOk, IfSome, OnOk, true};
+ghost use Rattle.std.specs.Prelude.{◌≡◌, ◌≤◌, ◌^◌, ◌⊎◌, length, IfErr, IfNone, IfOk, IfSome, OnErr, OnOk, true};
 ghost use Rattle.std.specs.Arc.{arc_value};
-ghost use Rattle.run_queue.specs.Passes.{IsPutOf, IsTakeOf, put_view, take_view};
-ghost use Rattle.run_queue.specs.Turns.{PutsOne, TakesOne};
+ghost use Rattle.workers.specs.declared.work_queues.TheConstants.{CAPACITY};
+ghost use Rattle.run_queue.specs.Passes.{IsPutOf, IsTakeOf, capacity_of, put_count, put_view, take_view};
+ghost use Rattle.run_queue.specs.Turns.{IsFull, PutsOne, TakesOne};
 
 use go_text::Memory;
 use run_queue::{PutPass, RunQueue, TakePass};
@@ -19,6 +20,7 @@ struct Owner<T: Drop> {
     queue: Arc<RunQueue<T>>,
     pass: PutPass<T>,
     ghost ours: { IsPutOf (arc_value queue) pass },
+    ghost size: { capacity_of (arc_value queue) ≡ CAPACITY },
 }
 
 /// The queue of some worker, from which any may take.
@@ -34,6 +36,7 @@ impl<T: Drop> Owner<T> {
     fn put<R: Wait>(&mut self, rt: &R, item: T) -> Result<(), T>
         ensures ok { OnOk result (PutsOne (put_view self.old.pass) item (put_view self.new.pass)) }
         ensures back { IfErr result (λ back. (back ≡ item) × (put_view self.new.pass ≡ put_view self.old.pass)) }
+        ensures full { OnErr result (IsFull CAPACITY (put_view self.old.pass) ⊎ (2 ^ 62 ≤ put_count self.old.pass)) }
     {
         self.queue.put(rt, &mut self.pass, item)
     }
@@ -86,11 +89,12 @@ impl<T: Drop> WorkQueues<T> {
         Ok(all)
     }
 
-    /// Puts an item into its own queue; it comes back where that is full.
+    /// Puts an item into its own queue. It comes back only where that was full at one moment of the call, or where 2^62 had been put.
     pub fn put<R: Wait>(&mut self, rt: &R, item: T) -> Result<(), T>
         ensures ok { OnOk result (PutsOne (put_view self.old.own.pass) item (put_view self.new.own.pass)) }
         ensures filled { OnOk result (self.new.filled ≡ true) }
         ensures back { IfErr result (λ back. (back ≡ item) × (put_view self.new.own.pass ≡ put_view self.old.own.pass)) }
+        ensures full { OnErr result (IsFull CAPACITY (put_view self.old.own.pass) ⊎ (2 ^ 62 ≤ put_count self.old.own.pass)) }
     {
         self.own.put(rt, item)?;
         self.filled = true;

@@ -17,7 +17,7 @@ use crate::waking::{doze, wake};
 use awake_rows::{Among, Goroutines};
 use channel_core::{Channels, Woken};
 use go_text::Memory;
-use goroutine_vm::{GoState, Room, spawn_state};
+use goroutine_vm::{GoState, RequestLists, Room, spawn_state};
 use logical_clock::limits::MAX_GOROUTINES;
 use logical_clock::{Clock, Key, LAST};
 use std::alloc::Global;
@@ -159,7 +159,7 @@ impl Situation {
         ensures memory { OnErr result ((self.new ≡ self.old) × (output.new.items ≡ output.old.items)) }
     {
         event.number = number;
-        event.clock = self.asked(alloc, code, limit, number, &mut event.request)?;
+        event.clock = self.asked(&mut spare.lists, code, limit, number, &mut event.request)?;
         event.partners.clear();
         match &event.request {
             Request::Print(text) => {
@@ -193,7 +193,7 @@ impl Situation {
     /// and event number 2^62 of a run is `Exhausted`.
     fn asked(
         &self,
-        alloc: Global,
+        lists: &mut RequestLists,
         code: &Verified,
         limit: u64,
         number: u64,
@@ -206,7 +206,8 @@ impl Situation {
         let Some(slot) = self.goroutines.row(number) else {
             unreachable!()
         };
-        if !slot.state().ask(alloc, code, limit, request)? {
+        lists.keep(request);
+        if !slot.state().ask(lists, code, limit, request)? {
             unreachable!()
         }
         self.mean(number, request);

@@ -7,7 +7,7 @@ ghost use Rattle.word.specs.Kinds.{at};
 
 use channel_core::Woken;
 use go_text::Memory;
-use goroutine_vm::{GoState, Room, spawn_state};
+use goroutine_vm::{GoState, RequestLists, Room, spawn_state};
 use logical_clock::Clock;
 use std::alloc::Global;
 use verifier::Verified;
@@ -24,6 +24,8 @@ pub(crate) struct Spare {
     pub states: Vec<GoState>,
     /// Where an event lists whom it wakes.
     pub woken: Vec<Woken>,
+    /// Lists of requests that were performed, for those that come.
+    pub lists: RequestLists,
 }
 
 impl Drop for Spare {
@@ -32,10 +34,12 @@ impl Drop for Spare {
             rooms,
             states,
             woken,
+            lists,
         } = self;
         drop(rooms);
         drop(states);
         drop(woken);
+        drop(lists);
     }
 }
 
@@ -46,6 +50,7 @@ impl Spare {
             rooms: Vec::new(alloc),
             states: Vec::new(alloc),
             woken: Vec::new(alloc),
+            lists: RequestLists::new(alloc),
         }
     }
 }

@@ -5,7 +5,7 @@ use Rattle.one_thread.proofs.ending.last_moment.Goals as goal
 
 pub loop-init : goal.loop-init
 loop-init g c =
-    let stands = opened_stands (kind_of (g.P.Interpreter.parts c.args.program.now)) (g.P.Interpreter.held c.args.program.now) c.args.limit (g.W.Write.contents c.args.output.now) c.in_ok-goroutines.goroutines.items c.in_ok-shared.shared c.in_ok-goroutines.ensures.open c.in_ok-shared.ensures in
+    let stands = opened_stands (kind_of (g.P.Interpreter.parts c.args.program.now)) (g.P.Interpreter.held c.args.program.now) c.args.limit (g.W.Write.contents c.args.output.now) c.in_ok-goroutines.goroutines c.in_ok-shared.shared c.in_ok-goroutines.ensures.open c.in_ok-shared.ensures in
     record { going = stands.goes_on; within = c.in_ok-goroutines.ensures.within c.args.limit; stands = stands }
 
 pub loop-preserved : goal.loop-preserved
@@ -18,12 +18,12 @@ loop-preserved g c = record {
 pub returns-in_default-clause-whole : goal.returns-in_default-clause-whole
 returns-in_default-clause-whole g c =
     rw c.deserted.ensures.end
-    (deadlock (kind_of (g.P.Interpreter.parts c.args.program.now)) (g.P.Interpreter.held c.args.program.now) c.args.limit (g.W.Write.contents c.args.output.now) (g.W.Write.contents c.loop.output) c.loop.goroutines.items c.loop.shared c.loop.invariant.stands (rw c.as_slice.ensures.value at (sym c.least.ensures ∙ c.in_default.is)))
+    (deadlock (kind_of (g.P.Interpreter.parts c.args.program.now)) (g.P.Interpreter.held c.args.program.now) c.args.limit (g.W.Write.contents c.args.output.now) (g.W.Write.contents c.loop.output) c.loop.goroutines c.loop.shared c.loop.invariant.stands (sym c.least.ensures ∙ c.in_default.is))
 
 pub returns-in_default-clause-last : goal.returns-in_default-clause-last
 returns-in_default-clause-last g c =
-    rw (c.deserted.ensures.turn, c.deserted.ensures.goroutines)
-    (deadlock_last (kind_of (g.P.Interpreter.parts c.args.program.now)) (g.P.Interpreter.held c.args.program.now) c.args.limit (g.W.Write.contents c.args.output.now) (g.W.Write.contents c.loop.output) c.loop.goroutines.items c.loop.shared c.loop.invariant.stands (rw c.as_slice.ensures.value at (sym c.least.ensures ∙ c.in_default.is)))
+    rw (c.deserted.ensures.turn, c.deserted.ensures.goroutines, c.into_all.ensures)
+    (deadlock_last (kind_of (g.P.Interpreter.parts c.args.program.now)) (g.P.Interpreter.held c.args.program.now) c.args.limit (g.W.Write.contents c.args.output.now) (g.W.Write.contents c.loop.output) c.loop.goroutines c.loop.shared c.loop.invariant.stands (sym c.least.ensures ∙ c.in_default.is))
 
 pub returns-in-Some-2-clause-whole : goal.returns-in-Some-2-clause-whole
 returns-in-Some-2-clause-whole g c =

@@ -7,6 +7,6 @@ use Rattle.one_thread.proofs.ending.last_moment.Given as goal
 abbrev pub invariant-loop : goal.invariant-loop
 invariant-loop g l = record {
   going : l.shared.ending ≡ None;
-  within : AreWithin l.limit l.goroutines.items;
-  stands : Stands (kind_of (g.P.Interpreter.parts l.program)) (g.P.Interpreter.held l.program) l.limit (g.W.Write.contents l.initial.output) (g.W.Write.contents l.output) l.goroutines.items l.shared;
+  within : AreWithin l.limit l.goroutines;
+  stands : Stands (kind_of (g.P.Interpreter.parts l.program)) (g.P.Interpreter.held l.program) l.limit (g.W.Write.contents l.initial.output) (g.W.Write.contents l.output) l.goroutines l.shared;
 }

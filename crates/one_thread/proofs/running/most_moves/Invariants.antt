@@ -7,6 +7,6 @@ use Rattle.one_thread.proofs.running.most_moves.Given as goal
 abbrev pub invariant-loop : goal.invariant-loop
 invariant-loop g l = record {
   going : l.shared.ending ≡ None;
-  within : AreWithin l.limit l.places.items;
-  kept : (known : Option (List ℕ)) → Stands (kind_of (g.P.Interpreter.parts l.program)) (g.P.Interpreter.held l.program) l.limit known (g.W.Write.contents l.initial.output) l.initial.places.items l.initial.shared → Stands (kind_of (g.P.Interpreter.parts l.program)) (g.P.Interpreter.held l.program) l.limit known (g.W.Write.contents l.output) l.places.items l.shared;
+  within : AreWithin l.limit l.places;
+  kept : (known : Option (List ℕ)) → Stands (kind_of (g.P.Interpreter.parts l.program)) (g.P.Interpreter.held l.program) l.limit known (g.W.Write.contents l.initial.output) l.initial.places l.initial.shared → Stands (kind_of (g.P.Interpreter.parts l.program)) (g.P.Interpreter.held l.program) l.limit known (g.W.Write.contents l.output) l.places l.shared;
 }

@@ -12,7 +12,7 @@ pub returns-in-Some-clause-goes : goal.returns-in-Some-clause-goes
 returns-in-Some-clause-goes g c = λ known st. rw c.in-Some.is at (c.in_ok-end.ensures.goes known (c.loop.invariant.kept known st))
 
 pub returns-clause-begins : goal.returns-clause-begins
-returns-clause-begins g c = λ known st. begins (kind_of (g.P.Interpreter.parts c.args.program.now)) (g.P.Interpreter.held c.args.program.now) c.args.limit known (g.W.Write.contents c.loop.output) c.loop.places.items c.loop.shared (c.loop.invariant.kept known st)
+returns-clause-begins g c = λ known st. begins (kind_of (g.P.Interpreter.parts c.args.program.now)) (g.P.Interpreter.held c.args.program.now) c.args.limit known (g.W.Write.contents c.loop.output) c.loop.places c.loop.shared (c.loop.invariant.kept known st)
 
 pub loop-preserved : goal.loop-preserved
 loop-preserved g c = record {

@@ -7,7 +7,7 @@ returns-in_err-shared-clause-begins g c = (0, 0, appends_none (g.W.Write.content
 
 pub loop-init : goal.loop-init
 loop-init g c =
-    let stands = opened_stands (kind_of (g.P.Interpreter.parts c.args.program.now)) (g.P.Interpreter.held c.args.program.now) c.args.limit (g.W.Write.contents c.args.output.now) c.in_ok-places.places.items c.in_ok-shared.shared c.in_ok-places.ensures.open c.in_ok-shared.ensures in
+    let stands = opened_stands (kind_of (g.P.Interpreter.parts c.args.program.now)) (g.P.Interpreter.held c.args.program.now) c.args.limit (g.W.Write.contents c.args.output.now) c.in_ok-places.places c.in_ok-shared.shared c.in_ok-places.ensures.open c.in_ok-shared.ensures in
     record { going = stands.goes_on; within = c.in_ok-places.ensures.within c.args.limit; stands = stands }
 
 pub loop-preserved : goal.loop-preserved
@@ -27,4 +27,4 @@ pub returns-in-Some-clause-whole : goal.returns-in-Some-clause-whole
 returns-in-Some-clause-whole g c = rw c.in-Some.is at (c.in_ok-end.ensures.goes (g.W.Write.contents c.args.output.now) c.loop.invariant.stands)
 
 pub returns-clause-begins : goal.returns-clause-begins
-returns-clause-begins g c = begins (kind_of (g.P.Interpreter.parts c.args.program.now)) (g.P.Interpreter.held c.args.program.now) c.args.limit (g.W.Write.contents c.args.output.now) (g.W.Write.contents c.loop.output) c.loop.places.items c.loop.shared c.loop.invariant.stands
+returns-clause-begins g c = begins (kind_of (g.P.Interpreter.parts c.args.program.now)) (g.P.Interpreter.held c.args.program.now) c.args.limit (g.W.Write.contents c.args.output.now) (g.W.Write.contents c.loop.output) c.loop.places c.loop.shared c.loop.invariant.stands
