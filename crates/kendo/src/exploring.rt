@@ -1,6 +1,7 @@
 //! The exploration of a program in other orders of its events.
 
 ghost use Rattle.std.specs.Prelude.{◌≡◌, ◌⊎◌, IfErr, IfOk};
+ghost use Rattle.command_line.specs.declared.arguments.Subcommand.TheVariants as subcommands;
 ghost use Rattle.kendo_shell.specs.Answers.{Finds, IsVerdict, Tells};
 
 use crate::explaining::{explain, kept_text};
@@ -23,6 +24,7 @@ const OTHER: u8 = 8;
 const NOT_ALL: u8 = 9;
 
 /// Tells on standard error how many states were visited.
+#[derive(Clone, Copy)]
 struct Counter<'r> {
     rt: &'r HostRuntime,
     alloc: Global,
@@ -34,6 +36,15 @@ impl Progress for Counter<'_> {
             tell(self.rt, line.as_bytes());
         }
     }
+}
+
+/// An exploration of the program of a file.
+#[derive(Clone, Copy)]
+struct Task<'r, 'm, 'a> {
+    rt: &'r HostRuntime,
+    alloc: Global,
+    invocation: &'r Invocation<'m, 'a>,
+    file: &'r str,
 }
 
 /// Explores the program of a file, and reports what is found. The plans that show its ends again go to files.
@@ -57,26 +68,17 @@ pub(crate) fn explore_file(
     let kept = kept_text(alloc, invocation, bytes.as_slice());
     let mut outputs = Outputs::new(rt, Trace::Dropped);
     let mut verdict = None;
-    let outcome = explore(
+    let task = Task {
         rt,
         alloc,
         invocation,
         file,
-        bytes,
-        &mut outputs,
-        &mut verdict,
-    );
+    };
+    let outcome = task.find(bytes, &mut outputs, &mut verdict);
     let status = told(rt, alloc, None, &outcome)?;
     let status = status_of(invocation, &outcome, verdict, status);
-    explain(
-        rt,
-        alloc,
-        invocation,
-        file,
-        kept,
-        outcome,
-        outputs.refused(),
-    );
+    let refused = outputs.refused();
+    explain(rt, alloc, invocation, file, kept, outcome, refused);
     Ok(status)
 }
 
@@ -97,81 +99,86 @@ fn status_of(
     }
 }
 
-/// Explores a program, and writes what is found; what it comes to goes to `verdict`.
-fn explore(
-    rt: &HostRuntime,
-    alloc: Global,
-    invocation: &Invocation<'_, '_>,
-    file: &str,
-    bytes: Vec<u8>,
-    outputs: &mut Outputs,
-    verdict: &mut Option<Verdict>,
-) -> Result<End, Fault>
-    ensures { Finds invocation.now.subcommand bytes.items result }
-{
-    let Subcommand::Explore {
-        limit,
-        tries,
-        states,
-    } = invocation.subcommand
-    else {
-        return Err(Fault::Memory);
-    };
-    let options = Options {
-        tries,
-        states,
-        limit,
-        scope: Scope {
-            outputs: !invocation.ends,
-            lines_in_order: !invocation.unordered,
-            leaks: invocation.leaks,
-        },
-    };
-    let mut counter = Counter { rt, alloc };
-    let explored = explore_bytes(alloc, file, bytes, options, &mut counter)?;
-    write(rt, alloc, invocation, &explored, outputs)?;
-    *verdict = Some(explored.verdict);
-    Ok(End::Finished)
-}
-
-/// Writes the report to standard output, and the plans to their files.
-fn write(
-    rt: &HostRuntime,
-    alloc: Global,
-    invocation: &Invocation<'_, '_>,
-    explored: &Explored,
-    outputs: &mut Outputs,
-) -> Result<(), Fault>
-    ensures { IfErr result (λ fault. (fault ≡ Fault.Memory) ⊎ (fault ≡ Fault.Write)) }
-{
-    for plan in explored.plans.iter() {
-        write_plan(rt, alloc, invocation.out, plan)?;
+impl Task<'_, '_, '_> {
+    /// Explores the program, and writes what is found; what it comes to goes to `verdict`.
+    fn find(
+        self,
+        bytes: Vec<u8>,
+        outputs: &mut Outputs,
+        verdict: &mut Option<Verdict>,
+    ) -> Result<End, Fault>
+        ensures { Finds self.invocation.now.subcommand bytes.items result }
+    {
+        match self.invocation.subcommand {
+            Subcommand::Explore {
+                limit,
+                tries,
+                states,
+            } => {
+                let options = Options {
+                    tries,
+                    states,
+                    limit,
+                    scope: Scope {
+                        outputs: !self.invocation.ends,
+                        lines_in_order: !self.invocation.unordered,
+                        leaks: self.invocation.leaks,
+                    },
+                };
+                self.explore(bytes, options, outputs, verdict)
+            }
+            _ => Err(Fault::Memory),
+        }
     }
-    match write_all(&mut outputs.standard, explored.report.as_slice()) {
-        Ok(()) => Ok(()),
-        Err(_) => Err(Fault::Write),
-    }
-}
 
-/// Writes a plan to its file in a folder, or in the current one.
-fn write_plan(
-    rt: &HostRuntime,
-    alloc: Global,
-    folder: Option<&str>,
-    plan: &PlanFile,
-) -> Result<(), Fault>
-    ensures { IfErr result (λ fault. (fault ≡ Fault.Memory) ⊎ (fault ≡ Fault.Write)) }
-{
-    let name = plan.name.as_str();
-    let path = match folder {
-        Some(folder) => format!(in alloc; "{folder}/{name}"),
-        None => format!(in alloc; "{name}"),
-    };
-    let Ok(path) = path else {
-        return Err(Fault::Memory);
-    };
-    match fs::write(rt, path.as_str(), plan.bytes.as_slice()) {
-        Ok(()) => Ok(()),
-        Err(_) => Err(Fault::Write),
+    /// Like `find`, with these options.
+    fn explore(
+        self,
+        bytes: Vec<u8>,
+        options: Options,
+        outputs: &mut Outputs,
+        verdict: &mut Option<Verdict>,
+    ) -> Result<End, Fault>
+        ensures { Finds (subcommands.Explore options.limit options.tries options.states) bytes.items result }
+    {
+        let mut counter = Counter {
+            rt: self.rt,
+            alloc: self.alloc,
+        };
+        let explored = explore_bytes(self.alloc, self.file, bytes, options, &mut counter)?;
+        self.write(&explored, outputs)?;
+        *verdict = Some(explored.verdict);
+        Ok(End::Finished)
+    }
+
+    /// Writes the report to standard output, and the plans to their files.
+    fn write(self, explored: &Explored, outputs: &mut Outputs) -> Result<(), Fault>
+        ensures { IfErr result (λ fault. (fault ≡ Fault.Memory) ⊎ (fault ≡ Fault.Write)) }
+    {
+        for plan in explored.plans.iter() {
+            self.write_plan(plan)?;
+        }
+        match write_all(&mut outputs.standard, explored.report.as_slice()) {
+            Ok(()) => Ok(()),
+            Err(_) => Err(Fault::Write),
+        }
+    }
+
+    /// Writes a plan to its file in the folder, or in the current one.
+    fn write_plan(self, plan: &PlanFile) -> Result<(), Fault>
+        ensures { IfErr result (λ fault. (fault ≡ Fault.Memory) ⊎ (fault ≡ Fault.Write)) }
+    {
+        let name = plan.name.as_str();
+        let path = match self.invocation.out {
+            Some(folder) => format!(in self.alloc; "{folder}/{name}"),
+            None => format!(in self.alloc; "{name}"),
+        };
+        let Ok(path) = path else {
+            return Err(Fault::Memory);
+        };
+        match fs::write(self.rt, path.as_str(), plan.bytes.as_slice()) {
+            Ok(()) => Ok(()),
+            Err(_) => Err(Fault::Write),
+        }
     }
 }

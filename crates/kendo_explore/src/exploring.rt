@@ -86,7 +86,7 @@ fn explore<P: Progress>(
         progress.visited(exploration.visited());
     }
     exploration.show()?;
-    explored(alloc, path, &mut exploration)
+    findings(alloc, path, &mut exploration)
 }
 
 /// The verified code of a checked program, and what its instructions come from.
@@ -98,7 +98,7 @@ fn compiled(alloc: Global, typed: &Typed) -> Result<(Verified, StatementMap), Fa
 }
 
 /// What is found by an exploration.
-fn explored(
+fn findings(
     alloc: Global,
     path: &str,
     exploration: &mut Exploration<'_>,
