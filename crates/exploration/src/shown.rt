@@ -1,7 +1,7 @@
 //! Ends that runs of the interpreter have shown.
 
-use crate::runner::{Ran, Runner};
-use crate::shrink::{Shrinking, Wanted};
+use crate::runner::Runner;
+use crate::shrink::{Wanted, shrunk_run};
 use go_text::Memory;
 use orders::Found;
 use program_states::{Ending, Space, Step, World};
@@ -44,12 +44,7 @@ pub(crate) fn show_end(
     let last = last_of(space, &world, steps.as_slice(), ending);
     let wanted = wanted_of(found, standing, actor);
     let runner = runner.up_to(clock);
-    let mut shrinking = Shrinking::new(alloc, runner, space, wanted, steps.len());
-    if shrinking.ran(delays.as_slice())?.is_none() {
-        return Ok(None);
-    }
-    let delays = shrinking.shrunk(delays)?;
-    let Some(Ran { output, .. }) = shrinking.ran(delays.as_slice())? else {
+    let Some((delays, output)) = shrunk_run(alloc, runner, space, wanted, delays)? else {
         return Ok(None);
     };
     let plan = plan_of(alloc, space.locals().goroutines(), delays.as_slice())?.bytes(alloc)?;

@@ -42,24 +42,24 @@ impl Wanted {
 
 /// The delays of an end, of which some may not be needed.
 #[derive(Drop)]
-pub(crate) struct Shrinking<'a, 'c> {
-    pub alloc: Global,
-    pub runner: Runner<'a>,
-    pub space: &'a mut Space<'c>,
-    pub wanted: Wanted,
+struct Shrinking<'t, 's, 'c> {
+    alloc: Global,
+    runner: Runner<'t>,
+    space: &'s mut Space<'c>,
+    wanted: Wanted,
     /// How many runs are left.
     left: usize,
 }
 
-impl<'a, 'c> Shrinking<'a, 'c> {
+impl<'t, 's, 'c> Shrinking<'t, 's, 'c> {
     /// The end that is wanted, shown by runs of the interpreter that have some `events` events.
-    pub(crate) fn new(
+    fn new(
         alloc: Global,
-        runner: Runner<'a>,
-        space: &'a mut Space<'c>,
+        runner: Runner<'t>,
+        space: &'s mut Space<'c>,
         wanted: Wanted,
         events: usize,
-    ) -> Shrinking<'a, 'c> {
+    ) -> Shrinking<'t, 's, 'c> {
         Shrinking {
             alloc,
             runner,
@@ -75,7 +75,7 @@ impl<'a, 'c> Shrinking<'a, 'c> {
     /// The run with these delays, if it ends as it should.
     ///
     /// Errors: out of memory.
-    pub(crate) fn ran(&mut self, delays: &[Delay]) -> Result<Option<Ran>, Memory> {
+    fn ran(&mut self, delays: &[Delay]) -> Result<Option<Ran>, Memory> {
         let plan = plan_of(self.alloc, self.space.locals().goroutines(), delays)?;
         let Some(ran) = self.runner.run(&plan)? else {
             return Ok(None);
@@ -98,7 +98,7 @@ impl<'a, 'c> Shrinking<'a, 'c> {
     /// Fewer and shorter delays with which the run ends in the same way.
     ///
     /// Errors: out of memory.
-    pub(crate) fn shrunk(&mut self, delays: Vec<Delay>) -> Result<Vec<Delay>, Memory> {
+    fn shrunk(&mut self, delays: Vec<Delay>) -> Result<Vec<Delay>, Memory> {
         let mut delays = delays;
         let mut size = delays.len();
         for _ in 0..usize::BITS {
@@ -165,6 +165,28 @@ impl<'a, 'c> Shrinking<'a, 'c> {
         }
         set_wait(delays.as_mut_slice(), index, long);
         Ok(())
+    }
+}
+
+/// Fewer and shorter delays than these with which a run ends as it is wanted, and what it prints; none if it doesn't with all of
+/// them.
+///
+/// Errors: out of memory.
+pub(crate) fn shrunk_run(
+    alloc: Global,
+    runner: Runner<'_>,
+    space: &mut Space<'_>,
+    wanted: Wanted,
+    delays: Vec<Delay>,
+) -> Result<Option<(Vec<Delay>, Vec<u8>)>, Memory> {
+    let mut shrinking = Shrinking::new(alloc, runner, space, wanted, delays.len());
+    if shrinking.ran(delays.as_slice())?.is_none() {
+        return Ok(None);
+    }
+    let delays = shrinking.shrunk(delays)?;
+    match shrinking.ran(delays.as_slice())? {
+        Some(Ran { output, .. }) => Ok(Some((delays, output))),
+        None => Ok(None),
     }
 }
 
