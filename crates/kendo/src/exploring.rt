@@ -74,7 +74,7 @@ pub(crate) fn explore_file(
         invocation,
         file,
     };
-    let outcome = task.find(bytes, &mut outputs, &mut verdict);
+    let outcome = find(task, invocation, bytes, &mut outputs, &mut verdict);
     let status = told(rt, alloc, None, &outcome)?;
     let status = status_of(invocation, &outcome, verdict, status);
     let refused = outputs.refused();
@@ -99,39 +99,40 @@ fn status_of(
     }
 }
 
-impl Task<'_, '_, '_> {
-    /// Explores the program, and writes what is found; what it comes to goes to `verdict`.
-    fn find(
-        self,
-        bytes: Vec<u8>,
-        outputs: &mut Outputs,
-        verdict: &mut Option<Verdict>,
-    ) -> Result<End, Fault>
-        ensures { Finds self.invocation.now.subcommand bytes.items result }
-    {
-        match self.invocation.subcommand {
-            Subcommand::Explore {
-                limit,
+/// What the command finds in the program if it explores it; what that comes to goes to `verdict`.
+fn find(
+    task: Task<'_, '_, '_>,
+    invocation: &Invocation<'_, '_>,
+    bytes: Vec<u8>,
+    outputs: &mut Outputs,
+    verdict: &mut Option<Verdict>,
+) -> Result<End, Fault>
+    ensures { Finds invocation.now.subcommand bytes.items result }
+{
+    match invocation.subcommand {
+        Subcommand::Explore {
+            limit,
+            tries,
+            states,
+        } => {
+            let options = Options {
                 tries,
                 states,
-            } => {
-                let options = Options {
-                    tries,
-                    states,
-                    limit,
-                    scope: Scope {
-                        outputs: !self.invocation.ends,
-                        lines_in_order: !self.invocation.unordered,
-                        leaks: self.invocation.leaks,
-                    },
-                };
-                self.explore(bytes, options, outputs, verdict)
-            }
-            _ => Err(Fault::Memory),
+                limit,
+                scope: Scope {
+                    outputs: !invocation.ends,
+                    lines_in_order: !invocation.unordered,
+                    leaks: invocation.leaks,
+                },
+            };
+            task.explore(bytes, options, outputs, verdict)
         }
+        _ => Err(Fault::Memory),
     }
+}
 
-    /// Like `find`, with these options.
+impl Task<'_, '_, '_> {
+    /// Explores the program, and writes what is found; what it comes to goes to `verdict`.
     fn explore(
         self,
         bytes: Vec<u8>,
