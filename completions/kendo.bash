@@ -9,7 +9,7 @@ _kendo() {
     fi
     case $previous in
         --workers | --limit | --from | --last) return ;;
-        --trace | --out)
+        --trace | --out | --pauses)
             mapfile -t COMPREPLY < <(compgen -f -- "$current")
             return
             ;;
@@ -21,9 +21,9 @@ _kendo() {
             ;;
         check) options='--explain' ;;
         list) options='--explain' ;;
-        reference) options='--limit --explain' ;;
+        reference) options='--limit --pauses --explain' ;;
         timeline) options='--limit --from --last --out --explain' ;;
-        run) options='--workers --limit --trace --explain' ;;
+        run) options='--workers --limit --trace --pauses --explain' ;;
     esac
     case $current in
         -*) mapfile -t COMPREPLY < <(compgen -W "$options --help" -- "$current") ;;

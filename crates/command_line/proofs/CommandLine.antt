@@ -6,6 +6,7 @@ use Rattle.std.proofs.lemmas.Bool.{false≢true}
 use Rattle.std.proofs.lemmas.List.{at_drop_all, at_drop_more}
 use Rattle.std.proofs.lemmas.Option.{none-some}
 use Rattle.std.specs.Bool.{Decides}
+use Rattle.std.specs.Option.{is_some}
 use Rattle.clap.specs.Words.{App, ReadsOne, Row, Rule, Text, all_of, first_of, one_of, with_rule, with_subcommand}
 use Rattle.command_line.specs.declared.arguments.Argument.{Argument}
 use Rattle.command_line.specs.declared.arguments.Invocation.{Invocation}
@@ -44,10 +45,11 @@ pub asked : (found : Option (Text × List Row)) (name : Text) (rows : List Row) 
     → Some (map (λ path. path.now) invocation.files.now) ≡ all_of (codes "FILE") rows
     → IsNumberThere (one_of (codes "from") rows) invocation.from → IsNumberThere (one_of (codes "last") rows) invocation.last
     → option_map (λ path. path.now) invocation.trace ≡ first_of (codes "trace") rows
+    → option_map (λ path. path.now) invocation.pauses ≡ first_of (codes "pauses") rows
     → option_map (λ path. path.now) invocation.out ≡ first_of (codes "out") rows
     → (IsTrue invocation.explains ↔ (first_of (codes "explain") rows ≡ Some (codes "true"))) → IsAsked found (Some invocation)
-asked found name rows invocation is does file files from last trace out explains =
-    subst (λ x. IsAsked x (Some invocation)) (sym is) (does, sym file, sym files, from, last, sym trace, sym out, explains)
+asked found name rows invocation is does file files from last trace pauses out explains =
+    subst (λ x. IsAsked x (Some invocation)) (sym is) (does, sym file, sym files, from, last, sym trace, sym pauses, sym out, explains)
 
 -- without a file it asks for nothing
 pub not_asked : (found : Option (Text × List Row)) (name : Text) (rows : List Row) → found ≡ Some (name, rows)
@@ -58,6 +60,11 @@ not_asked found name rows is no_file = subst (λ x. IsAsked x None) (sym is) (λ
 pub not_asked_files : (found : Option (Text × List Row)) (name : Text) (rows : List Row) → found ≡ Some (name, rows)
     → None ≡ all_of (codes "FILE") rows → IsAsked found None
 not_asked_files found name rows is no_files = subst (λ x. IsAsked x None) (sym is) (λ invocation asks. none-some _ (no_files ∙ asks.2))
+
+-- an option is there exactly if its value is
+pub there : {A B : Type 0} (f : A → B) (o : Option A) (p : Option B) → option_map f o ≡ p → is_some o ≡ is_some p
+there f None p e = ap is_some e
+there f (Some a) p e = ap is_some e
 
 -- an option that is there with a text, which is tested
 pub flag_there : (set : Bool) (value wanted : List ℕ) (found : Option (List ℕ)) → Some value ≡ found → Decides set (value ≡ wanted) → IsTrue set ↔ (found ≡ Some wanted)

@@ -1,5 +1,6 @@
 -- The command line: the commands that are taken, and what the words of one ask for.
-use Rattle.std.specs.Prelude.{◌≡◌, ◌↔◌, IsTrue, ℕ, ◌<◌, ◌-◌, ◌^◌, List, [], ◌∷◌, Option, Some, None, option_map, false, true, codes}
+use Rattle.std.specs.Prelude.{◌≡◌, ◌↔◌, ◌⊎◌, Bool, IsTrue, ℕ, ◌<◌, ◌-◌, ◌^◌, List, [], ◌∷◌, Option, Some, None, option_map, false, true, codes}
+use Rattle.std.specs.Option.{is_some}
 use Rattle.std.specs.Str.Parse.{IsNumeral, digits_value, without_leading_plus}
 use Rattle.std.specs.Prelude.{map}
 use Rattle.clap.specs.Lexer.{usize_max}
@@ -70,15 +71,27 @@ limit = number (codes "limit") (codes "1099511627776")
 abbrev pub trace : Rule
 trace = record (new_rule (codes "trace")) { long = Some (codes "trace"); value_names = 1 }
 
--- kendo reference FILE [--limit L] [--explain]
+-- which file the plan of pauses is in
+abbrev pub pauses : Rule
+pauses = record (new_rule (codes "pauses")) { long = Some (codes "pauses"); value_names = 1 }
+
+-- kendo reference FILE [--limit L] [--pauses PLAN]
+abbrev pub plain_reference : App
+plain_reference = with_rule (with_rule (with_rule (new_app (codes "reference")) file) limit) pauses
+
+-- kendo reference FILE [--limit L] [--pauses PLAN] [--explain]
 abbrev pub reference : App
-reference = with_rule (with_rule (with_rule (new_app (codes "reference")) file) limit) explain
+reference = with_rule plain_reference explain
 
 -- kendo run FILE [--workers N] [--limit L] [--trace TRACE]
-abbrev pub plain_run : App
-plain_run = with_rule (with_rule (with_rule (with_rule (new_app (codes "run")) file) workers) limit) trace
+abbrev pub traced_run : App
+traced_run = with_rule (with_rule (with_rule (with_rule (new_app (codes "run")) file) workers) limit) trace
 
--- kendo run FILE [--workers N] [--limit L] [--trace TRACE] [--explain]
+-- kendo run FILE [--workers N] [--limit L] [--trace TRACE] [--pauses PLAN]
+abbrev pub plain_run : App
+plain_run = with_rule traced_run pauses
+
+-- kendo run FILE [--workers N] [--limit L] [--trace TRACE] [--pauses PLAN] [--explain]
 abbrev pub run : App
 run = with_rule plain_run explain
 
@@ -134,6 +147,7 @@ rule_for arguments.Files = files
 rule_for arguments.Workers = workers
 rule_for arguments.Limit = limit
 rule_for arguments.Trace = trace
+rule_for arguments.Pauses = pauses
 rule_for arguments.From = from
 rule_for arguments.Last = last
 rule_for arguments.Out = out
@@ -160,21 +174,27 @@ abbrev pub IsNumber : Option Text → ℕ → Type 0
 IsNumber None n = ⊥
 IsNumber (Some text) n = IsNumeral 10 (without_leading_plus text) × (digits_value 10 (without_leading_plus text) ≡ n) × (n < 2 ^ 64)
 
+-- a plan of pauses is named
+abbrev pub is_paused : List Row → Bool
+is_paused rows = is_some (first_of (codes "pauses") rows)
+
 -- the command of this name, with these values, asks for this
 abbrev pub Does : (name : Text) → List Row → Subcommand → Type 0
 Does name rows subcommands.Check = name ≡ codes "check"
 Does name rows subcommands.List = name ≡ codes "list"
-Does name rows (subcommands.Reference limit) = (name ≡ codes "reference") × IsNumber (one_of (codes "limit") rows) limit
+Does name rows (subcommands.Reference limit) = (name ≡ codes "reference") × (is_paused rows ≡ false) × IsNumber (one_of (codes "limit") rows) limit
 Does name rows (subcommands.Timeline limit) = (name ≡ codes "timeline") × IsNumber (one_of (codes "limit") rows) limit
+Does name rows (subcommands.Paused limit) =
+    ((name ≡ codes "run") ⊎ (name ≡ codes "reference")) × (is_paused rows ≡ true) × IsNumber (one_of (codes "limit") rows) limit
 Does name rows (subcommands.Run workers limit) =
-    (name ≡ codes "run") × IsNumber (one_of (codes "workers") rows) workers × IsNumber (one_of (codes "limit") rows) limit
+    (name ≡ codes "run") × (is_paused rows ≡ false) × IsNumber (one_of (codes "workers") rows) workers × IsNumber (one_of (codes "limit") rows) limit
 
 -- the number that the text is, or none if it is no number
 abbrev pub IsNumberThere : Option Text → Option ℕ → Type 0
 IsNumberThere text (Some n) = IsNumber text n
 IsNumberThere text None = (n : ℕ) → IsNumber text n → ⊥
 
--- Like `Does`, but with the source files, the files of the trace and of the picture, the events of the picture, and whether errors and ends are explained
+-- Like `Does`, but with the source files, the files of the trace, of the plan and of the picture, the events of the picture, and whether errors and ends are explained
 abbrev pub Asks : Text × List Row → Invocation → Type 0
 Asks (name, rows) invocation =
     Does name rows invocation.subcommand × (first_of (codes "FILE") rows ≡ Some invocation.file.now)
@@ -182,6 +202,7 @@ Asks (name, rows) invocation =
     × IsNumberThere (one_of (codes "from") rows) invocation.from
     × IsNumberThere (one_of (codes "last") rows) invocation.last
     × (first_of (codes "trace") rows ≡ option_map (λ path. path.now) invocation.trace)
+    × (first_of (codes "pauses") rows ≡ option_map (λ path. path.now) invocation.pauses)
     × (first_of (codes "out") rows ≡ option_map (λ path. path.now) invocation.out)
     × (IsTrue invocation.explains ↔ (first_of (codes "explain") rows ≡ Some (codes "true")))
 

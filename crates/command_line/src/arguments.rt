@@ -1,6 +1,7 @@
 //! The command line.
 
 ghost use Rattle.std.specs.Prelude.{◌≡◌, ◌↔◌, codes, IfOk, IsTrue, Some};
+ghost use Rattle.std.specs.Option.{is_some};
 ghost use Rattle.clap.specs.Words.{app_of, first_of, found_of, one_of, rows_of, subcommand_rows_of, with_subcommand};
 ghost use Rattle.command_line.specs.CommandLine.{IsAsked, IsDone, IsLocal, IsNumberThere, IsRead, app_for, file, files, kendo, named, number, option, rule_for, whole};
 
@@ -35,6 +36,8 @@ pub struct Invocation<'m, 'a> {
     pub files: &'m [&'a str],
     /// The path of the trace file, as it was typed.
     pub trace: Option<&'a str>,
+    /// The path of the file with the plan of pauses, as it was typed.
+    pub pauses: Option<&'a str>,
     /// The path of the picture's file, as it was typed.
     pub out: Option<&'a str>,
     /// The number of the first event that a picture shows, counted from 1.
@@ -64,6 +67,11 @@ pub enum Subcommand {
         /// The last logical time; the recording judges whether it is 1 to 2^62.
         limit: u64,
     },
+    /// Its source is interpreted by a plan of pauses.
+    Paused {
+        /// The last logical time; the interpreter judges whether it is 1 to 2^62.
+        limit: u64,
+    },
     /// It is run.
     Run {
         /// How many workers; the run judges whether it is 1 to 64.
@@ -86,6 +94,8 @@ enum Argument {
     Limit,
     /// The file that the trace of a run goes to.
     Trace,
+    /// The file with the plan of pauses by which a program is run.
+    Pauses,
     /// The number of the first event that a picture shows.
     From,
     /// How many of the last events a picture shows.
@@ -122,7 +132,12 @@ const TEXT_COMMANDS: [TextCommand; 5] = [
     TextCommand {
         name: "reference",
         about: "Runs a program by interpreting its source",
-        arguments: &[Argument::File, Argument::Limit, Argument::Explain],
+        arguments: &[
+            Argument::File,
+            Argument::Limit,
+            Argument::Pauses,
+            Argument::Explain,
+        ],
     },
     TextCommand {
         name: "timeline",
@@ -144,6 +159,7 @@ const TEXT_COMMANDS: [TextCommand; 5] = [
             Argument::Workers,
             Argument::Limit,
             Argument::Trace,
+            Argument::Pauses,
             Argument::Explain,
         ],
     },
@@ -229,6 +245,12 @@ fn argument_of<'a>(alloc: Global, argument: Argument) -> Arg<'a>
             "Writes each event with its logical time to this file",
         )
         .value_name("TRACE"),
+        Argument::Pauses => option_argument(
+            alloc,
+            "pauses",
+            "Runs the program by the plan of pauses in this file, on one thread",
+        )
+        .value_name("PLAN"),
         Argument::From => whole_argument(
             alloc,
             "from",
@@ -320,16 +342,26 @@ fn is_set(matches: &ArgMatches<'_>, name: &str) -> bool
     }
 }
 
+/// Whether an option with a value is there.
+fn is_named(matches: &ArgMatches<'_>, name: &str) -> bool
+    ensures { result ≡ is_some (first_of name.now (rows_of (found_of matches.now))) }
+{
+    matches.get_str(name).is_some()
+}
+
 /// What the command of a name does, with the values that it has.
 fn subcommand_named(name: &str, matches: &ArgMatches<'_>) -> Option<Subcommand>
     ensures { IsDone name.now (rows_of (found_of matches.now)) result }
 {
     let limit = option_number(matches, "limit");
+    let paused = is_named(matches, "pauses");
     match name {
         "check" => Some(Subcommand::Check),
         "list" => Some(Subcommand::List),
+        "reference" if paused => Some(Subcommand::Paused { limit: limit? }),
         "reference" => Some(Subcommand::Reference { limit: limit? }),
         "timeline" => Some(Subcommand::Timeline { limit: limit? }),
+        "run" if paused => Some(Subcommand::Paused { limit: limit? }),
         "run" => Some(Subcommand::Run {
             workers: option_number(matches, "workers")?,
             limit: limit?,
@@ -349,6 +381,7 @@ pub fn invocation_of<'m, 'a>(matches: &'m ArgMatches<'a>) -> Option<Invocation<'
         return None;
     };
     let trace = matches.get_str("trace");
+    let pauses = matches.get_str("pauses");
     let out = matches.get_str("out");
     let from = option_number(matches, "from");
     let last = option_number(matches, "last");
@@ -358,6 +391,7 @@ pub fn invocation_of<'m, 'a>(matches: &'m ArgMatches<'a>) -> Option<Invocation<'
         file: matches.get_str("FILE")?,
         files,
         trace,
+        pauses,
         out,
         from,
         last,

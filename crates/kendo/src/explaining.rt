@@ -54,7 +54,10 @@ fn end_explained(
     end: End,
 ) -> Result<Vec<u8>, Fault> {
     match invocation.subcommand {
-        Subcommand::Check | Subcommand::List | Subcommand::Timeline { .. } => Ok(Vec::new(alloc)),
+        Subcommand::Check
+        | Subcommand::List
+        | Subcommand::Paused { .. }
+        | Subcommand::Timeline { .. } => Ok(Vec::new(alloc)),
         Subcommand::Reference { limit } | Subcommand::Run { limit, .. } => {
             explain_end(alloc, file, bytes, limit, end)
         }

@@ -6,20 +6,23 @@ ghost use Rattle.kendo_shell.specs.Answers.{Finds, IsStatus, Obeys, Tells};
 
 mod explaining;
 mod pictures;
+mod plans;
 
 use command_line::arguments::{Invocation, Subcommand, command, invocation_of};
 use explaining::{explain, kept_text};
 use go_text::{Fault, Memory};
 use kendo_base::run_text;
 use kendo_code::list_bytes;
-use kendo_front::reference_bytes;
+use kendo_front::{paused_bytes, reference_bytes};
 use kendo_shell::USAGE;
 use kendo_shell::checking::check;
 use kendo_shell::files::opened;
 use kendo_shell::streams::{exit, tell, told};
 use kendo_shell::tracing::{Outputs, Trace};
 use kendo_shell::words::{first_failure, name_of, show, with_environment, words_in};
+use pauses::Plan;
 use pictures::picture;
+use plans::plan_of;
 use std::alloc::Global;
 use std::process::ExitCode;
 use std::sync::Wait;
@@ -70,16 +73,27 @@ fn perform(
 ) -> Result<u8, Memory>
     ensures { IfOk result (λ status. (status ≡ USAGE) ⊎ Tells invocation.now.subcommand status) }
 {
-    if invocation.from.is_some() && invocation.last.is_some() {
-        tell(
-            rt,
-            b"kendo: --from and --last can't be used together\n".as_slice(),
-        );
+    if let Some(line) = conflict(invocation) {
+        tell(rt, line);
         return Ok(USAGE);
     }
     let invocation = &with_environment(rt, invocation);
-    let first = perform_on(rt, threads, alloc, invocation, invocation.file)?;
-    perform_rest(rt, threads, alloc, invocation, first)
+    let Some(plan) = plan_of(rt, alloc, invocation)? else {
+        return Ok(USAGE);
+    };
+    let first = perform_on(rt, threads, alloc, invocation, &plan, invocation.file)?;
+    perform_rest(rt, threads, alloc, invocation, &plan, first)
+}
+
+/// The line on standard error if two options can't be used together.
+fn conflict(invocation: &Invocation<'_, '_>) -> Option<&'static [u8]> {
+    if invocation.from.is_some() && invocation.last.is_some() {
+        return Some(b"kendo: --from and --last can't be used together\n");
+    }
+    if invocation.trace.is_some() && invocation.pauses.is_some() {
+        return Some(b"kendo: --trace and --pauses can't be used together\n");
+    }
+    None
 }
 
 /// Like `perform`, for all files but the first, whose status is `first`.
@@ -88,6 +102,7 @@ fn perform_rest(
     threads: &(impl Threads + Wait + Sync),
     alloc: Global,
     invocation: &Invocation<'_, '_>,
+    plan: &Plan,
     first: u8,
 ) -> Result<u8, Memory>
     requires { (first ≡ USAGE) ⊎ Tells invocation.now.subcommand first }
@@ -95,7 +110,7 @@ fn perform_rest(
 {
     let mut status = first;
     for file in invocation.files.iter().skip(1) {
-        let next = perform_on(rt, threads, alloc, invocation, file)?;
+        let next = perform_on(rt, threads, alloc, invocation, plan, file)?;
         status = first_failure(status, next);
     }
     Ok(status)
@@ -107,12 +122,13 @@ fn perform_on(
     threads: &(impl Threads + Wait + Sync),
     alloc: Global,
     invocation: &Invocation<'_, '_>,
+    plan: &Plan,
     file: &str,
 ) -> Result<u8, Memory>
     ensures { IfOk result (λ status. (status ≡ USAGE) ⊎ Tells invocation.now.subcommand status) }
 {
     match opened(rt, alloc, invocation, file, name_of(invocation, file))? {
-        Some((bytes, trace)) => answer(rt, threads, alloc, invocation, file, bytes, trace),
+        Some((bytes, trace)) => answer(rt, threads, alloc, invocation, plan, file, bytes, trace),
         None => Ok(USAGE),
     }
 }
@@ -125,6 +141,7 @@ fn answer(
     threads: &(impl Threads + Wait + Sync),
     alloc: Global,
     invocation: &Invocation<'_, '_>,
+    plan: &Plan,
     file: &str,
     bytes: Vec<u8>,
     trace: Trace,
@@ -133,7 +150,7 @@ fn answer(
 {
     let kept = kept_text(alloc, invocation, bytes.as_slice());
     let mut outputs = Outputs::new(rt, trace);
-    let outcome = find(threads, alloc, invocation, bytes, &mut outputs);
+    let outcome = find(threads, alloc, invocation, plan, bytes, &mut outputs);
     let status = told(rt, alloc, name_of(invocation, file), &outcome)?;
     explain(
         rt,
@@ -152,6 +169,7 @@ fn find(
     threads: &(impl Threads + Wait + Sync),
     alloc: Global,
     invocation: &Invocation<'_, '_>,
+    plan: &Plan,
     bytes: Vec<u8>,
     outputs: &mut Outputs,
 ) -> Result<End, Fault>
@@ -161,6 +179,7 @@ fn find(
         Subcommand::Check => check(alloc, bytes),
         Subcommand::List => list(alloc, bytes, outputs),
         Subcommand::Reference { limit } => interpret(alloc, bytes, limit, outputs),
+        Subcommand::Paused { limit } => pause(alloc, bytes, plan, limit, outputs),
         Subcommand::Timeline { limit } => picture(alloc, bytes, limit, invocation, outputs),
         Subcommand::Run { workers, limit } => {
             run_text(threads, alloc, bytes, workers, limit, outputs)
@@ -181,5 +200,19 @@ fn interpret(alloc: Global, bytes: Vec<u8>, limit: u64, outputs: &mut Outputs) -
     ensures { Finds (Subcommand.Reference limit) bytes.items result }
 {
     let end = reference_bytes(alloc, bytes, limit, &mut outputs.standard)?;
+    Ok(end)
+}
+
+/// Interprets the source of the program by the plan. It prints to standard output.
+fn pause(
+    alloc: Global,
+    bytes: Vec<u8>,
+    plan: &Plan,
+    limit: u64,
+    outputs: &mut Outputs,
+) -> Result<End, Fault>
+    ensures { Finds (Subcommand.Paused limit) bytes.items result }
+{
+    let end = paused_bytes(alloc, bytes, plan, limit, &mut outputs.standard)?;
     Ok(end)
 }

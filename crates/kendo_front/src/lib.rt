@@ -1,10 +1,12 @@
-//! What needs no code: the run of a text by the interpreter, and what is said of an end.
+//! What needs no code: the run of a text by the interpreter, with and without pauses, and what is said of an end.
 #![tactic(auto)]
 
 mod agreement;
 mod explanation;
 mod interpretation;
+mod pausing;
 
 pub use agreement::runs_agree;
 pub use explanation::explain_end;
 pub use interpretation::reference_bytes;
+pub use pausing::paused_bytes;

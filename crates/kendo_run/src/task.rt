@@ -31,6 +31,9 @@ pub(crate) fn task_of(invocation: &Invocation<'_, '_>) -> Option<Task>
     match invocation.subcommand {
         Subcommand::Check => Some(Task::Check),
         Subcommand::Run { workers, limit } => Some(Task::Run { workers, limit }),
-        Subcommand::List | Subcommand::Reference { .. } | Subcommand::Timeline { .. } => None,
+        Subcommand::List
+        | Subcommand::Reference { .. }
+        | Subcommand::Paused { .. }
+        | Subcommand::Timeline { .. } => None,
     }
 }

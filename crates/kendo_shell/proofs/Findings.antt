@@ -102,7 +102,7 @@ list_stops text fault (inl is) refused why read = unreadable subcommands.List te
 list_stops text fault (inr (inl is)) refused why read = no_memory subcommands.List text fault is
 list_stops text fault (inr (inr is)) refused why read = list_loses text fault is (read (ap (λ (f : Fault). Err f) is))
 
--- ---- a text that is interpreted, or of whose run a picture is made
+-- ---- a text that is interpreted, with or without pauses, or of whose run a picture is made
 
 pub reference_loses : (limit : ℕ) (text : List ℕ) (fault : Fault) → fault ≡ faults.Write → IsLimit limit → HasReading text → IsReason (subcommands.Reference limit) text fault
 reference_loses limit text fault is bounds read = subst (IsReason (subcommands.Reference limit) text) (sym is) (bounds, read)
@@ -116,6 +116,19 @@ reference_stops limit text fault bad (inr (inr (inl is))) refused why read =
     reference_loses limit text fault is (limit_before limit fault bad (inr is)) (read (ap (λ (f : Fault). Err f) is))
 reference_stops limit text fault bad (inr (inr (inr is))) refused why read =
     subst (IsReason (subcommands.Reference limit) text) (sym is) (bad.0 (ap (λ (f : Fault). Err f) is))
+
+pub paused_loses : (limit : ℕ) (text : List ℕ) (fault : Fault) → fault ≡ faults.Write → IsLimit limit → HasReading text → IsReason (subcommands.Paused limit) text fault
+paused_loses limit text fault is bounds read = subst (IsReason (subcommands.Paused limit) text) (sym is) (bounds, read)
+
+pub paused_stops : (limit : ℕ) (text : List ℕ) (fault : Fault) → IsErrOf {T = End} (Err fault) faults.BadLimit ↔ (IsLimit limit → ⊥)
+    → IsRefusal fault ⊎ ((fault ≡ faults.Memory) ⊎ ((fault ≡ faults.Write) ⊎ (fault ≡ faults.BadLimit))) → (IsRefusal fault → HasNoReading text)
+    → (IsRefusal fault → IsWhy text fault) → (IsErrOf {T = End} (Err fault) faults.Write → HasReading text) → IsReason (subcommands.Paused limit) text fault
+paused_stops limit text fault bad (inl is) refused why read = unreadable (subcommands.Paused limit) text fault (limit_before limit fault bad (inl is)) is (refused is) (why is)
+paused_stops limit text fault bad (inr (inl is)) refused why read = no_memory (subcommands.Paused limit) text fault is
+paused_stops limit text fault bad (inr (inr (inl is))) refused why read =
+    paused_loses limit text fault is (limit_before limit fault bad (inr is)) (read (ap (λ (f : Fault). Err f) is))
+paused_stops limit text fault bad (inr (inr (inr is))) refused why read =
+    subst (IsReason (subcommands.Paused limit) text) (sym is) (bad.0 (ap (λ (f : Fault). Err f) is))
 
 timeline_loses : (limit : ℕ) (text : List ℕ) (fault : Fault) → fault ≡ faults.Write → IsLimit limit → HasReading text → IsReason (subcommands.Timeline limit) text fault
 timeline_loses limit text fault is bounds read = subst (IsReason (subcommands.Timeline limit) text) (sym is) (bounds, read)

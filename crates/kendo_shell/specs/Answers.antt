@@ -14,6 +14,8 @@ use Rattle.command_line.specs.declared.arguments.Invocation.{Invocation}
 use Rattle.kendo_report.specs.Outcome.{report_status}
 use Rattle.kendo_reading.specs.Reading.{HasNoReading, IsWhy, Reads}
 use Rattle.whole_run.specs.Runs.{IsLimit, IsWorkers}
+use Rattle.pauses.specs.Paused.{paused}
+use Rattle.pauses.specs.Plans.{Pause}
 use Rattle.go_text.specs.declared.fault.Fault.{Fault}
 use Rattle.go_text.specs.declared.fault.Fault.TheVariants as faults
 use Rattle.syntax.specs.Tree.{File}
@@ -29,11 +31,16 @@ HasReading text = (file : File) × Reads text file
 abbrev pub EndsAs : List ℕ → ℕ → End → Type 0
 EndsAs text limit end = (file : File) × (n : ℕ) × Reads text file × (end_of (moment (source_kind file) limit n) ≡ Some end)
 
+-- that of goroutines that keep to a plan does
+abbrev pub EndsPaused : List ℕ → ℕ → End → Type 0
+EndsPaused text limit end = (ps : List Pause) × (file : File) × (n : ℕ) × Reads text file × (end_of (moment (paused (source_kind file) ps) limit n) ≡ Some end)
+
 -- the command's workers and its limit are within their bounds
 abbrev pub IsInBounds : Subcommand → Type 0
 IsInBounds (subcommands.Run workers limit) = IsWorkers workers × IsLimit limit
 IsInBounds (subcommands.Reference limit) = IsLimit limit
 IsInBounds (subcommands.Timeline limit) = IsLimit limit
+IsInBounds (subcommands.Paused limit) = IsLimit limit
 IsInBounds subcommand = Unit {0}
 
 -- why the command finds no end: want of memory; workers or a limit out of their bounds, the workers first; else a writer that refused bytes, of a text that
@@ -45,6 +52,7 @@ IsReason subcommand text faults.BadWorkers = ⊥
 IsReason (subcommands.Run workers limit) text faults.BadLimit = IsWorkers workers × (IsLimit limit → ⊥)
 IsReason (subcommands.Reference limit) text faults.BadLimit = IsLimit limit → ⊥
 IsReason (subcommands.Timeline limit) text faults.BadLimit = IsLimit limit → ⊥
+IsReason (subcommands.Paused limit) text faults.BadLimit = IsLimit limit → ⊥
 IsReason subcommand text faults.BadLimit = ⊥
 IsReason subcommands.Check text faults.Write = ⊥
 IsReason subcommand text faults.Write = IsInBounds subcommand × HasReading text
@@ -58,6 +66,7 @@ Finds subcommands.Check text (Ok end) = (end ≡ Finished) × HasReading text
 Finds subcommands.List text (Ok end) = (end ≡ Finished) × HasReading text
 Finds (subcommands.Reference limit) text (Ok end) = IsLimit limit × EndsAs text limit end
 Finds (subcommands.Timeline limit) text (Ok end) = (end ≡ Finished) × IsLimit limit × HasReading text
+Finds (subcommands.Paused limit) text (Ok end) = IsLimit limit × EndsPaused text limit end
 Finds (subcommands.Run workers limit) text (Ok end) = IsWorkers workers × IsLimit limit × EndsAs text limit end
 Finds subcommand text (Err fault) = IsReason subcommand text fault
 

@@ -70,6 +70,31 @@ pub fn opened(
     }
 }
 
+/// The bytes of the file at `path`, which is not a source file. `None` if it can't be read, or is longer than a source file may be:
+/// standard error says so, and, if the command explains, why.
+///
+/// Errors: `Memory`.
+pub fn other_bytes(
+    rt: &HostRuntime,
+    alloc: Global,
+    path: &str,
+    explains: bool,
+) -> Result<Option<Vec<u8>>, Memory> {
+    let reason = match read_file(rt, alloc, path) {
+        Ok(bytes) if bytes.len() <= MAX_LENGTH => return Ok(Some(bytes)),
+        Ok(_) => Reason::TooLong,
+        Err(error) => Reason::of(&error),
+    };
+    let unusable = Unusable::new("read", path, reason);
+    unusable.report(rt, alloc, None, explains)?;
+    Ok(None)
+}
+
+/// The bytes of a file, up to one more than a source file may have.
+fn read_file(rt: &HostRuntime, alloc: Global, path: &str) -> io::Result<Vec<u8>> {
+    read_source(alloc, File::open(rt, path)?)
+}
+
 /// The bytes of a source file, and which file it is.
 fn read(rt: &HostRuntime, alloc: Global, path: &str) -> io::Result<(Vec<u8>, Option<Identity>)> {
     if path == STANDARD_INPUT {

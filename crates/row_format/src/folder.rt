@@ -24,6 +24,8 @@ pub enum FileKind {
     Output,
     /// `.trace`: the events of its run.
     Trace,
+    /// `.pauses`: the plan of pauses by which it is run.
+    Pauses,
     /// What is made of it.
     Made(Made),
 }
@@ -55,6 +57,7 @@ impl FileKind {
             "words" => Some(FileKind::Words),
             "row" => Some(FileKind::Row),
             "out" => Some(FileKind::Output),
+            "pauses" => Some(FileKind::Pauses),
             "svg" => Some(FileKind::Made(Made::Drawing)),
             "explained" => Some(FileKind::Made(Made::Explanation)),
             "list" => Some(FileKind::Made(Made::Listing)),

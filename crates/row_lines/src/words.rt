@@ -53,6 +53,7 @@ fn told(alloc: Global, asked: &Invocation<'_, '_>) -> Result<String, AllocError>
         file,
         files,
         trace,
+        pauses,
         out,
         from,
         last,
@@ -66,9 +67,18 @@ fn told(alloc: Global, asked: &Invocation<'_, '_>) -> Result<String, AllocError>
         more.push_str(other.as_str())?;
     }
     let events = events(alloc, from, last)?;
+    let plan = plan(alloc, pauses)?;
     format!(in alloc;
-        "file {file:?} {more}trace {trace:?} out {out:?} {events}explains {explains}: {done}"
+        "file {file:?} {more}trace {trace:?} {plan}out {out:?} {events}explains {explains}: {done}"
     )
+}
+
+/// The file of the plan, if one is named.
+fn plan(alloc: Global, pauses: Option<&str>) -> Result<String, AllocError> {
+    match pauses {
+        None => Ok(String::new(alloc)),
+        Some(path) => format!(in alloc; "pauses {path:?} "),
+    }
 }
 
 /// The events that a picture shows, if they are chosen.
@@ -85,6 +95,7 @@ fn done(alloc: Global, subcommand: Subcommand) -> Result<String, AllocError> {
         Subcommand::Check => "check".to_string(alloc),
         Subcommand::List => "list".to_string(alloc),
         Subcommand::Reference { limit } => format!(in alloc; "reference to {limit}"),
+        Subcommand::Paused { limit } => format!(in alloc; "paused to {limit}"),
         Subcommand::Timeline { limit } => format!(in alloc; "timeline to {limit}"),
         Subcommand::Run { workers, limit } => format!(in alloc; "run by {workers} to {limit}"),
     }

@@ -1,7 +1,9 @@
 //! What a file tells of its text, and whether that comes of it.
 
 use crate::reading::{explained, listing, picture, recorded_lines};
-use crate::run::{Ran, check_runs};
+use crate::run::{Ran, check_paused, check_runs};
+use go_text::Fault;
+use pauses::{Plan, PlanError};
 use row_format::flaw::{Flaw, same};
 use row_format::folder::{FileKind, Made, RowFile};
 use row_lines::{spans, tokens};
@@ -33,6 +35,7 @@ pub(crate) fn check<R: Files + AllocGlobal + Threads + Wait + Sync>(
             None => check_run(rt, file),
         },
         FileKind::Trace => check_trace(rt, file),
+        FileKind::Pauses => check_plan(rt, file),
         FileKind::Made(made) => check_made(rt, file, made),
     }
 }
@@ -53,7 +56,29 @@ fn check_run<R: Files + AllocGlobal + Threads + Wait + Sync>(
 ) -> Result<(), Flaw> {
     let text = file.text(rt)?;
     let output = output(rt, file)?;
-    check_row(rt, file, &text, &output)
+    match plan(rt, file)? {
+        Some(plan) => check_paused(rt.alloc(), &text, &plan, &file.row(rt)?, &output),
+        None => check_row(rt, file, &text, &output),
+    }
+}
+
+/// Sees whether the file of a plan is one, and belongs to a text.
+fn check_plan<R: Files + AllocGlobal>(rt: &R, file: &RowFile<'_>) -> Result<(), Flaw> {
+    file.text(rt)?;
+    plan(rt, file)?;
+    Ok(())
+}
+
+/// The plan beside a file, if there is one.
+fn plan<R: Files + AllocGlobal>(rt: &R, file: &RowFile<'_>) -> Result<Option<Plan>, Flaw> {
+    let Some(bytes) = file.beside(rt, "pauses")? else {
+        return Ok(None);
+    };
+    match Plan::read(rt.alloc(), &bytes) {
+        Ok(plan) => Ok(Some(plan)),
+        Err(PlanError::Broken(line)) => Err(Flaw::Unread(line as usize)),
+        Err(PlanError::Memory) => Err(Flaw::Refused(Fault::Memory)),
+    }
 }
 
 /// What the `.out` beside a file tells: nothing where there is none.

@@ -2,9 +2,10 @@
 
 use go_text::Fault;
 use kendo_base::{Gate, run_bytes};
-use kendo_front::reference_bytes;
+use kendo_front::{paused_bytes, reference_bytes};
 use kendo_reading::check_bytes;
 use kendo_report::report;
+use pauses::Plan;
 use row_format::flaw::{Flaw, same};
 use row_format::row::Row;
 use std::alloc::Global;
@@ -60,6 +61,14 @@ impl Ran {
         let bytes = Vec::from_slice(alloc, text)?;
         let mut out = Flagged::new(Vec::new(alloc));
         let outcome = reference_bytes(alloc, bytes, limit, &mut out);
+        Ran::told(alloc, outcome, out.into_inner(), Vec::new(alloc))
+    }
+
+    /// The run of a text by the interpreter, with the pauses of a plan.
+    fn paused(alloc: Global, text: &[u8], plan: &Plan, limit: u64) -> Result<Ran, Flaw> {
+        let bytes = Vec::from_slice(alloc, text)?;
+        let mut out = Flagged::new(Vec::new(alloc));
+        let outcome = paused_bytes(alloc, bytes, plan, limit, &mut out);
         Ran::told(alloc, outcome, out.into_inner(), Vec::new(alloc))
     }
 
@@ -153,6 +162,18 @@ pub(crate) fn check_runs<R: Threads + Wait + Sync>(
         check_ran(rt, alloc, text, row, *workers, output)?;
     }
     Ok(())
+}
+
+/// Runs a text by a plan, and compares what comes of it.
+pub(crate) fn check_paused(
+    alloc: Global,
+    text: &[u8],
+    plan: &Plan,
+    row: &Row,
+    output: &[u8],
+) -> Result<(), Flaw> {
+    let ran = Ran::paused(alloc, text, plan, row.limit)?;
+    ran.check(alloc, row, output, "--pauses")
 }
 
 /// Runs a text with so many workers, and compares what comes of it.

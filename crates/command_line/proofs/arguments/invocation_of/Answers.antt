@@ -22,4 +22,5 @@ returns c =
     (ap (option_map (λ s. map (λ v. v.now) s.now)) (sym (c.in_ok-files.was)) ∙ c.get_strs.ensures ∙ raw_values-rows (found_of c.in-Some.matches.now) (codes "FILE"))
     c.option_number-from.ensures c.option_number-last.ensures
     (c.get_str-trace.ensures ∙ first_value-rows (found_of c.in-Some.matches.now) (codes "trace"))
+    (c.get_str-pauses.ensures ∙ first_value-rows (found_of c.in-Some.matches.now) (codes "pauses"))
     (c.get_str-out.ensures ∙ first_value-rows (found_of c.in-Some.matches.now) (codes "out")) c.is_set-explains.ensures

@@ -1,0 +1,4 @@
+pub mod Again
+pub mod Masks
+pub mod Offers
+pub mod Retelling
