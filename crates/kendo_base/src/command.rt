@@ -1,7 +1,10 @@
 //! The run of a program for a command line.
 
+ghost use Rattle.std.specs.Prelude.{◌≡◌, ◌⊎◌, IsErrOf, true};
 ghost use Rattle.command_line.specs.declared.arguments.Subcommand.TheVariants as subcommands;
 ghost use Rattle.kendo_shell.specs.Answers.{Finds};
+ghost use Rattle.kendo_shell.specs.Streams.{has_refused};
+ghost use Rattle.kendo_shell.specs.Traces.{has_lost};
 
 use crate::run::run_bytes;
 use go_text::Fault;
@@ -25,7 +28,7 @@ impl Gate for Open {
 
 /// Runs the program: its output goes to standard output, the lines of its events to the file of the trace, if there is one.
 ///
-/// Errors: those of `run_bytes`.
+/// Errors: those of `run_bytes`. `Write` only after one of the outputs refused bytes.
 pub fn run_text(
     leave: &(impl Threads + Wait + Sync),
     alloc: Global,
@@ -34,7 +37,8 @@ pub fn run_text(
     limit: u64,
     outputs: &mut Outputs,
 ) -> Result<End, Fault>
-    ensures { Finds (subcommands.Run workers limit) bytes.items result }
+    ensures found { Finds (subcommands.Run workers limit) bytes.items result }
+    ensures write { IsErrOf result Fault.Write → (has_refused outputs.new.standard ≡ true) ⊎ (has_lost outputs.new.file ≡ true) }
 {
     let Outputs { standard, file } = outputs;
     let end = run_bytes(leave, alloc, bytes, limit, workers, &Open, standard, file)?;

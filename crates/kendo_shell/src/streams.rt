@@ -1,6 +1,7 @@
 //! The standard streams, and the exit status.
 
-ghost use Rattle.std.specs.Prelude.{◌≡◌, IfOk, IsTrue};
+ghost use Rattle.std.specs.Prelude.{◌≡◌, IfOk, IsErr, IsTrue};
+ghost use Rattle.std.specs.Process.{exit_status};
 ghost use Rattle.kendo_report.specs.Outcome.{report_status};
 
 use crate::MEMORY;
@@ -116,7 +117,10 @@ pub(crate) fn tell_as(
 }
 
 /// How the program exits with this status, or out of memory.
-pub fn exit(rt: &HostRuntime, found: Result<u8, Memory>) -> ExitCode {
+pub fn exit(rt: &HostRuntime, found: Result<u8, Memory>) -> ExitCode
+    ensures found { IfOk found (λ status. exit_status result ≡ status) }
+    ensures memory { IsErr found → exit_status result ≡ MEMORY }
+{
     let status = match found {
         Ok(status) => status,
         Err(Memory) => {
