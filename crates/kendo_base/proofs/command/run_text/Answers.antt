@@ -2,14 +2,14 @@ use Rattle.std.proofs.lemmas.Result.{err_from_is_err_and}
 use Rattle.kendo_shell.proofs.Findings.{both_ended, run_stops}
 use Rattle.kendo_base.proofs.command.run_text.Goals as goal
 
-pub returns-in_err-end : goal.returns-in_err-end
-returns-in_err-end g c =
+pub returns-in_err-end-clause-found : goal.returns-in_err-end-clause-found
+returns-in_err-end-clause-found g c =
     let p = err_from_is_err_and c.from_residual.result c.from_residual.ensures.1 in
     let e = c.in_err-end.ensures in
     rw (p.1, p.2) (run_stops c.args.workers c.args.limit c.args.bytes.items _ e.workers e.limit e.only e.refused e.why e.reading)
 
-pub returns : goal.returns
-returns g c =
+pub returns-clause-found : goal.returns-clause-found
+returns-clause-found g c =
     let made = c.in_ok-end.ensures in
     let bounds = both_ended c.args.workers c.args.limit _ made.workers made.limit in
     let whole = made.whole in
