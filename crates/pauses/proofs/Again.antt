@@ -86,9 +86,9 @@ decimal_value : (n : ℕ) → n < 10 ^ 18 → digits_after 0 (decimal n) ≡ Som
 decimal_value n h =
     let P : ℕ → List ℕ → Type 0 = λ k ds. k < 10 ^ 18 → digits_after 0 ds ≡ Some k in
     let one : (k : ℕ) → k < 10 → P k ((48 + k) ∷ []) = λ k small low.
-        digit_by (10 * 0 + (48 + k - 48)) _ (and_from _ _ (digit_test k small) (small_test _ (omega (arith, small)))) ∙ ap (λ (x : ℕ). Some x) (omega arith) in
+    digit_by (10 * 0 + (48 + k - 48)) _ (and_from _ _ (digit_test k small) (small_test _ (omega (arith, small)))) ∙ ap (λ (x : ℕ). Some x) (omega arith) in
     let more : (k : ℕ) (ds : List ℕ) → 10 ≤ k → P (k / 10) ds → P k (ds ++ ((48 + k % 10) ∷ [])) = λ k ds large before low.
-        digit_more 0 (k / 10) (48 + k % 10) ds (before (omega (arith, low))) (digit_test (k % 10) (omega arith)) (small_test _ (omega (arith, low))) ∙ ap (λ (x : ℕ). Some x) (omega arith) in
+    digit_more 0 (k / 10) (48 + k % 10) ds (before (omega (arith, low))) (digit_test (k % 10) (omega arith)) (small_test _ (omega (arith, low))) ∙ ap (λ (x : ℕ). Some x) (omega arith) in
     decimal_by_steps P one more n (below n h) h
 
 number_by : (ds : List ℕ) (n : ℕ) → 48 < get_or ds 0 0 → digits_after 0 ds ≡ Some n → number ds ≡ Some n
@@ -154,6 +154,7 @@ word_lacks mark (Wait ticks) low = search_lacks 119 97 105 116
   where
     apart : (x : ℕ) → 48 ≤ x → not (x == mark) ≡ true
     apart x h = not_from_false _ (ne_eqb x mark (λ e. omega (arith, e, h, low)))
+
     search_lacks : (a b c d : ℕ) → lacks mark (codes "wait") ≡ true
     search_lacks a b c d = and_from _ _ (apart 119 (omega arith)) (and_from _ _ (apart 97 (omega arith)) (and_from _ _ (apart 105 (omega arith)) (and_from _ _ (apart 116 (omega arith)) refl)))
 word_lacks mark (Clause clause) low =
