@@ -19,4 +19,4 @@ pub returns-in-Paused : goal.returns-in-Paused
 returns-in-Paused g c = subst (λ (s : Subcommand). Finds s c.args.bytes.items c.pause.result) (sym c.in-Paused.is) c.pause.ensures
 
 pub returns-in-Run : goal.returns-in-Run
-returns-in-Run g c = subst (λ (s : Subcommand). Finds s c.args.bytes.items c.run_text.result) (sym c.in-Run.is) c.run_text.ensures
+returns-in-Run g c = subst (λ (s : Subcommand). Finds s c.args.bytes.items c.run_text.result) (sym c.in-Run.is) c.run_text.ensures.found
