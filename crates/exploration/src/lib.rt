@@ -2,11 +2,16 @@
 #![tactic(auto)]
 
 mod exploration;
+mod findings;
 mod lines;
 mod runner;
 mod scene;
 mod shown;
 mod shrink;
+mod telling;
 
-pub use exploration::{Exploration, Options, Verdict};
+pub use exploration::{Exploration, Options};
+pub use findings::{Findings, Verdict};
+pub use runner::{Ran, Runner};
+pub use scene::Scene;
 pub use shown::Shown;

@@ -102,7 +102,7 @@ pub(crate) fn push_shown_end(
         Ending::Deadlock | Ending::Leak => push_waiting(said, scene, locals, shown),
         _ => {}
     }
-    if let Some(local) = shown.last {
+    if let Some(local) = shown.scene.last {
         said.text("  then ");
         scene.push_goroutine(said, locals, local);
         said.text(" panics\n  ");
@@ -112,7 +112,7 @@ pub(crate) fn push_shown_end(
 
 /// Appends the goroutines that wait at the end.
 fn push_waiting(said: &mut Words, scene: Scene<'_>, locals: &LocalStates<'_>, shown: &Shown) {
-    for local in shown.world.locals.iter() {
+    for local in shown.scene.world.locals.iter() {
         said.text("  then ");
         scene.push_goroutine(said, locals, *local);
         said.text(" waits\n  ");

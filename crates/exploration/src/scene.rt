@@ -14,7 +14,7 @@ use syntax::{NodeId, Tree};
 
 /// A program's text, tree and code, and the path of its file.
 #[derive(Clone, Copy)]
-pub(crate) struct Scene<'a> {
+pub struct Scene<'a> {
     pub alloc: Global,
     pub path: &'a str,
     pub source: &'a Source,

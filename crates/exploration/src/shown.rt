@@ -1,26 +1,38 @@
 //! Ends that runs of the interpreter have shown.
 
-use crate::runner::Runner;
-use crate::shrink::{Wanted, shrunk_run};
+ghost use Rattle.std.specs.Prelude.{◌≡◌, IfOk, IfSome};
+ghost use Rattle.checker.specs.Trees.{tree_in};
+ghost use Rattle.exploration.specs.Shown.{IsShown};
+ghost use Rattle.syntax.specs.Spans.{tree_of};
+
+use crate::runner::{PausedRun, Runner};
+use crate::shrink::{Wanted, shrunk_delays};
 use go_text::Memory;
 use orders::Found;
 use program_states::{Ending, Space, Step, World};
 use schedule::{Delay, Schedule, Standing, plan_of, schedule_of};
 use std::alloc::Global;
+use word::end::End;
 
 /// An end that a run of the interpreter has shown.
 #[derive(Drop)]
 pub struct Shown {
-    pub ending: Ending,
+    pub end: End,
     /// What the run printed.
     pub output: Vec<u8>,
     /// The file of the plan with which it runs so.
     pub plan: Vec<u8>,
+    pub(crate) ending: Ending,
     pub(crate) delays: Vec<Delay>,
-    /// Where the goroutines stand at the end.
-    pub(crate) world: World,
+    pub(crate) scene: LastScene,
+}
+
+/// Where the goroutines stand at an end.
+#[derive(Drop)]
+pub(crate) struct LastScene {
+    pub world: World,
     /// The state of the goroutine that ended the program, if one did.
-    pub(crate) last: Option<u32>,
+    pub last: Option<u32>,
 }
 
 /// Shows an end that was found by a run of the interpreter with as few pauses as are found to be enough; none if no run shows it.
@@ -28,10 +40,12 @@ pub struct Shown {
 /// Errors: out of memory.
 pub(crate) fn show_end(
     alloc: Global,
-    runner: Runner<'_>,
+    runner: &Runner<'_>,
     space: &mut Space<'_>,
     found: &Found,
-) -> Result<Option<Shown>, Memory> {
+) -> Result<Option<Shown>, Memory>
+    ensures { IfOk result (λ shown. IfSome shown (λ one. IsShown (tree_of (tree_in runner.now.typed.now)) runner.now.limit one.plan.items one.output.items one.end)) }
+{
     let ending = found.ending;
     let steps = in_order(alloc, found)?;
     let Schedule {
@@ -43,18 +57,44 @@ pub(crate) fn show_end(
     } = schedule_of(alloc, space, steps.as_slice(), ending == Ending::Leak)?;
     let last = last_of(space, &world, steps.as_slice(), ending);
     let wanted = wanted_of(found, standing, actor);
-    let runner = runner.up_to(clock);
-    let Some((delays, output)) = shrunk_run(alloc, runner, space, wanted, delays)? else {
+    let length = clock.saturating_add(steps.len() as u64);
+    let delays = shrunk_delays(alloc, runner.up_to(clock), space, &wanted, delays, length)?;
+    shown_by(
+        alloc,
+        runner,
+        space,
+        &wanted,
+        delays,
+        LastScene { world, last },
+    )
+}
+
+/// An end that the run with these delays shows; none if the run does not end as it is wanted.
+fn shown_by(
+    alloc: Global,
+    runner: &Runner<'_>,
+    space: &mut Space<'_>,
+    wanted: &Wanted,
+    delays: Vec<Delay>,
+    scene: LastScene,
+) -> Result<Option<Shown>, Memory>
+    ensures { IfOk result (λ shown. IfSome shown (λ one. IsShown (tree_of (tree_in runner.now.typed.now)) runner.now.limit one.plan.items one.output.items one.end)) }
+{
+    let plan = plan_of(alloc, space.locals().goroutines(), delays.as_slice())?;
+    let Some(run) = runner.run(&plan)? else {
         return Ok(None);
     };
-    let plan = plan_of(alloc, space.locals().goroutines(), delays.as_slice())?.bytes(alloc)?;
+    if !wanted.is_met(space, &run)? {
+        return Ok(None);
+    }
+    let PausedRun { ran, .. } = run;
     Ok(Some(Shown {
-        ending,
-        output,
-        plan,
+        end: ran.end,
+        output: ran.output,
+        plan: plan.bytes(alloc)?,
+        ending: wanted.ending,
         delays,
-        world,
-        last,
+        scene,
     }))
 }
 

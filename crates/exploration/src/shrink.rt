@@ -1,6 +1,6 @@
 //! The delays that an end needs.
 
-use crate::runner::{Ran, Runner};
+use crate::runner::{PausedRun, Runner};
 use go_text::Memory;
 use pauses::Change;
 use program_states::{Ending, Space};
@@ -8,10 +8,10 @@ use schedule::{Delay, Standing, plan_of};
 use std::alloc::Global;
 
 /// The most runs that are made to leave out delays of one end, and to shorten others.
-const MOST_RUNS: usize = 600;
+const MOST_RUNS: u64 = 600;
 
-/// How many events these runs may have in all.
-const MOST_EVENTS: usize = 200_000;
+/// How long these runs may be in all, in events and ticks.
+const MOST_LENGTH: u64 = 400_000;
 
 /// How a run ends that shows an end.
 #[derive(Drop)]
@@ -27,72 +27,43 @@ pub(crate) struct Wanted {
 
 impl Wanted {
     /// Whether a run ended so.
-    fn is_met(&self, space: &mut Space<'_>, ran: &Ran) -> Result<bool, Memory> {
+    pub(crate) fn is_met(&self, space: &mut Space<'_>, run: &PausedRun) -> Result<bool, Memory> {
         if let Some(sleepers) = &self.sleepers {
-            if sleepers.as_slice() != ran.sleepers.as_slice() {
+            if sleepers.as_slice() != run.sleepers.as_slice() {
                 return Ok(false);
             }
         }
-        if self.last.is_some() && self.last != ran.last {
+        if self.last.is_some() && self.last != run.last {
             return Ok(false);
         }
-        ran.is(space, self.ending, self.output)
+        run.ran.is(space, self.ending, self.output)
     }
 }
 
 /// The delays of an end, of which some may not be needed.
 #[derive(Drop)]
-struct Shrinking<'t, 's, 'c> {
+struct Shrinking<'w, 't, 's, 'c> {
     alloc: Global,
     runner: Runner<'t>,
     space: &'s mut Space<'c>,
-    wanted: Wanted,
+    wanted: &'w Wanted,
     /// How many runs are left.
-    left: usize,
+    left: u64,
 }
 
-impl<'t, 's, 'c> Shrinking<'t, 's, 'c> {
-    /// The end that is wanted, shown by runs of the interpreter that have some `events` events.
-    fn new(
-        alloc: Global,
-        runner: Runner<'t>,
-        space: &'s mut Space<'c>,
-        wanted: Wanted,
-        events: usize,
-    ) -> Shrinking<'t, 's, 'c> {
-        Shrinking {
-            alloc,
-            runner,
-            space,
-            wanted,
-            left: MOST_EVENTS
-                .checked_div(events)
-                .unwrap_or(MOST_RUNS)
-                .min(MOST_RUNS),
-        }
-    }
-
-    /// The run with these delays, if it ends as it should.
-    ///
-    /// Errors: out of memory.
-    fn ran(&mut self, delays: &[Delay]) -> Result<Option<Ran>, Memory> {
-        let plan = plan_of(self.alloc, self.space.locals().goroutines(), delays)?;
-        let Some(ran) = self.runner.run(&plan)? else {
-            return Ok(None);
-        };
-        if self.wanted.is_met(self.space, &ran)? {
-            return Ok(Some(ran));
-        }
-        Ok(None)
-    }
-
+impl<'w, 't, 's, 'c> Shrinking<'w, 't, 's, 'c> {
     /// Whether the run with these delays ends as it should; no if no runs are left.
     fn is_enough(&mut self, delays: &[Delay]) -> Result<bool, Memory> {
         if self.left == 0 {
             return Ok(false);
         }
         self.left = self.left.saturating_sub(1);
-        Ok(self.ran(delays)?.is_some())
+        let plan = plan_of(self.alloc, self.space.locals().goroutines(), delays)?;
+        let runner = self.runner;
+        let Some(run) = runner.run(&plan)? else {
+            return Ok(false);
+        };
+        self.wanted.is_met(self.space, &run)
     }
 
     /// Fewer and shorter delays with which the run ends in the same way.
@@ -168,25 +139,32 @@ impl<'t, 's, 'c> Shrinking<'t, 's, 'c> {
     }
 }
 
-/// Fewer and shorter delays than these with which a run ends as it is wanted, and what it prints; none if it doesn't with all of
+/// Fewer and shorter delays than these with which a run of about so many events and ticks ends as it is wanted, if it does with all of
 /// them.
 ///
 /// Errors: out of memory.
-pub(crate) fn shrunk_run(
+pub(crate) fn shrunk_delays(
     alloc: Global,
     runner: Runner<'_>,
     space: &mut Space<'_>,
-    wanted: Wanted,
+    wanted: &Wanted,
     delays: Vec<Delay>,
-) -> Result<Option<(Vec<Delay>, Vec<u8>)>, Memory> {
-    let mut shrinking = Shrinking::new(alloc, runner, space, wanted, delays.len());
-    if shrinking.ran(delays.as_slice())?.is_none() {
-        return Ok(None);
-    }
-    let delays = shrinking.shrunk(delays)?;
-    match shrinking.ran(delays.as_slice())? {
-        Some(Ran { output, .. }) => Ok(Some((delays, output))),
-        None => Ok(None),
+    length: u64,
+) -> Result<Vec<Delay>, Memory> {
+    let mut shrinking = Shrinking {
+        alloc,
+        runner,
+        space,
+        wanted,
+        left: MOST_LENGTH
+            .checked_div(length)
+            .unwrap_or(MOST_RUNS)
+            .min(MOST_RUNS),
+    };
+    if shrinking.is_enough(delays.as_slice())? {
+        shrinking.shrunk(delays)
+    } else {
+        Ok(delays)
     }
 }
 

@@ -1,0 +1,5 @@
+-- What holds of a value that is there.
+use Rattle.std.proofs.Common.{◌≡◌, IfSome, Option, Some, subst}
+
+pub of_some : {A : Type 0} (P : A → Type 0) (o : Option A) (x : A) → o ≡ Some x → IfSome o P → P x
+of_some {A} P o x is holds = subst (λ (one : Option A). IfSome one P) is holds

@@ -1,0 +1,6 @@
+use Rattle.exploration.proofs.Holding.{of_some}
+use Rattle.pauses.specs.Plans.{pauses_of}
+use Rattle.exploration.proofs.shown.shown_by.Goals as goal
+
+pub returns : goal.returns
+returns c = (pauses_of c.in_ok-plan.plan.pauses.items, c.in_ok-bytes.ensures, of_some _ c.in_ok-run.field-0 c.in-Some.run' c.in-Some.is c.in_ok-run.ensures)

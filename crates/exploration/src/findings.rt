@@ -1,0 +1,88 @@
+//! What is found in other orders of a program's events.
+
+ghost use Rattle.std.specs.Prelude.{◌≡◌, [], ◌∷◌, ◌++◌, OnOk};
+
+use crate::lines::is_own_limit;
+use crate::runner::Ran;
+use crate::shown::Shown;
+use go_text::Memory;
+use std::alloc::Global;
+
+/// What an exploration comes to.
+#[derive(Clone, Copy, PartialEq, Eq)]
+pub enum Verdict {
+    /// All orders were searched, and all end in the same way.
+    Same,
+    /// Those that were searched end in the same way, or at a limit that Go doesn't have.
+    SameSoFar,
+    /// There is another end.
+    Other,
+}
+
+/// How a program ends in the orders of its events that were searched.
+#[derive(Drop)]
+pub struct Findings {
+    /// How the ordinary run ends; none if it does not end in time.
+    pub ordinary: Option<Ran>,
+    /// The other ends that were shown, the first one of number 2.
+    pub shown: Vec<Shown>,
+    /// How many ends were found that the ordinary run doesn't have.
+    pub(crate) others: usize,
+    /// How many of these no run showed.
+    pub(crate) missed: usize,
+}
+
+impl Findings {
+    /// The end of the ordinary run alone.
+    pub(crate) fn new(alloc: Global, ordinary: Option<Ran>) -> Findings
+        ensures ordinary { result.ordinary ≡ ordinary }
+        ensures shown { result.shown.items ≡ [] }
+    {
+        Findings {
+            ordinary,
+            shown: Vec::new(alloc),
+            others: 0,
+            missed: 0,
+        }
+    }
+
+    /// One more end that is told no more of.
+    pub(crate) fn count(&mut self)
+        ensures ordinary { self.new.ordinary ≡ self.old.ordinary }
+        ensures shown { self.new.shown ≡ self.old.shown }
+    {
+        self.others = self.others.saturating_add(1);
+    }
+
+    /// One more end that no run showed.
+    pub(crate) fn miss(&mut self)
+        ensures ordinary { self.new.ordinary ≡ self.old.ordinary }
+        ensures shown { self.new.shown ≡ self.old.shown }
+    {
+        self.count();
+        self.missed = self.missed.saturating_add(1);
+    }
+
+    /// One more end.
+    ///
+    /// Errors: out of memory.
+    pub(crate) fn add(&mut self, one: Shown) -> Result<(), Memory>
+        ensures ordinary { self.new.ordinary ≡ self.old.ordinary }
+        ensures shown { OnOk result (self.new.shown.items ≡ self.old.shown.items ++ one ∷ []) }
+    {
+        self.count();
+        self.shown.push(one)?;
+        Ok(())
+    }
+
+    /// What it comes to, if all orders were searched or not.
+    pub(crate) fn verdict(&self, is_whole: bool) -> Verdict {
+        let has_other = self.shown.iter().any(|one| !is_own_limit(one.ending));
+        let has_all = is_whole && self.missed == 0 && self.shown.is_empty();
+        match (has_other, has_all) {
+            (true, _) => Verdict::Other,
+            (false, true) => Verdict::Same,
+            (false, false) => Verdict::SameSoFar,
+        }
+    }
+}
