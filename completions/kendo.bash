@@ -4,19 +4,19 @@ _kendo() {
     local current=${COMP_WORDS[COMP_CWORD]} previous=${COMP_WORDS[COMP_CWORD - 1]} options=
     COMPREPLY=()
     if [ "$COMP_CWORD" -eq 1 ]; then
-        mapfile -t COMPREPLY < <(compgen -W 'check list reference timeline explore run help --help --version' -- "$current")
+        mapfile -t COMPREPLY < <(compgen -W 'check list reference timeline explore test inspect run help --help --version' -- "$current")
         return
     fi
     case $previous in
-        --workers | --limit | --from | --last | --tries | --states) return ;;
-        --trace | --out | --pauses)
+        --workers | --limit | --from | --last | --event | --at | --tries | --states) return ;;
+        --trace | --out | --pauses | --against)
             mapfile -t COMPREPLY < <(compgen -f -- "$current")
             return
             ;;
     esac
     case ${COMP_WORDS[1]} in
         help)
-            mapfile -t COMPREPLY < <(compgen -W 'check list reference timeline explore run' -- "$current")
+            mapfile -t COMPREPLY < <(compgen -W 'check list reference timeline explore test inspect run' -- "$current")
             return
             ;;
         check) options='--explain' ;;
@@ -24,7 +24,9 @@ _kendo() {
         reference) options='--limit --pauses --explain' ;;
         timeline) options='--limit --from --last --out --explain' ;;
         explore) options='--limit --tries --states --ends --unordered --leaks --whole --out --explain' ;;
-        run) options='--workers --limit --trace --pauses --explain' ;;
+        test) options='--limit --orders --tries --states --out --explain' ;;
+        inspect) options='--event --at --limit --pauses --explain' ;;
+        run) options='--workers --limit --trace --pauses --against --strict --explain' ;;
     esac
     case $current in
         -*) mapfile -t COMPREPLY < <(compgen -W "$options --help" -- "$current") ;;

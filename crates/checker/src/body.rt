@@ -11,6 +11,7 @@ ghost use Rattle.checker_statement.specs.Settings.{setting_in};
 ghost use Rattle.typing_rules.specs.Kinds.{with_fields};
 ghost use Rattle.typing_rules.specs.Declarations.{HeadHas};
 ghost use Rattle.typing_rules.specs.Files.{is_ended, BodyIn, BodyHas, TopBodyHas, BodiesHave};
+ghost use Rattle.checker.specs.Firsts.{FirstBodyHas};
 ghost use Rattle.checker_declaration.specs.Heads.{TopHeadHas, HeadsHave};
 
 use checker_base::refusal::Refusal;
@@ -130,7 +131,7 @@ fn top_body<'a>(
 
 /// Checks the bodies of a file's functions.
 ///
-/// Errors: the first flaw, in the order of the functions; `Memory`.
+/// Errors: a violation in the first function that has one; `Memory`.
 pub(crate) fn bodies<'a>(
     alloc: Global,
     table: &TypeTable<'a>,
@@ -138,7 +139,7 @@ pub(crate) fn bodies<'a>(
 ) -> Result<(), Refusal>
     requires small { sum_by top_size (map top_of tops.now) < 2 ^ 32 }
     ensures none { IfOk result (λ _. (flaw : OneFlaw) → ¬ (BodiesHave (globals_in table.now) 0 (map top_of tops.now) flaw)) }
-    ensures one { IfErr result (Refuses (λ flaw. BodiesHave (globals_in table.now) 0 (map top_of tops.now) flaw ⊎ HeadsHave (types_of table.now) 0 (map top_of tops.now) flaw)) }
+    ensures one { IfErr result (Refuses (λ flaw. FirstBodyHas (globals_in table.now) 0 (map top_of tops.now) flaw ⊎ HeadsHave (types_of table.now) 0 (map top_of tops.now) flaw)) }
 {
     let mut end = 0;
     for top in tops {

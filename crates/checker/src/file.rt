@@ -7,6 +7,7 @@ ghost use Rattle.type_table.specs.Views.{signature_of};
 ghost use Rattle.typing_rules.specs.declared.flaw.Flaw.{Flaw as OneFlaw};
 ghost use Rattle.checker_base.specs.Views.{Refuses};
 ghost use Rattle.typing_rules.specs.Files.{is_plain, has_main, FileHas};
+ghost use Rattle.checker.specs.Firsts.{ComesFirst};
 
 use crate::body::bodies;
 use checker_base::refusal::Refusal;
@@ -40,12 +41,13 @@ fn has_main(functions: &[FunctionEntry<'_>]) -> bool
 /// Checks a file, whose own node this is: first what it declares, then that there is a `main`, then the bodies of the
 /// functions.
 ///
-/// Errors: the first flaw in this order; `Memory`.
+/// Errors: a violation that comes first in this order; `Memory`.
 pub(crate) fn check_file(alloc: Global, node: NodeId, file: &FileNode) -> Result<(), Refusal>
     requires last { node + 1 ≡ size (file_of file.now) }
     requires small { size (file_of file.now) < 2 ^ 32 }
     ensures none { IfOk result (λ _. (flaw : OneFlaw) → ¬ (FileHas (file_of file.now) flaw)) }
     ensures one { IfErr result (Refuses (FileHas (file_of file.now))) }
+    ensures first { IfErr result (Refuses (ComesFirst (file_of file.now))) }
 {
     let table = table_of(alloc, file.tops.as_slice())?;
     if !has_main(table.functions.as_slice()) {

@@ -4,6 +4,7 @@ ghost use Rattle.std.specs.Prelude.{◌≡◌, ◌<◌, ◌⊎◌, IfOk, IfErr};
 ghost use Rattle.syntax.specs.Measures.{size};
 ghost use Rattle.syntax.specs.Spans.{tree_of};
 ghost use Rattle.typing_rules.specs.Files.{FileHas, IsTyped};
+ghost use Rattle.checker.specs.Firsts.{ComesFirst};
 ghost use Rattle.typing_rules.specs.Nodes.{node_of};
 ghost use Rattle.checker.specs.Faults.{Tells};
 ghost use Rattle.checker.specs.Trees.{tree_in};
@@ -20,6 +21,7 @@ use typing_rules::flaw::Flaw;
 fn fault_of(tree: &Tree, flaw: Flaw) -> Fault
     requires node { node_of flaw < size (tree_of tree.now) }
     requires flaw { FileHas (tree_of tree.now) flaw }
+    requires first { ComesFirst (tree_of tree.now) flaw }
     ensures { Tells tree.now result }
 {
     match flaw {

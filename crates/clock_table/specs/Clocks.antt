@@ -36,7 +36,7 @@ IsLentOn terms (Back was loan c) = ⊥
 -- one seat at most is the book's, and one at most has a slot
 abbrev pub ViewFits : List ℕ → List Row → ℕ → (ℕ → ℕ) → ℕ → View → Type 0
 ViewFits words rows desk owner id (Desk known looks) = (id ≡ desk) × (known ≡ rows)
-ViewFits words rows desk owner id (Lease slot loan clock) = (owner slot ≡ id) × (slot < length words) × IsLentOn loan (row rows slot) × (slice_index words slot ≡ clock)
+ViewFits words rows desk owner id (Lease slot loan clock stores) = (owner slot ≡ id) × (slot < length words) × IsLentOn loan (row rows slot) × (slice_index words slot ≡ clock)
 ViewFits words rows desk owner id Spent = Unit {0}
 
 abbrev pub Kept : {S : Type 0} → State S View → Type 0
@@ -55,14 +55,20 @@ opening_view slots = Desk (opening_rows slots) 0
 
 abbrev pub rows_of : View → List Row
 rows_of (Desk rows looks) = rows
-rows_of (Lease slot loan clock) = []
+rows_of (Lease slot loan clock stores) = []
 rows_of Spent = []
 
 -- how many loads the seat has made
 abbrev pub looks_of : View → ℕ
 looks_of (Desk rows looks) = looks
-looks_of (Lease slot loan clock) = 0
+looks_of (Lease slot loan clock stores) = 0
 looks_of Spent = 0
+
+-- how many stores a lease's seat has made
+abbrev pub stores_of : View → ℕ
+stores_of (Desk rows looks) = 0
+stores_of (Lease slot loan clock stores) = stores
+stores_of Spent = 0
 
 -- the row after a look that found the clock p
 abbrev pub looked : ℕ → Row → Row
@@ -76,7 +82,7 @@ StoresClock s before clock after =
 
 abbrev pub lease_at : View → ℕ → View
 lease_at (Desk rows looks) clock = Desk rows looks
-lease_at (Lease slot loan old) clock = Lease slot loan clock
+lease_at (Lease slot loan old stores) clock = Lease slot loan clock (stores + 1)
 lease_at Spent clock = Spent
 
 abbrev pub PublishesClock : {S : Type 0} → Step S → Me S View → ℕ → Me S View → Type 0
@@ -111,7 +117,7 @@ abbrev pub desk_after_lend : ℕ → Loan → View → View
 desk_after_lend slot loan v = Desk (slice_set (rows_of v) slot (Lent loan (clock_of (row (rows_of v) slot)))) (looks_of v)
 
 abbrev pub new_lease : ℕ → Loan → View → View
-new_lease slot loan v = Lease slot loan (clock_of (row (rows_of v) slot))
+new_lease slot loan v = Lease slot loan (clock_of (row (rows_of v) slot)) 0
 
 abbrev pub no_loan : Loan
 no_loan = record { code = record { functions = []; shapes = []; prints = []; selects = [] }; limit = 0; number = 0; base = record { clock = 0; doomed = false; state = [] } }
@@ -124,12 +130,12 @@ back loan clock (Back was old c) = Back None loan clock
 
 abbrev pub desk_after_return : View → View → View
 desk_after_return v (Desk rows looks) = v
-desk_after_return v (Lease slot loan clock) = Desk (slice_set (rows_of v) slot (back loan clock (row (rows_of v) slot))) (looks_of v)
+desk_after_return v (Lease slot loan clock stores) = Desk (slice_set (rows_of v) slot (back loan clock (row (rows_of v) slot))) (looks_of v)
 desk_after_return v Spent = v
 
 abbrev pub loan_of : View → Loan
 loan_of (Desk rows looks) = no_loan
-loan_of (Lease slot loan clock) = loan
+loan_of (Lease slot loan clock stores) = loan
 loan_of Spent = no_loan
 
 -- the loan of a goroutine in this state
@@ -139,8 +145,8 @@ loan_for code limit number s = record { code = code; limit = limit; number = num
 abbrev pub desk_view : List Row → ℕ → Me (Unit {0}) View
 desk_view rows looks = (Desk rows looks, [])
 
-abbrev pub lease_view : ℕ → Loan → ℕ → Me (Unit {0}) View
-lease_view slot loan clock = (Lease slot loan clock, [])
+abbrev pub lease_view : ℕ → Loan → (clock stores : ℕ) → Me (Unit {0}) View
+lease_view slot loan clock stores = (Lease slot loan clock stores, [])
 
 abbrev pub IsFree : Row → Type 0
 IsFree (Home c) = Unit {0}

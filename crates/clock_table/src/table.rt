@@ -2,7 +2,7 @@
 
 ghost use Rattle.std.specs.Prelude.{◌≡◌, ◌+◌, ◌≤◌, ◌<◌, length, slice_set, IfOk, OnErr, OnOk};
 ghost use Rattle.std.specs.Arc.{arc_value};
-ghost use Rattle.clock_table.specs.Clocks.{rows_of, looks_of, row, loan_of, loan_for, opening_rows, looked, Reaches, RowFits, IsFree, WasLent, desk_view, lease_view};
+ghost use Rattle.clock_table.specs.Clocks.{rows_of, looks_of, row, loan_of, loan_for, opening_rows, looked, Reaches, RowFits, IsFree, WasLent, desk_view, lease_view, stores_of};
 ghost use Rattle.clock_table.specs.declared.view.Row.TheVariants.{Home, Lent};
 
 use crate::rule::{Clocks, Lends, Looks, Publishes, Returns, Stores, TakesBack, Terms};
@@ -57,7 +57,7 @@ pub struct LeaseSeat {
     clock: u64,
     pub ghost same: { seat.table_id ≡ (arc_value words).shared.table_id },
     pub ghost fits: { slot < seat.table_id.words },
-    pub ghost is_lease: { seat.me ≡ lease_view slot (loan_of seat.me.0) clock },
+    pub ghost is_lease: { seat.me ≡ lease_view slot (loan_of seat.me.0) clock (stores_of seat.me.0) },
 }
 
 impl ClockTable {
@@ -90,6 +90,7 @@ impl ClockTable {
         ensures looks { looks_of seat.new.seat.me.0 ≡ looks_of seat.old.seat.me.0 }
         ensures row { OnOk result (rows_of seat.new.seat.me.0 ≡ slice_set (rows_of seat.old.seat.me.0) slot (Lent (loan_for code.now limit number state.now) state.now.clock)) }
         ensures lease { IfOk result (λ l. (l.seat.table_id ≡ seat.old.seat.table_id) × (l.slot ≡ slot) × (loan_of l.seat.me.0 ≡ loan_for code.now limit number state.now) × (l.clock ≡ state.now.clock)) }
+        ensures stores { IfOk result (λ l. stores_of l.seat.me.0 ≡ 0) }
         ensures memory { OnErr result (rows_of seat.new.seat.me.0 ≡ rows_of seat.old.seat.me.0) }
     {
         let words = Arc::try_clone(&self.words)?;
@@ -160,7 +161,7 @@ fn cut<T: Terms>(
     requires home { row (rows_of seat.old.me.0) slot ≡ Home state.now.clock }
     ensures table { (seat.new.table_id ≡ seat.old.table_id) × (result.table_id ≡ seat.old.table_id) }
     ensures desk { seat.new.me ≡ desk_view (slice_set (rows_of seat.old.me.0) slot (Lent (loan_for code.now limit number state.now) state.now.clock)) (looks_of seat.old.me.0) }
-    ensures lease { result.me ≡ lease_view slot (loan_for code.now limit number state.now) state.now.clock }
+    ensures lease { result.me ≡ lease_view slot (loan_for code.now limit number state.now) state.now.clock 0 }
 {
     words.shared.split_seat::<Lends<T>>(seat)
 }
@@ -178,6 +179,7 @@ impl LeaseSeat {
         requires rises { self.old.clock ≤ state.now.clock }
         requires bound { Reaches (loan_of self.old.seat.me.0) state.now.clock }
         ensures clock { self.new.clock ≡ state.now.clock }
+        ensures one { stores_of self.new.seat.me.0 ≡ stores_of self.old.seat.me.0 + 1 }
         ensures same { (self.new.seat.table_id ≡ self.old.seat.table_id) × (self.new.slot ≡ self.old.slot) × (loan_of self.new.seat.me.0 ≡ loan_of self.old.seat.me.0) }
     {
         let clock = state.clock().time();

@@ -26,8 +26,8 @@ pub enum Row {
 pub enum View {
     /// The book's seat: a row for each slot, and how many looks it made.
     Desk(LinkedList<Row>, u64),
-    /// A lease's seat: the slot, its loan, and the clock that it published last.
-    Lease(u64, Loan, u64),
+    /// A lease's seat: the slot, its loan, the clock that it published last, and how many stores it made.
+    Lease(u64, Loan, u64, u64),
     /// A seat that was taken back.
     Spent,
 }

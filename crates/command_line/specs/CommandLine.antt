@@ -95,9 +95,13 @@ traced_run = with_rule (with_rule (with_rule (with_rule (new_app (codes "run")) 
 abbrev pub plain_run : App
 plain_run = with_rule traced_run pauses
 
--- kendo run FILE [--workers N] [--limit L] [--trace TRACE] [--pauses PLAN] [--explain]
+-- which file the trace is in that a run is compared with
+abbrev pub against : Rule
+against = record (new_rule (codes "against")) { long = Some (codes "against"); value_names = 1 }
+
+-- kendo run FILE [--workers N] [--limit L] [--trace TRACE] [--pauses PLAN] [--against TRACE] [--strict] [--explain]
 abbrev pub run : App
-run = with_rule plain_run explain
+run = with_rule (with_rule (with_rule plain_run against) (flag (codes "strict"))) explain
 
 -- which file a picture goes to
 abbrev pub out : Rule
@@ -131,6 +135,31 @@ chosen_explore = with_rule (with_rule (with_rule (with_rule long_explore (flag (
 abbrev pub explore : App
 explore = with_rule (with_rule chosen_explore out) explain
 
+-- kendo test FILE.. [--limit L] [--orders] [--tries N] [--states N]
+abbrev pub long_test : App
+long_test =
+    with_rule (with_rule (with_rule (with_rule (with_rule (new_app (codes "test")) files) limit) (flag (codes "orders"))) (number (codes "tries") (codes "200")))
+    (number (codes "states") (codes "1000000"))
+
+-- kendo test FILE.. [--limit L] [--orders] [--tries N] [--states N] [--out DIR] [--explain]
+abbrev pub test : App
+test = with_rule (with_rule long_test out) explain
+
+-- the event after which a run is shown, and the clock
+abbrev pub event : Rule
+event = whole (codes "event")
+
+abbrev pub at : Rule
+at = whole (codes "at")
+
+-- kendo inspect FILE [--event N] [--at CLOCK] [--limit L]
+abbrev pub chosen_inspect : App
+chosen_inspect = with_rule (with_rule (with_rule (with_rule (new_app (codes "inspect")) file) event) at) limit
+
+-- kendo inspect FILE [--event N] [--at CLOCK] [--limit L] [--pauses PLAN] [--explain]
+abbrev pub inspect : App
+inspect = with_rule (with_rule chosen_inspect pauses) explain
+
 -- a command has to be there; kendo --version tells the version
 abbrev pub named : App
 named =
@@ -141,9 +170,9 @@ named =
 abbrev pub first_commands : App
 first_commands = with_subcommand (with_subcommand (with_subcommand named check.top) list.top) reference.top
 
--- all six
+-- all eight
 abbrev pub kendo : App
-kendo = with_subcommand (with_subcommand (with_subcommand first_commands timeline.top) explore.top) run.top
+kendo = with_subcommand (with_subcommand (with_subcommand (with_subcommand (with_subcommand first_commands timeline.top) explore.top) test.top) inspect.top) run.top
 
 -- no argument of the command is taken by its subcommands too
 abbrev pub IsLocal : Command → Type 0
@@ -165,8 +194,12 @@ rule_for arguments.Workers = workers
 rule_for arguments.Limit = limit
 rule_for arguments.Trace = trace
 rule_for arguments.Pauses = pauses
+rule_for arguments.Against = against
+rule_for arguments.Strict = flag (codes "strict")
 rule_for arguments.From = from
 rule_for arguments.Last = last
+rule_for arguments.Event = event
+rule_for arguments.At = at
 rule_for arguments.Out = out
 rule_for arguments.Folder = out
 rule_for arguments.Tries = number (codes "tries") (codes "200")
@@ -175,6 +208,7 @@ rule_for arguments.Ends = flag (codes "ends")
 rule_for arguments.Unordered = flag (codes "unordered")
 rule_for arguments.Leaks = flag (codes "leaks")
 rule_for arguments.Whole = flag (codes "whole")
+rule_for arguments.Orders = flag (codes "orders")
 rule_for arguments.Explain = explain
 
 -- a command that takes these arguments too, one behind the other
@@ -211,6 +245,10 @@ Does name rows (subcommands.Timeline limit) = (name ≡ codes "timeline") × IsN
 Does name rows (subcommands.Explore limit tries states) =
     (name ≡ codes "explore") × IsNumber (one_of (codes "limit") rows) limit × IsNumber (one_of (codes "tries") rows) tries
     × IsNumber (one_of (codes "states") rows) states
+Does name rows (subcommands.Test limit tries states) =
+    (name ≡ codes "test") × IsNumber (one_of (codes "limit") rows) limit × IsNumber (one_of (codes "tries") rows) tries
+    × IsNumber (one_of (codes "states") rows) states
+Does name rows (subcommands.Inspect limit) = (name ≡ codes "inspect") × IsNumber (one_of (codes "limit") rows) limit
 Does name rows (subcommands.Paused limit) =
     ((name ≡ codes "run") ⊎ (name ≡ codes "reference")) × (is_paused rows ≡ true) × IsNumber (one_of (codes "limit") rows) limit
 Does name rows (subcommands.Run workers limit) =
@@ -225,20 +263,25 @@ IsNumberThere text None = (n : ℕ) → IsNumber text n → ⊥
 abbrev pub IsSet : (name : Text) → List Row → Bool → Type 0
 IsSet name rows set = IsTrue set ↔ (first_of name rows ≡ Some (codes "true"))
 
--- Like `Does`, but with the source files, the files of the trace, of the plan and of the picture, the events of the picture, what counts in an exploration, and whether errors and ends are explained
+-- Like `Does`, but with the source files, the files of the trace, of the plan, of the trace that a run is compared with and of the picture, the events of the picture, the moment that is shown, what counts in an exploration, whether other orders are tested, and whether errors and ends are explained
 abbrev pub Asks : Text × List Row → Invocation → Type 0
 Asks (name, rows) invocation =
     Does name rows invocation.subcommand × (first_of (codes "FILE") rows ≡ Some invocation.file.now)
     × (all_of (codes "FILE") rows ≡ Some (map (λ path. path.now) invocation.files.now))
     × IsNumberThere (one_of (codes "from") rows) invocation.from
     × IsNumberThere (one_of (codes "last") rows) invocation.last
+    × IsNumberThere (one_of (codes "event") rows) invocation.event
+    × IsNumberThere (one_of (codes "at") rows) invocation.at
     × (first_of (codes "trace") rows ≡ option_map (λ path. path.now) invocation.trace)
     × (first_of (codes "pauses") rows ≡ option_map (λ path. path.now) invocation.pauses)
+    × (first_of (codes "against") rows ≡ option_map (λ path. path.now) invocation.against)
+    × IsSet (codes "strict") rows invocation.strict
     × (first_of (codes "out") rows ≡ option_map (λ path. path.now) invocation.out)
     × IsSet (codes "ends") rows invocation.ends
     × IsSet (codes "unordered") rows invocation.unordered
     × IsSet (codes "leaks") rows invocation.leaks
     × IsSet (codes "whole") rows invocation.whole
+    × IsSet (codes "orders") rows invocation.orders
     × IsSet (codes "explain") rows invocation.explains
 
 -- what the command does, or none where it does nothing

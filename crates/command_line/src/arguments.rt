@@ -18,14 +18,14 @@ Errors in a program are reported by number and place: 1 TooLong, 2 NotUtf8, 3 Ba
 5 OpenString, 6 OpenComment, 7 Syntax, 8 TooDeep, 9 Type rule R (1 to 20), 10 Limit kind K (1 to 6). --explain\n\
 describes them. docs/LANGUAGE.md lists the rules and the limits.\n\n\
 Exit status:\n  \
-0   the program finished, or was checked, listed or drawn\n  \
-1   the program has an error\n  \
+0   the program finished, or was checked, listed, drawn or shown\n  \
+1   the program has an error, or a test failed\n  \
 2   the program panicked, for a reason P1 to P9\n  \
 3   deadlock: every goroutine waits\n  \
 4   the limit of logical time was reached\n  \
 5   out of memory (13)\n  \
 6   an output could not be written (14)\n  \
-8   another order of events ends in another way\n  \
+8   another order of events ends in another way, or a run is not the recorded one\n  \
 9   not all orders could be searched, with --whole\n  \
 64  the command line, a number of workers (15), a limit (16) or a file can't be used";
 
@@ -34,18 +34,26 @@ Exit status:\n  \
 pub struct Invocation<'m, 'a> {
     /// The path of the source file, as it was typed; the first one if there are several. `-` is standard input.
     pub file: &'a str,
-    /// The paths of all source files, as they were typed, `file` first. Only `check` takes several.
+    /// The paths of all source files, as they were typed, `file` first. Only `check` and `test` take several.
     pub files: &'m [&'a str],
     /// The path of the trace file, as it was typed.
     pub trace: Option<&'a str>,
     /// The path of the file with the plan of pauses, as it was typed.
     pub pauses: Option<&'a str>,
+    /// The path of the file with the trace that a run is compared with, as it was typed.
+    pub against: Option<&'a str>,
+    /// Whether that is compared byte by byte.
+    pub strict: bool,
     /// The path of the picture's file, as it was typed.
     pub out: Option<&'a str>,
     /// The number of the first event that a picture shows, counted from 1.
     pub from: Option<u64>,
     /// How many events a picture shows, of the last ones of the run.
     pub last: Option<u64>,
+    /// The number of the event at which a run is inspected, counted from 1.
+    pub event: Option<u64>,
+    /// The clock at which a run is inspected.
+    pub at: Option<u64>,
     /// Whether outputs of other orders don't count.
     pub ends: bool,
     /// Whether the order of lines doesn't count.
@@ -54,6 +62,8 @@ pub struct Invocation<'m, 'a> {
     pub leaks: bool,
     /// Whether an exploration that did not search all orders is told by its exit status.
     pub whole: bool,
+    /// Whether a test searches other orders.
+    pub orders: bool,
     /// Whether errors in the program and the end of its run are explained.
     pub explains: bool,
     /// What is done with the program.
@@ -86,6 +96,20 @@ pub enum Subcommand {
         /// How many states are visited at most.
         states: u64,
     },
+    /// It is tested.
+    Test {
+        /// The last logical time of the run; the test judges whether it is 1 to 2^62.
+        limit: u64,
+        /// How many walks are made at random, if other orders are searched.
+        tries: u64,
+        /// How many states are visited at most, if other orders are searched.
+        states: u64,
+    },
+    /// Its goroutines and channels are shown at a moment of its run.
+    Inspect {
+        /// The last logical time; the interpreter judges whether it is 1 to 2^62.
+        limit: u64,
+    },
     /// Its source is interpreted by a plan of pauses.
     Paused {
         /// The last logical time; the interpreter judges whether it is 1 to 2^62.
@@ -115,10 +139,18 @@ enum Argument {
     Trace,
     /// The file with the plan of pauses by which a program is run.
     Pauses,
+    /// The file with the trace that a run is compared with.
+    Against,
+    /// Whether that is compared byte by byte.
+    Strict,
     /// The number of the first event that a picture shows.
     From,
     /// How many of the last events a picture shows.
     Last,
+    /// The number of the event at which a run is inspected.
+    Event,
+    /// The clock at which a run is inspected.
+    At,
     /// The file that a picture of a run goes to.
     Out,
     /// The folder that plans go to.
@@ -135,6 +167,8 @@ enum Argument {
     Leaks,
     /// Whether an exploration that did not search all orders is told by its exit status.
     Whole,
+    /// Whether a test searches other orders.
+    Orders,
     /// Whether errors and ends are explained.
     Explain,
 }
@@ -151,7 +185,7 @@ struct TextCommand {
 }
 
 /// The commands, in the order of the help.
-const TEXT_COMMANDS: [TextCommand; 6] = [
+const TEXT_COMMANDS: [TextCommand; 8] = [
     TextCommand {
         name: "check",
         about: "Checks programs for errors",
@@ -201,6 +235,31 @@ const TEXT_COMMANDS: [TextCommand; 6] = [
         ],
     },
     TextCommand {
+        name: "test",
+        about: "Tests programs whose comments say what they print, or how they end",
+        arguments: &[
+            Argument::Files,
+            Argument::Limit,
+            Argument::Orders,
+            Argument::Tries,
+            Argument::States,
+            Argument::Folder,
+            Argument::Explain,
+        ],
+    },
+    TextCommand {
+        name: "inspect",
+        about: "Shows goroutines and channels at a moment of a run",
+        arguments: &[
+            Argument::File,
+            Argument::Event,
+            Argument::At,
+            Argument::Limit,
+            Argument::Pauses,
+            Argument::Explain,
+        ],
+    },
+    TextCommand {
         name: "run",
         about: "Runs a program",
         arguments: &[
@@ -209,6 +268,8 @@ const TEXT_COMMANDS: [TextCommand; 6] = [
             Argument::Limit,
             Argument::Trace,
             Argument::Pauses,
+            Argument::Against,
+            Argument::Strict,
             Argument::Explain,
         ],
     },
@@ -307,6 +368,17 @@ fn argument_of<'a>(alloc: Global, argument: Argument) -> Arg<'a>
             "Runs the program by the plan of pauses in this file, on one thread",
         )
         .value_name("PLAN"),
+        Argument::Against => option_argument(
+            alloc,
+            "against",
+            "Compares the run with the trace in this file, goroutine by goroutine",
+        )
+        .value_name("TRACE"),
+        Argument::Strict => flag_argument(
+            alloc,
+            "strict",
+            "With --against, compares the traces byte by byte",
+        ),
         Argument::From => whole_argument(
             alloc,
             "from",
@@ -314,6 +386,18 @@ fn argument_of<'a>(alloc: Global, argument: Argument) -> Arg<'a>
             "Draws the run from this event on, counted from 1",
         ),
         Argument::Last => whole_argument(alloc, "last", "N", "Draws the last N events of the run"),
+        Argument::Event => whole_argument(
+            alloc,
+            "event",
+            "N",
+            "Shows the moment after this event, counted from 1",
+        ),
+        Argument::At => whole_argument(
+            alloc,
+            "at",
+            "CLOCK",
+            "Shows the moment after the last event up to this logical time",
+        ),
         Argument::Out => option_argument(
             alloc,
             "out",
@@ -359,6 +443,11 @@ fn argument_of<'a>(alloc: Global, argument: Argument) -> Arg<'a>
             alloc,
             "whole",
             "Exits with 9 if not all orders could be searched",
+        ),
+        Argument::Orders => flag_argument(
+            alloc,
+            "orders",
+            "Searches other orders too: a test passes only if all that were searched do",
         ),
         Argument::Explain => flag_argument(
             alloc,
@@ -449,6 +538,8 @@ fn subcommand_named(name: &str, matches: &ArgMatches<'_>) -> Option<Subcommand>
     ensures { IsDone name.now (rows_of (found_of matches.now)) result }
 {
     let limit = option_number(matches, "limit");
+    let tries = option_number(matches, "tries");
+    let states = option_number(matches, "states");
     let paused = is_named(matches, "pauses");
     match name {
         "check" => Some(Subcommand::Check),
@@ -458,9 +549,15 @@ fn subcommand_named(name: &str, matches: &ArgMatches<'_>) -> Option<Subcommand>
         "timeline" => Some(Subcommand::Timeline { limit: limit? }),
         "explore" => Some(Subcommand::Explore {
             limit: limit?,
-            tries: option_number(matches, "tries")?,
-            states: option_number(matches, "states")?,
+            tries: tries?,
+            states: states?,
         }),
+        "test" => Some(Subcommand::Test {
+            limit: limit?,
+            tries: tries?,
+            states: states?,
+        }),
+        "inspect" => Some(Subcommand::Inspect { limit: limit? }),
         "run" if paused => Some(Subcommand::Paused { limit: limit? }),
         "run" => Some(Subcommand::Run {
             workers: option_number(matches, "workers")?,
@@ -482,13 +579,18 @@ pub fn invocation_of<'m, 'a>(matches: &'m ArgMatches<'a>) -> Option<Invocation<'
     };
     let trace = matches.get_str("trace");
     let pauses = matches.get_str("pauses");
+    let against = matches.get_str("against");
+    let strict = is_set(matches, "strict");
     let out = matches.get_str("out");
     let from = option_number(matches, "from");
     let last = option_number(matches, "last");
+    let event = option_number(matches, "event");
+    let at = option_number(matches, "at");
     let ends = is_set(matches, "ends");
     let unordered = is_set(matches, "unordered");
     let leaks = is_set(matches, "leaks");
     let whole = is_set(matches, "whole");
+    let orders = is_set(matches, "orders");
     let explains = is_set(matches, "explain");
     let files = matches.get_strs("FILE")?;
     Some(Invocation {
@@ -496,13 +598,18 @@ pub fn invocation_of<'m, 'a>(matches: &'m ArgMatches<'a>) -> Option<Invocation<'
         files,
         trace,
         pauses,
+        against,
+        strict,
         out,
         from,
         last,
+        event,
+        at,
         ends,
         unordered,
         leaks,
         whole,
+        orders,
         explains,
         subcommand,
     })

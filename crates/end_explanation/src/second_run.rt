@@ -43,7 +43,7 @@ pub(crate) struct Moment {
 impl Moment {
     /// The last moment of the run of a program up to the clock limit (1 to 2^62). `map` has what its instructions come from.
     ///
-    /// Errors: out of memory, or 2^64 rounds that come to no end.
+    /// Errors: out of memory, or 2^128 rounds that come to no end.
     pub(crate) fn last(
         alloc: Global,
         map: &StatementMap,
@@ -107,11 +107,11 @@ fn moment_of<B: BookName>(
 
 /// Runs a program whose book is open to its end, on this thread, and notes what an explanation needs. What it prints is dropped.
 ///
-/// Errors: out of memory, or 2^64 rounds that come to no end.
+/// Errors: out of memory, or 2^128 rounds that come to no end.
 fn run_again<B: BookName>(book: &mut Book<B>, notes: &mut Notes) -> Result<SecondRun, Memory> {
     let mut event = book.blank_event();
     let mut prints = 0;
-    'rounds: for _ in 0..u64::MAX {
+    'rounds: for _ in 0..u128::MAX {
         match book.settle_into(&mut event)? {
             Reached::Committed => {
                 notes.take(book, &event)?;

@@ -1,12 +1,15 @@
 //! What is found in other orders of a program's events.
 
-ghost use Rattle.std.specs.Prelude.{◌≡◌, [], ◌∷◌, ◌++◌, OnOk};
+ghost use Rattle.std.specs.Prelude.{◌≡◌, ◌↔◌, [], ◌∷◌, ◌++◌, IsTrue, OnOk, false};
+ghost use Rattle.std.specs.List.{list_all};
+ghost use Rattle.exploration.specs.Shown as limits;
 
-use crate::lines::is_own_limit;
 use crate::runner::Ran;
 use crate::shown::Shown;
 use go_text::Memory;
 use std::alloc::Global;
+use word::end::End;
+use word::panic::Panic;
 
 /// What an exploration comes to.
 #[derive(Clone, Copy, PartialEq, Eq)]
@@ -76,8 +79,11 @@ impl Findings {
     }
 
     /// What it comes to, if all orders were searched or not.
-    pub(crate) fn verdict(&self, is_whole: bool) -> Verdict {
-        let has_other = self.shown.iter().any(|one| !is_own_limit(one.ending));
+    pub(crate) fn verdict(&self, is_whole: bool) -> Verdict
+        ensures other { (result ≡ Verdict.Other) ↔ (list_all (λ one. limits.is_own_limit one.end) self.now.shown.items ≡ false) }
+        ensures same { result ≡ Verdict.Same → IsTrue is_whole × (self.now.shown.items ≡ []) }
+    {
+        let has_other = !are_own_limits(self.shown.as_slice());
         let has_all = is_whole && self.missed == 0 && self.shown.is_empty();
         match (has_other, has_all) {
             (true, _) => Verdict::Other,
@@ -85,4 +91,31 @@ impl Findings {
             (false, false) => Verdict::SameSoFar,
         }
     }
+}
+
+/// Whether each of these ends is a limit of kendo's own.
+fn are_own_limits(shown: &[Shown]) -> bool
+    ensures { result ≡ list_all (λ one. limits.is_own_limit one.end) shown.now }
+{
+    for one in shown.iter() {
+        if !is_own_limit(one.end) {
+            return false;
+        }
+    }
+    true
+}
+
+/// Whether an end is a limit of kendo's own, which Go doesn't have.
+pub fn is_own_limit(end: End) -> bool
+    ensures { result ≡ limits.is_own_limit end }
+{
+    matches!(
+        end,
+        End::Panicked(
+            Panic::ChannelSize
+                | Panic::CallDepth
+                | Panic::TooManyGoroutines
+                | Panic::TooManyChannels
+        )
+    )
 }

@@ -11,7 +11,7 @@ mod shrink;
 mod telling;
 
 pub use exploration::{Exploration, Options};
-pub use findings::{Findings, Verdict};
+pub use findings::{Findings, Verdict, is_own_limit};
 pub use runner::{Ran, Runner};
 pub use scene::Scene;
 pub use shown::Shown;

@@ -67,19 +67,6 @@ fn push_output(said: &mut Words, output: &[u8]) {
     said.text("\"");
 }
 
-/// Whether an end is one of kendo's own limits, which Go doesn't have.
-pub(crate) fn is_own_limit(ending: Ending) -> bool {
-    matches!(
-        ending,
-        Ending::Panicked(
-            Panic::ChannelSize
-                | Panic::CallDepth
-                | Panic::TooManyGoroutines
-                | Panic::TooManyChannels
-        )
-    )
-}
-
 /// Appends how an end comes: its pauses, and where the goroutines stand then.
 pub(crate) fn push_shown_end(
     said: &mut Words,

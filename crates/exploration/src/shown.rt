@@ -1,11 +1,11 @@
 //! Ends that runs of the interpreter have shown.
 
-ghost use Rattle.std.specs.Prelude.{◌≡◌, IfOk, IfSome};
+ghost use Rattle.std.specs.Prelude.{◌≡◌, IfOk, IfSome, IsTrue};
 ghost use Rattle.checker.specs.Trees.{tree_in};
-ghost use Rattle.exploration.specs.Shown.{IsShown};
+ghost use Rattle.exploration.specs.Shown.{IsOther, IsShown, seen};
 ghost use Rattle.syntax.specs.Spans.{tree_of};
 
-use crate::runner::{PausedRun, Runner};
+use crate::runner::{PausedRun, Ran, Runner};
 use crate::shrink::{Wanted, shrunk_delays};
 use go_text::Memory;
 use orders::Found;
@@ -22,9 +22,25 @@ pub struct Shown {
     pub output: Vec<u8>,
     /// The file of the plan with which it runs so.
     pub plan: Vec<u8>,
+    /// Whether goroutines that are left are what differs.
+    pub leaks: bool,
     pub(crate) ending: Ending,
     pub(crate) delays: Vec<Delay>,
     pub(crate) scene: LastScene,
+}
+
+impl Shown {
+    /// Whether it is another end than that of the ordinary run, if this has one.
+    pub(crate) fn is_other(&self, ordinary: &Option<Ran>) -> bool
+        ensures { IsTrue result → IsOther ordinary.now (seen self.now) }
+    {
+        match ordinary {
+            None => true,
+            Some(ran) => self.leaks
+                || self.end != ran.end
+                || self.output.as_slice() != ran.output.as_slice(),
+        }
+    }
 }
 
 /// Where the goroutines stand at an end.
@@ -92,6 +108,7 @@ fn shown_by(
         end: ran.end,
         output: ran.output,
         plan: plan.bytes(alloc)?,
+        leaks: wanted.ending == Ending::Leak,
         ending: wanted.ending,
         delays,
         scene,

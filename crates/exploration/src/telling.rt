@@ -1,15 +1,21 @@
 //! The report of an exploration.
 
+ghost use Rattle.std.specs.Prelude.{◌≡◌, ◌↔◌, [], false, map};
+ghost use Rattle.exploration.specs.Shown.{are_own_limits, seen};
+
 use crate::exploration::Exploration;
-use crate::findings::{Findings, Verdict};
-use crate::lines::{is_own_limit, push_end, push_shown_end};
+use crate::findings::{Findings, Verdict, is_own_limit};
+use crate::lines::{push_end, push_shown_end};
 use crate::scene::Scene;
 use diagnostic_words::words::Words;
 use go_text::Memory;
 
 impl Exploration<'_> {
     /// What it comes to.
-    pub fn verdict(&self, findings: &Findings) -> Verdict {
+    pub fn verdict(&self, findings: &Findings) -> Verdict
+        ensures other { (result ≡ Verdict.Other) ↔ (are_own_limits (map seen findings.now.shown.items) ≡ false) }
+        ensures same { result ≡ Verdict.Same → findings.now.shown.items ≡ [] }
+    {
         findings.verdict(self.search.is_whole())
     }
 
@@ -71,7 +77,7 @@ fn push_others(said: &mut Words, scene: Scene<'_>, findings: &Findings, files: &
         said.number(index.saturating_add(2) as i128);
         said.text("  ");
         push_end(said, scene.alloc, one.ending, one.output.as_slice());
-        if is_own_limit(one.ending) {
+        if is_own_limit(one.end) {
             said.text("  a limit of kendo");
         }
         if let Some(file) = files.get(index) {

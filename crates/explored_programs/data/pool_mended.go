@@ -32,3 +32,5 @@ func work(jobs, results chan int, done chan bool) {
 	}
 	done <- true
 }
+
+// Output: sum 10

@@ -1,12 +1,16 @@
-//! Explores each program of `data`, and prints what is told of it, and the plans that show its ends again.
+//! Explores each program of `data`, and prints what is told of it, and the plans that show its ends again; then how many ends are found
+//! if each move is made among all others.
 //!
 //! Line 2 of each program names what is to be found: `deadlock`, a panic, `output`, `leak` or `none`.
 #![tactic(auto)]
+
+mod unreduced;
 
 use kendo_explore::{Explored, Options, Progress, Scope, Verdict, explore_bytes};
 use row_format::folder::names;
 use std::io::Write;
 use std::{fs, io};
+use unreduced::{Count, unreduced};
 
 fn main(rt: HostRuntime) -> io::Result<()> {
     for name in names(&rt, ".")?.iter() {
@@ -29,6 +33,7 @@ impl Progress for Silent {
 fn explore(rt: &HostRuntime, name: &str) -> io::Result<()> {
     let alloc = rt.alloc();
     let bytes = fs::read(rt, name)?;
+    let again = bytes.clone()?;
     let options = Options {
         tries: 200,
         states: 100_000,
@@ -40,8 +45,23 @@ fn explore(rt: &HostRuntime, name: &str) -> io::Result<()> {
         },
     };
     match explore_bytes(alloc, name, bytes, options, &mut Silent) {
-        Ok(explored) => print(rt, &explored),
+        Ok(explored) => {
+            print(rt, &explored)?;
+            print_unreduced(rt, again, options.scope)
+        }
         Err(fault) => println!(rt; "{name}: {fault}"),
+    }
+}
+
+/// Prints how many ends and states there are if each move is made among all others.
+fn print_unreduced(rt: &HostRuntime, bytes: Vec<u8>, scope: Scope) -> io::Result<()> {
+    match unreduced(rt.alloc(), bytes, scope) {
+        Ok(Some(count)) => {
+            let Count { ends, states } = count;
+            println!(rt; "unreduced: {states} states, {ends} ends")
+        }
+        Ok(None) => println!(rt; "unreduced: not all orders"),
+        Err(fault) => println!(rt; "unreduced: {fault}"),
     }
 }
 

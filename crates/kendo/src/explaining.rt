@@ -58,10 +58,12 @@ fn end_explained(
         | Subcommand::List
         | Subcommand::Paused { .. }
         | Subcommand::Timeline { .. }
+        | Subcommand::Inspect { .. }
         | Subcommand::Explore { .. } => Ok(Vec::new(alloc)),
-        Subcommand::Reference { limit } | Subcommand::Run { limit, .. } => {
-            explain_end(alloc, file, bytes, limit, end)
-        }
+        Subcommand::Test { .. } if end == End::Finished => Ok(Vec::new(alloc)),
+        Subcommand::Reference { limit }
+        | Subcommand::Test { limit, .. }
+        | Subcommand::Run { limit, .. } => explain_end(alloc, file, bytes, limit, end),
     }
 }
 

@@ -2,7 +2,7 @@
 
 ghost use Rattle.std.specs.Prelude.{◌≡◌, ◌⊎◌, IfErr, IfOk};
 ghost use Rattle.command_line.specs.declared.arguments.Subcommand.TheVariants as subcommands;
-ghost use Rattle.kendo_shell.specs.Answers.{Finds, IsVerdict, Tells};
+ghost use Rattle.kendo_shell.specs.Answers.{Finds, IsStatusOf, IsVerdict, Tells};
 
 use crate::explaining::{explain, kept_text};
 use command_line::arguments::{Invocation, Subcommand};
@@ -25,9 +25,9 @@ const NOT_ALL: u8 = 9;
 
 /// Tells on standard error how many states were visited.
 #[derive(Clone, Copy)]
-struct Counter<'r> {
-    rt: &'r HostRuntime,
-    alloc: Global,
+pub(crate) struct Counter<'r> {
+    pub rt: &'r HostRuntime,
+    pub alloc: Global,
 }
 
 impl Progress for Counter<'_> {
@@ -38,17 +38,16 @@ impl Progress for Counter<'_> {
     }
 }
 
-/// An exploration of the program of a file.
+/// An exploration, or a test, of the program of a file.
 #[derive(Clone, Copy)]
-struct Task<'r, 'm, 'a> {
-    rt: &'r HostRuntime,
-    alloc: Global,
-    invocation: &'r Invocation<'m, 'a>,
-    file: &'r str,
+pub(crate) struct Task<'r, 'm, 'a> {
+    pub rt: &'r HostRuntime,
+    pub alloc: Global,
+    pub invocation: &'r Invocation<'m, 'a>,
+    pub file: &'r str,
 }
 
 /// Explores the program of a file, and reports what is found. The plans that show its ends again go to files.
-#[tactic(auto, using(kendo_shell::proofs::Findings::explored))]
 pub(crate) fn explore_file(
     rt: &HostRuntime,
     alloc: Global,
@@ -62,9 +61,23 @@ pub(crate) fn explore_file(
         trace: None,
         ..*invocation
     };
-    let Some((bytes, _no_trace)) = opened(rt, alloc, &source, file, None)? else {
-        return Ok(USAGE);
-    };
+    match opened(rt, alloc, &source, file, None)? {
+        Some((bytes, _no_trace)) => explore(rt, alloc, invocation, file, bytes),
+        None => Ok(USAGE),
+    }
+}
+
+/// Like `explore_file`, for the bytes of the file.
+#[tactic(auto, using(kendo_shell::proofs::Findings::explored))]
+fn explore(
+    rt: &HostRuntime,
+    alloc: Global,
+    invocation: &Invocation<'_, '_>,
+    file: &str,
+    bytes: Vec<u8>,
+) -> Result<u8, Memory>
+    ensures { IfOk result (IsStatusOf invocation.now.subcommand bytes.items) }
+{
     let kept = kept_text(alloc, invocation, bytes.as_slice());
     let mut outputs = Outputs::new(rt, Trace::Dropped);
     let mut verdict = None;
@@ -166,7 +179,7 @@ impl Task<'_, '_, '_> {
     }
 
     /// Writes a plan to its file in the folder, or in the current one.
-    fn write_plan(self, plan: &PlanFile) -> Result<(), Fault>
+    pub(crate) fn write_plan(self, plan: &PlanFile) -> Result<(), Fault>
         ensures { IfErr result (λ fault. (fault ≡ Fault.Memory) ⊎ (fault ≡ Fault.Write)) }
     {
         let name = plan.name.as_str();

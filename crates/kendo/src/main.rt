@@ -2,17 +2,22 @@
 #![tactic(auto)]
 
 ghost use Rattle.std.specs.Prelude.{◌≡◌, ◌⊎◌, IfOk, map, string_bytes};
-ghost use Rattle.kendo_shell.specs.Answers.{Finds, IsStatus, Obeys, Tells};
+ghost use Rattle.kendo_shell.specs.Answers.{Finds, IsStatus, IsStatusOf, Obeys, Tells};
 
+mod comparing;
 mod explaining;
 mod exploring;
+mod inspecting;
 mod pictures;
 mod plans;
+mod testing;
 
 use command_line::arguments::{Invocation, Subcommand, command, invocation_of};
+use comparing::compare_file;
 use explaining::{explain, kept_text};
 use exploring::explore_file;
 use go_text::{Fault, Memory};
+use inspecting::{inspect, moment_conflict};
 use kendo_base::run_text;
 use kendo_code::list_bytes;
 use kendo_front::{paused_bytes, reference_bytes};
@@ -29,6 +34,7 @@ use std::alloc::Global;
 use std::process::ExitCode;
 use std::sync::Wait;
 use std::thread::Threads;
+use testing::test_files;
 use word::end::End;
 
 fn main(rt: HostRuntime) -> ExitCode {
@@ -65,7 +71,7 @@ fn obey(
     }
 }
 
-/// Checks, lists, interprets, draws or runs the files, and reports each outcome. The status is that of the first file whose status
+/// Checks, lists, interprets, draws, explores, tests or runs the files, and reports each outcome. The status is that of the first file whose status
 /// is not 0.
 fn perform(
     rt: &HostRuntime,
@@ -80,6 +86,9 @@ fn perform(
         return Ok(USAGE);
     }
     let invocation = &with_environment(rt, invocation);
+    if let Subcommand::Test { .. } = invocation.subcommand {
+        return test_files(rt, threads, alloc, invocation);
+    }
     let Some(plan) = plan_of(rt, alloc, invocation)? else {
         return Ok(USAGE);
     };
@@ -95,7 +104,16 @@ fn conflict(invocation: &Invocation<'_, '_>) -> Option<&'static [u8]> {
     if invocation.trace.is_some() && invocation.pauses.is_some() {
         return Some(b"kendo: --trace and --pauses can't be used together\n");
     }
-    None
+    if invocation.against.is_some() && invocation.pauses.is_some() {
+        return Some(b"kendo: --against and --pauses can't be used together\n");
+    }
+    if invocation.against.is_some() && invocation.trace.is_some() {
+        return Some(b"kendo: --against and --trace can't be used together\n");
+    }
+    if invocation.strict && invocation.against.is_none() {
+        return Some(b"kendo: --strict needs --against\n");
+    }
+    moment_conflict(invocation)
 }
 
 /// Like `perform`, for all files but the first, whose status is `first`.
@@ -132,6 +150,9 @@ fn perform_on(
     if let Subcommand::Explore { .. } = invocation.subcommand {
         return explore_file(rt, alloc, invocation, file);
     }
+    if let Some(path) = invocation.against {
+        return compare_file(rt, threads, alloc, invocation, path, file);
+    }
     match opened(rt, alloc, invocation, file, name_of(invocation, file))? {
         Some((bytes, trace)) => answer(rt, threads, alloc, invocation, plan, file, bytes, trace),
         None => Ok(USAGE),
@@ -151,7 +172,7 @@ fn answer(
     bytes: Vec<u8>,
     trace: Trace,
 ) -> Result<u8, Memory>
-    ensures { IfOk result (λ status. (status ≡ USAGE) ⊎ Tells invocation.now.subcommand status) }
+    ensures { IfOk result (IsStatusOf invocation.now.subcommand bytes.items) }
 {
     let kept = kept_text(alloc, invocation, bytes.as_slice());
     let mut outputs = Outputs::new(rt, trace);
@@ -186,7 +207,8 @@ fn find(
         Subcommand::Reference { limit } => interpret(alloc, bytes, limit, outputs),
         Subcommand::Paused { limit } => pause(alloc, bytes, plan, limit, outputs),
         Subcommand::Timeline { limit } => picture(alloc, bytes, limit, invocation, outputs),
-        Subcommand::Explore { .. } => Err(Fault::Memory),
+        Subcommand::Explore { .. } | Subcommand::Test { .. } => Err(Fault::Memory),
+        Subcommand::Inspect { limit } => inspect(alloc, bytes, plan, limit, invocation, outputs),
         Subcommand::Run { workers, limit } => {
             run_text(threads, alloc, bytes, workers, limit, outputs)
         }

@@ -17,7 +17,7 @@ use word::end::End;
 use worker_pool::Gate;
 
 /// A gate that holds nobody.
-struct Open;
+pub struct Open;
 
 impl Gate for Open {
     fn at_start(&self, _worker: u64) {}

@@ -5,6 +5,6 @@ mod command;
 pub mod run;
 mod running;
 
-pub use command::run_text;
+pub use command::{Open, run_text};
 pub use run::run_bytes;
 pub use worker_pool::{Gate, TraceWriter};

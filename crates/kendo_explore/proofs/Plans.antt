@@ -1,22 +1,32 @@
--- Plans that show ends, and one more of them.
-use Rattle.std.proofs.Common.{◌≡◌, ℕ, All, List, [], ◌∷◌, ◌++◌, sym, subst, arith}
-use Rattle.std.proofs.lemmas.List.Elements.{All-append, All-cons}
-use Rattle.exploration.specs.Shown.{IsEnd}
+-- The ends that plans show, and that an exploration found.
+use Rattle.std.proofs.Common.{◌≡◌, ◌↔◌, ℕ, All, false, List, [], ◌∷◌, length, map, Option, refl, ap, subst, sym, ◌∙◌, arith}
+use Rattle.std.proofs.lemmas.List.{length-map}
+use Rattle.exploration.specs.Shown.{AreFound, IsEnd, IsOther, ShownEnd, are_own_limits, seen}
+use Rattle.exploration.specs.declared.findings.Findings.{Findings}
+use Rattle.exploration.specs.declared.findings.Verdict.TheVariants.{Other, Same}
+use Rattle.exploration.specs.declared.runner.Ran.{Ran}
 use Rattle.exploration.specs.declared.shown.Shown.{Shown}
-use Rattle.kendo_explore.specs.Explored.{IsPlanShown}
+use Rattle.kendo_explore.specs.Explored.{AreShown, end_by, ends_by}
+use Rattle.kendo_explore.specs.declared.exploring.Explored.{Explored}
 use Rattle.kendo_explore.specs.declared.exploring.PlanFile.{PlanFile}
 use Rattle.syntax.specs.Tree.{File}
 
-none : (file : File) (limit : ℕ) → All (IsPlanShown file limit) []
-none file limit k d within = absurd (omega (arith, within))
+empty : (plans : List PlanFile) → length plans ≡ 0 → plans ≡ []
+empty [] is = refl
+empty (plan ∷ plans) is = absurd (omega (arith, is))
 
--- a plan that shows the same as this end
-shows : (file : File) (limit : ℕ) (one : Shown) (plan : PlanFile) → plan.bytes.items ≡ one.plan.items → plan.output.items ≡ one.output.items → plan.end ≡ one.end
-    → IsEnd file limit one → IsPlanShown file limit plan
-shows file limit one plan bytes output end ends = rw (bytes, output, end) ends
+-- no plan shows an end where none was found
+none : (shown : List Shown) (plans : List PlanFile) → ends_by plans ≡ map seen shown → shown ≡ [] → plans ≡ []
+none shown plans same is = empty plans (sym (length-map plans end_by) ∙ ap length same ∙ length-map shown seen ∙ ap length is)
 
-pub more : (file : File) (limit : ℕ) (one : Shown) (plan : PlanFile) (old new : List PlanFile) → plan.bytes.items ≡ one.plan.items → plan.output.items ≡ one.output.items
-    → plan.end ≡ one.end → new ≡ old ++ plan ∷ [] → IsEnd file limit one → All (IsPlanShown file limit) old → All (IsPlanShown file limit) new
-more file limit one plan old new bytes output end grows ends shown =
-    subst (All (IsPlanShown file limit)) (sym grows)
-    (All-append (IsPlanShown file limit) old (plan ∷ []) shown (All-cons (IsPlanShown file limit) plan [] (shows file limit one plan bytes output end ends) (none file limit)))
+-- what plans show of findings
+pub all_shown : (file : File) (limit : ℕ) (findings : Findings) (explored : Explored) → explored.ordinary ≡ findings.ordinary
+    → ends_by explored.plans.items ≡ map seen findings.shown.items → (explored.verdict ≡ Other) ↔ (are_own_limits (map seen findings.shown.items) ≡ false)
+    → (explored.verdict ≡ Same → findings.shown.items ≡ []) → AreFound file limit findings → AreShown file limit explored
+all_shown file limit findings explored ordinary same other none_other found = record {
+  ordinary = rw ordinary found.ordinary;
+  plans = subst (All (IsEnd file limit)) (sym same) found.shown;
+  others = subst (All (IsOther explored.ordinary)) (sym same) (subst (λ (o : Option Ran). All (IsOther o) (map seen findings.shown.items)) (sym ordinary) found.others);
+  other = subst (λ (l : List ShownEnd). (explored.verdict ≡ Other) ↔ (are_own_limits l ≡ false)) (sym same) other;
+  same = λ is. none findings.shown.items explored.plans.items same (none_other is);
+}

@@ -1,9 +1,9 @@
 //! From the bytes of a source file to what is found in other orders of its events.
 
-ghost use Rattle.std.specs.Prelude.{◌≡◌, ◌⊎◌, ◌↔◌, ℕ, All, IfErr, IfOk, IsErrOf};
+ghost use Rattle.std.specs.Prelude.{◌≡◌, ◌⊎◌, ◌↔◌, ℕ, map, IfErr, IfOk, IsErrOf};
 ghost use Rattle.checker.specs.Trees.{tree_in};
-ghost use Rattle.exploration.specs.Shown.{AreFound, IsEnd};
-ghost use Rattle.kendo_explore.specs.Explored.{AreShown, IsPlanShown};
+ghost use Rattle.exploration.specs.Shown.{AreFound, seen};
+ghost use Rattle.kendo_explore.specs.Explored.{AreShown, end_by, ends_by};
 ghost use Rattle.kendo_reading.specs.Reading.{HasNoReading, IsRefusal, IsWhy, Reads};
 ghost use Rattle.syntax.specs.Spans.{tree_of};
 ghost use Rattle.syntax.specs.Tree.{File};
@@ -39,6 +39,8 @@ pub struct PlanFile {
     pub end: End,
     /// What that run prints.
     pub output: Vec<u8>,
+    /// Whether goroutines that are left at its end are what differs.
+    pub leaks: bool,
 }
 
 /// What is found in other orders of a program's events.
@@ -168,7 +170,7 @@ fn names(scene: Scene<'_>, count: usize) -> Result<Vec<String>, Memory> {
 
 /// The files of the plans that show these ends.
 fn plan_files(scene: Scene<'_>, shown: &[Shown]) -> Result<Vec<PlanFile>, Memory>
-    ensures { (file : File) (limit : ℕ) → All (IsEnd file limit) shown.now → IfOk result (λ plans. All (IsPlanShown file limit) plans.items) }
+    ensures { IfOk result (λ plans. ends_by plans.items ≡ map seen shown.now) }
 {
     let mut plans = Vec::new(scene.alloc);
     for (index, one) in shown.iter().enumerate() {
@@ -179,14 +181,13 @@ fn plan_files(scene: Scene<'_>, shown: &[Shown]) -> Result<Vec<PlanFile>, Memory
 
 /// The file of the plan that shows an end, the one of this index.
 fn plan_file(scene: Scene<'_>, index: usize, one: &Shown) -> Result<PlanFile, Memory>
-    ensures bytes { IfOk result (λ plan. plan.bytes.items ≡ one.now.plan.items) }
-    ensures output { IfOk result (λ plan. plan.output.items ≡ one.now.output.items) }
-    ensures end { IfOk result (λ plan. plan.end ≡ one.now.end) }
+    ensures { IfOk result (λ plan. end_by plan ≡ seen one.now) }
 {
     Ok(PlanFile {
         name: plan_name(scene.alloc, scene.path, index.saturating_add(2))?,
         bytes: one.plan.clone()?,
         end: one.end,
         output: one.output.clone()?,
+        leaks: one.leaks,
     })
 }

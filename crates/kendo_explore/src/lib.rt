@@ -4,6 +4,6 @@
 mod exploring;
 mod names;
 
-pub use exploration::{Options, Ran, Verdict};
+pub use exploration::{Options, Ran, Verdict, is_own_limit};
 pub use exploring::{Explored, PlanFile, Progress, explore_bytes};
 pub use program_states::Scope;

@@ -12,13 +12,11 @@ use Rattle.word.specs.declared.end.End.TheVariants.{Deadlock}
 use Rattle.word.specs.Worlds.{Rest, rules, opening, moment, is_deserted, end_of}
 use Rattle.word.proofs.Laws.{laws}
 use Rattle.meaning.specs.Source.{source_kind}
-use Rattle.parser.proofs.FileLaws.{one_file}
-use Rattle.parser_base.specs.Lexemes.{lexemes}
 use Rattle.syntax.specs.Tree.{File}
 use Rattle.whole_run.specs.Runs.{IsWhole}
 use Rattle.kendo_front.specs.Agreement.{Agree}
 use Rattle.kendo_reading.specs.Reading.{Reads}
-use Rattle.kendo_reading.proofs.Refusals.{spelt_by}
+use Rattle.kendo_reading.proofs.Refusals.{one_reading}
 
 nobody : {S : Type 0} (clock : S → ℕ) (n : ℕ) (xs : List (Option S)) → is_deserted (map is_some xs) ≡ true → keys (option_map clock) n xs ≡ []
 nobody clock n [] e = refl
@@ -69,5 +67,5 @@ agree K limit old new other others e d (n, written, ends) (m, too, also) =
 pub runs_agree : (text : List ℕ) (limit : ℕ) (file again : File) (old new other others : Option (List ℕ)) (e d : Ending) → Reads text file → Reads text again
     → IsWhole (source_kind file) limit old new e → IsWhole (source_kind again) limit other others d → Agree old new other others e d
 runs_agree text limit file again old new other others e d reads too whole also =
-    let same = one_file (lexemes text reads.tokens) again file (spelt_by text reads.tokens again reads.scanned too) reads.spelt in
+    let same = one_reading text again file too reads in
     agree (source_kind file) limit old new other others e d whole (subst (λ (f : File). IsWhole (source_kind f) limit other others d) same also)

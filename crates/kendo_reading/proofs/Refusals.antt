@@ -25,6 +25,10 @@ same_tokens (Err e) ts us a b = absurd cc
 pub spelt_by : (text : List ℕ) (ts : List Token) (file : File) → tokens_of text ≡ Ok ts → Reads text file → Spells (lexemes text ts) file
 spelt_by text ts file scanned r = subst (λ us. Spells (lexemes text us) file) (same_tokens (tokens_of text) r.tokens ts r.scanned scanned) r.spelt
 
+-- a text has at most one reading
+pub one_reading : (text : List ℕ) (first second : File) → Reads text first → Reads text second → first ≡ second
+one_reading text first second a b = one_file (lexemes text a.tokens) first second a.spelt (spelt_by text a.tokens second a.scanned b)
+
 pub treeless : (text : List ℕ) (ts : List Token) → tokens_of text ≡ Ok ts → HasNoTree (lexemes text ts) → HasNoReading text
 treeless text ts scanned none file r = none file (spelt_by text ts file scanned r) r.low r.few r.clauses
 

@@ -2,6 +2,7 @@
 #![tactic(auto)]
 
 mod checking;
+pub mod laws;
 mod reading;
 
 pub use checking::check_bytes;

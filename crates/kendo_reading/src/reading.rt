@@ -1,6 +1,6 @@
 //! From bytes to a checked program.
 
-ghost use Rattle.std.specs.Prelude.{◌≡◌, ◌<◌, ◌≤◌, ◌^◌, ◌⊎◌, Ok, Err, IfErr, IfOk, IsUtf8, length};
+ghost use Rattle.std.specs.Prelude.{◌≡◌, ◌+◌, ◌<◌, ◌≤◌, ◌^◌, ◌⊎◌, Ok, Err, IfErr, IfOk, IsUtf8, length};
 ghost use Rattle.checker.specs.Faults.{Tells};
 ghost use Rattle.typing_rules.specs.Files.{IsTyped};
 ghost use Rattle.checker.specs.Trees.{tree_in};
@@ -45,17 +45,13 @@ pub fn read(alloc: Global, bytes: Vec<u8>) -> Result<(Source, Typed), Fault>
 /// The tokens of a text.
 fn tokens(alloc: Global, source: &Source) -> Result<Vec<Token>, Fault>
     ensures tokens { IfOk result (λ v. spec_tokens_of (bytes_of source.now) ≡ Ok v.items) }
-    ensures few { IfOk result (λ v. length v.items < 2 ^ 32) }
+    ensures few { IfOk result (λ v. length v.items ≤ length (bytes_of source.now) + 1) }
     ensures refused { IfErr result (λ fault. IsRefusal fault → HasNoTokens (bytes_of source.now)) }
     ensures why { IfErr result (λ told. (told ≡ Fault.Memory) ⊎ ((fault : OneFault) × (spec_tokens_of (bytes_of source.now) ≡ Err fault) × (told ≡ located_in (bytes_of source.now) fault))) }
     ensures only { IfErr result IsOfText }
 {
-    let length = source.as_bytes().len();
     match scan(alloc, source) {
-        Ok(tokens) => {
-            prove!(tokens.len() <= length + 1);
-            Ok(tokens)
-        }
+        Ok(tokens) => Ok(tokens),
         Err(fault) => Err(located(source, fault)),
     }
 }

@@ -4,7 +4,7 @@
 
 ghost use Rattle.std.specs.Prelude.{◌≡◌, ◌⊎◌, IfOk, map, string_bytes};
 ghost use Rattle.kendo_run.specs.Tasks.{subcommand_of};
-ghost use Rattle.kendo_shell.specs.Answers.{Finds, IsStatus, Obeys, Tells};
+ghost use Rattle.kendo_shell.specs.Answers.{Finds, IsStatus, IsStatusOf, Obeys, Tells};
 
 mod task;
 
@@ -15,7 +15,7 @@ use kendo_shell::USAGE;
 use kendo_shell::checking::check;
 use kendo_shell::files::opened;
 use kendo_shell::streams::{exit, tell, told};
-use kendo_shell::tracing::Outputs;
+use kendo_shell::tracing::{Outputs, Trace};
 use kendo_shell::words::{first_failure, name_of, show, with_environment, words_in};
 use std::alloc::Global;
 use std::process::ExitCode;
@@ -72,7 +72,7 @@ fn perform(
     let Some(task) = task_of(invocation) else {
         tell(
             rt,
-            b"kendo: this build supports only `check` and `run` without `--explain` and `--pauses`; use ./kendo\n".as_slice(),
+            b"kendo: this build supports only `check` and `run` without `--explain`, `--pauses` and `--against`; use ./kendo\n".as_slice(),
         );
         return Ok(USAGE);
     };
@@ -101,7 +101,6 @@ fn perform_rest(
 }
 
 /// Like `perform`, for one of the files.
-#[tactic(auto, using(kendo_shell::proofs::Findings::told))]
 fn perform_on(
     rt: &HostRuntime,
     threads: &(impl Threads + Wait + Sync),
@@ -113,9 +112,25 @@ fn perform_on(
     ensures { IfOk result (λ status. (status ≡ USAGE) ⊎ Tells (subcommand_of task) status) }
 {
     let name = name_of(invocation, file);
-    let Some((bytes, trace)) = opened(rt, alloc, invocation, file, name)? else {
-        return Ok(USAGE);
-    };
+    match opened(rt, alloc, invocation, file, name)? {
+        Some((bytes, trace)) => answer(rt, threads, alloc, task, name, bytes, trace),
+        None => Ok(USAGE),
+    }
+}
+
+/// Checks or runs a program, and reports the outcome.
+#[tactic(auto, using(kendo_shell::proofs::Findings::told))]
+fn answer(
+    rt: &HostRuntime,
+    threads: &(impl Threads + Wait + Sync),
+    alloc: Global,
+    task: Task,
+    name: Option<&str>,
+    bytes: Vec<u8>,
+    trace: Trace,
+) -> Result<u8, Memory>
+    ensures { IfOk result (IsStatusOf (subcommand_of task) bytes.items) }
+{
     let mut outputs = Outputs::new(rt, trace);
     let outcome = find(threads, alloc, task, bytes, &mut outputs);
     told(rt, alloc, name, &outcome)

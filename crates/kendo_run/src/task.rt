@@ -1,6 +1,7 @@
 //! The commands that this program does.
 
 ghost use Rattle.std.specs.Prelude.{◌≡◌, ◌⊎◌, IfNone, IfSome, IsTrue, false};
+ghost use Rattle.std.specs.Option.{is_some};
 ghost use Rattle.kendo_run.specs.Tasks.{IsAnother, subcommand_of};
 
 use command_line::arguments::{Invocation, Subcommand};
@@ -19,13 +20,13 @@ pub(crate) enum Task {
     },
 }
 
-/// What is asked for, if this program does it: `None` for another command, or if it is to explain.
+/// What is asked for, if this program does it: `None` for another command, or if it is to explain or to compare.
 pub(crate) fn task_of(invocation: &Invocation<'_, '_>) -> Option<Task>
     ensures some { IfSome result (λ task. subcommand_of task ≡ invocation.now.subcommand) }
-    ensures plain { IfSome result (λ _. invocation.now.explains ≡ false) }
-    ensures none { IfNone result (IsTrue invocation.now.explains ⊎ IsAnother invocation.now.subcommand) }
+    ensures plain { IfSome result (λ _. (invocation.now.explains ≡ false) × (is_some invocation.now.against ≡ false)) }
+    ensures none { IfNone result (IsTrue invocation.now.explains ⊎ (IsTrue (is_some invocation.now.against) ⊎ IsAnother invocation.now.subcommand)) }
 {
-    if invocation.explains {
+    if invocation.explains || invocation.against.is_some() {
         return None;
     }
     match invocation.subcommand {
@@ -35,6 +36,8 @@ pub(crate) fn task_of(invocation: &Invocation<'_, '_>) -> Option<Task>
         | Subcommand::Reference { .. }
         | Subcommand::Paused { .. }
         | Subcommand::Timeline { .. }
-        | Subcommand::Explore { .. } => None,
+        | Subcommand::Explore { .. }
+        | Subcommand::Test { .. }
+        | Subcommand::Inspect { .. } => None,
     }
 }

@@ -1,7 +1,7 @@
 -- What a command finds in a text, and the exit status that tells it.
-use Rattle.std.proofs.Common.{◌≡◌, ◌↔◌, ℕ, ◌≤◌, ◌<◌, ◌^◌, ◌⊎◌, inl, inr, List, Result, Ok, Err, IfOk, IfErr, IsErrOf, refl, sym, ap, subst, ◌∙◌, arith}
+use Rattle.std.proofs.Common.{◌≡◌, ◌↔◌, ℕ, ◌≤◌, ◌<◌, ◌^◌, ◌⊎◌, inl, inr, List, [], Result, Ok, Err, IfOk, IfErr, IsErrOf, refl, sym, ap, subst, ◌∙◌, arith}
 use Rattle.std.proofs.lemmas.Bool.{cases_lt}
-use Rattle.kendo_shell.specs.Answers.{Finds, HasReading, IsInBounds, IsReason, IsStatus, IsVerdict, Tells}
+use Rattle.kendo_shell.specs.Answers.{Finds, HasReading, IsInBounds, IsReason, IsStatus, IsStatusOf, IsVerdict, Tells}
 use Rattle.command_line.specs.declared.arguments.Subcommand.{Subcommand}
 use Rattle.command_line.specs.declared.arguments.Subcommand.TheVariants as subcommands
 use Rattle.kendo_report.specs.Outcome.{fault_status, report_status}
@@ -167,6 +167,33 @@ pub findings_lost : (limit tries states : ℕ) (text : List ℕ) (fault : Fault)
 findings_lost limit tries states text fault (inl is) bounds read = no_memory (subcommands.Explore limit tries states) text fault is
 findings_lost limit tries states text fault (inr is) bounds read = explore_loses limit tries states text fault is bounds read
 
+-- ---- a text that is tested
+
+pub test_stops : {T : Type 0} (limit tries states : ℕ) (text : List ℕ) (fault : Fault) → IsErrOf {T = T} (Err fault) faults.BadLimit ↔ (IsLimit limit → ⊥)
+    → (fault ≡ faults.Memory) ⊎ (fault ≡ faults.BadLimit) → IsReason (subcommands.Test limit tries states) text fault
+test_stops limit tries states text fault bad (inl is) = no_memory (subcommands.Test limit tries states) text fault is
+test_stops limit tries states text fault bad (inr is) =
+    subst (IsReason (subcommands.Test limit tries states) text) (sym is) (bad.0 (ap (λ (f : Fault). Err f) is))
+
+-- what came of it can't be written
+pub test_lost : (limit tries states : ℕ) (text : List ℕ) (fault : Fault) → (fault ≡ faults.Memory) ⊎ (fault ≡ faults.Write) → IsReason (subcommands.Test limit tries states) text fault
+test_lost limit tries states text fault (inl is) = no_memory (subcommands.Test limit tries states) text fault is
+test_lost limit tries states text fault (inr is) = subst (IsReason (subcommands.Test limit tries states) text) (sym is) tt
+
+-- ---- a text of whose run a moment is shown
+
+-- what is shown can't be written
+pub inspect_loses : (limit : ℕ) (text : List ℕ) (fault : Fault) → fault ≡ faults.Write → IsLimit limit → HasReading text → IsReason (subcommands.Inspect limit) text fault
+inspect_loses limit text fault is bounds read = subst (IsReason (subcommands.Inspect limit) text) (sym is) (bounds, read)
+
+pub inspect_stops : {T : Type 0} (limit : ℕ) (text : List ℕ) (fault : Fault) → IsErrOf {T = T} (Err fault) faults.BadLimit ↔ (IsLimit limit → ⊥)
+    → IsRefusal fault ⊎ ((fault ≡ faults.Memory) ⊎ (fault ≡ faults.BadLimit)) → (IsRefusal fault → HasNoReading text)
+    → (IsRefusal fault → IsWhy text fault) → IsReason (subcommands.Inspect limit) text fault
+inspect_stops limit text fault bad (inl is) refused why = unreadable (subcommands.Inspect limit) text fault (limit_before limit fault bad (inl is)) is (refused is) (why is)
+inspect_stops limit text fault bad (inr (inl is)) refused why = no_memory (subcommands.Inspect limit) text fault is
+inspect_stops limit text fault bad (inr (inr is)) refused why =
+    subst (IsReason (subcommands.Inspect limit) text) (sym is) (bad.0 (ap (λ (f : Fault). Err f) is))
+
 -- ---- a text that is run
 
 pub run_loses : (workers limit : ℕ) (text : List ℕ) (fault : Fault) → fault ≡ faults.Write → IsWorkers workers × IsLimit limit → HasReading text → IsReason (subcommands.Run workers limit) text fault
@@ -189,13 +216,19 @@ run_stops workers limit text fault bad_workers bad_limit (inr (inr (inr (inr is)
 -- ---- what is told
 
 pub told : (subcommand : Subcommand) (text : List ℕ) (outcome : Result End Fault) (status : ℕ) → Finds subcommand text outcome → status ≡ report_status outcome
-    → (status ≡ 64) ⊎ Tells subcommand status
-told subcommand text outcome status finds is = inr (text, outcome, finds, inl is)
+    → IsStatusOf subcommand text status
+told subcommand text outcome status finds is = (outcome, finds, inl is)
 
 pub explored : (subcommand : Subcommand) (text : List ℕ) (outcome : Result End Fault) (status told : ℕ) → Finds subcommand text outcome → status ≡ report_status outcome
-    → (told ≡ status) ⊎ IsVerdict subcommand outcome told → (told ≡ 64) ⊎ Tells subcommand told
-explored subcommand text outcome status told finds is (inl same) = inr (text, outcome, finds, inl (same ∙ is))
-explored subcommand text outcome status told finds is (inr verdict) = inr (text, outcome, finds, inr verdict)
+    → (told ≡ status) ⊎ IsVerdict subcommand outcome told → IsStatusOf subcommand text told
+explored subcommand text outcome status told finds is (inl same) = (outcome, finds, inl (same ∙ is))
+explored subcommand text outcome status told finds is (inr verdict) = (outcome, finds, inr verdict)
+
+-- the status of one program is that of some program
+pub of_some : {E : Type 0} (subcommand : Subcommand) (text : List ℕ) (result : Result ℕ E) → IfOk result (IsStatusOf subcommand text)
+    → IfOk result (λ status. (status ≡ 64) ⊎ Tells subcommand status)
+of_some subcommand text (Ok status) is = inr (text, is)
+of_some subcommand text (Err e) is = is
 
 fault_is : (subcommand : Subcommand) (text : List ℕ) (fault : Fault) → IsReason subcommand text fault → IsStatus (fault_status fault)
 fault_is subcommand text faults.NotYours is = elim is [ ]
@@ -210,20 +243,31 @@ outcome_is subcommand text (Ok Deadlock) finds = inl (omega arith)
 outcome_is subcommand text (Ok Exhausted) finds = inl (omega arith)
 outcome_is subcommand text (Err fault) finds = fault_is subcommand text fault finds
 
-verdict_is : (subcommand : Subcommand) (outcome : Result End Fault) (status : ℕ) → IsVerdict subcommand outcome status → (status ≡ 8) ⊎ (status ≡ 9)
-verdict_is (subcommands.Explore limit tries states) (Ok end) status is = is
+verdict_is : (subcommand : Subcommand) (outcome : Result End Fault) (status : ℕ) → IsVerdict subcommand outcome status → IsStatus status
+verdict_is (subcommands.Explore limit tries states) (Ok end) status is = inr (inr is)
+verdict_is (subcommands.Test limit tries states) (Ok end) status is = inl (omega (arith, is))
+verdict_is (subcommands.Test limit tries states) (Err fault) status is = absurd is
 verdict_is (subcommands.Explore limit tries states) (Err fault) status is = absurd is
 verdict_is subcommands.Check outcome status is = absurd is
 verdict_is subcommands.List outcome status is = absurd is
 verdict_is (subcommands.Reference limit) outcome status is = absurd is
 verdict_is (subcommands.Timeline limit) outcome status is = absurd is
+verdict_is (subcommands.Inspect limit) outcome status is = absurd is
 verdict_is (subcommands.Paused limit) outcome status is = absurd is
-verdict_is (subcommands.Run workers limit) outcome status is = absurd is
+verdict_is (subcommands.Run workers limit) (Ok end) status is = inr (inr (inl is))
+verdict_is (subcommands.Run workers limit) (Err fault) status is = absurd is
 
 pub told_status : (subcommand : Subcommand) (status : ℕ) → (status ≡ 64) ⊎ Tells subcommand status → IsStatus status
 told_status subcommand status (inl is) = inr (inl is)
-told_status subcommand status (inr (text, outcome, finds, inl is)) = subst IsStatus (sym is) (outcome_is subcommand text outcome finds)
-told_status subcommand status (inr (text, outcome, finds, inr is)) = inr (inr (verdict_is subcommand outcome status is))
+told_status subcommand status (inr (text, (outcome, finds, inl is))) = subst IsStatus (sym is) (outcome_is subcommand text outcome finds)
+told_status subcommand status (inr (text, (outcome, finds, inr is))) = verdict_is subcommand outcome status is
+
+-- the exit status of tests, or, if how many passed can't be written, of that
+pub test_summed : (subcommand : Subcommand) (limit tries states status all : ℕ) → subcommand ≡ subcommands.Test limit tries states → (all ≡ status) ⊎ (all ≡ 6)
+    → (status ≡ 64) ⊎ Tells subcommand status → (all ≡ 64) ⊎ Tells subcommand all
+test_summed subcommand limit tries states status all is (inl same) tells = subst (λ n. (n ≡ 64) ⊎ Tells subcommand n) (sym same) tells
+test_summed subcommand limit tries states status all is (inr lost) tells =
+    inr ([], (Err faults.Write, subst (λ (s : Subcommand). Finds s [] (Err faults.Write)) (sym is) tt, inl lost))
 
 -- one of two exit statuses that tell what was found
 pub either_tells : (subcommand : Subcommand) (first second status : ℕ) → (status ≡ first) ⊎ (status ≡ second) → (first ≡ 64) ⊎ Tells subcommand first → (second ≡ 64) ⊎ Tells subcommand second

@@ -41,11 +41,13 @@ IsInBounds (subcommands.Run workers limit) = IsWorkers workers × IsLimit limit
 IsInBounds (subcommands.Reference limit) = IsLimit limit
 IsInBounds (subcommands.Timeline limit) = IsLimit limit
 IsInBounds (subcommands.Explore limit tries states) = IsLimit limit
+IsInBounds (subcommands.Test limit tries states) = IsLimit limit
+IsInBounds (subcommands.Inspect limit) = IsLimit limit
 IsInBounds (subcommands.Paused limit) = IsLimit limit
 IsInBounds subcommand = Unit {0}
 
 -- why the command finds no end: want of memory; workers or a limit out of their bounds, the workers first; else a writer that refused bytes, of a text that
--- has a reading; or, by this fault, why the text has no reading
+-- has a reading; or, by this fault, why the text has no reading. A test is reported in lines of its own, whatever the text is
 abbrev pub IsReason : Subcommand → List ℕ → Fault → Type 0
 IsReason subcommand text faults.Memory = Unit {0}
 IsReason (subcommands.Run workers limit) text faults.BadWorkers = IsWorkers workers → ⊥
@@ -54,35 +56,46 @@ IsReason (subcommands.Run workers limit) text faults.BadLimit = IsWorkers worker
 IsReason (subcommands.Reference limit) text faults.BadLimit = IsLimit limit → ⊥
 IsReason (subcommands.Timeline limit) text faults.BadLimit = IsLimit limit → ⊥
 IsReason (subcommands.Explore limit tries states) text faults.BadLimit = IsLimit limit → ⊥
+IsReason (subcommands.Test limit tries states) text faults.BadLimit = IsLimit limit → ⊥
+IsReason (subcommands.Inspect limit) text faults.BadLimit = IsLimit limit → ⊥
 IsReason (subcommands.Paused limit) text faults.BadLimit = IsLimit limit → ⊥
 IsReason subcommand text faults.BadLimit = ⊥
 IsReason subcommands.Check text faults.Write = ⊥
+IsReason (subcommands.Test limit tries states) text faults.Write = Unit {0}
 IsReason subcommand text faults.Write = IsInBounds subcommand × HasReading text
 IsReason subcommand text (faults.Unverified rule function place) = ⊥
 IsReason subcommand text faults.NotYours = ⊥
 IsReason subcommand text fault = IsInBounds subcommand × HasNoReading text × IsWhy text fault
 
--- what the command finds in the text: that it has a reading, or that a picture was made of its run, or that it was explored, or how its run ends, or why none
--- of these
+-- what the command finds in the text: that it has a reading, or that a picture was made of its run, or that it was explored or tested, or a moment of its run shown, or how its run
+-- ends, or why none of these
 abbrev pub Finds : Subcommand → List ℕ → Result End Fault → Type 0
 Finds subcommands.Check text (Ok end) = (end ≡ Finished) × HasReading text
 Finds subcommands.List text (Ok end) = (end ≡ Finished) × HasReading text
 Finds (subcommands.Reference limit) text (Ok end) = IsLimit limit × EndsAs text limit end
 Finds (subcommands.Timeline limit) text (Ok end) = (end ≡ Finished) × IsLimit limit × HasReading text
 Finds (subcommands.Explore limit tries states) text (Ok end) = (end ≡ Finished) × IsLimit limit × HasReading text
+Finds (subcommands.Test limit tries states) text (Ok end) = (end ≡ Finished) × IsLimit limit
+Finds (subcommands.Inspect limit) text (Ok end) = (end ≡ Finished) × IsLimit limit × HasReading text
 Finds (subcommands.Paused limit) text (Ok end) = IsLimit limit × EndsPaused text limit end
 Finds (subcommands.Run workers limit) text (Ok end) = IsWorkers workers × IsLimit limit × EndsAs text limit end
 Finds subcommand text (Err fault) = IsReason subcommand text fault
 
--- the exit status of an exploration that found another end, or could not search all orders
+-- the exit status of an exploration that found another end, or could not search all orders, of a test that failed, and of a run that is not the recorded one
 abbrev pub IsVerdict : Subcommand → Result End Fault → ℕ → Type 0
 IsVerdict (subcommands.Explore limit tries states) (Ok end) status = (status ≡ 8) ⊎ (status ≡ 9)
+IsVerdict (subcommands.Test limit tries states) (Ok end) status = status ≡ 1
+IsVerdict (subcommands.Run workers limit) (Ok end) status = status ≡ 8
 IsVerdict subcommand outcome status = ⊥
 
--- an exit status that tells what was found in some text
+-- the exit status of what the command finds in this program
+abbrev pub IsStatusOf : Subcommand → List ℕ → ℕ → Type 0
+IsStatusOf subcommand text status =
+    (outcome : Result End Fault) × Finds subcommand text outcome × ((status ≡ report_status outcome) ⊎ IsVerdict subcommand outcome status)
+
+-- the exit status of what the command finds in some program, as a file's bytes are in no contract
 abbrev pub Tells : Subcommand → ℕ → Type 0
-Tells subcommand status =
-    (text : List ℕ) × (outcome : Result End Fault) × Finds subcommand text outcome × ((status ≡ report_status outcome) ⊎ IsVerdict subcommand outcome status)
+Tells subcommand status = (text : List ℕ) × IsStatusOf subcommand text status
 
 -- an exit status of the program
 abbrev pub IsStatus : ℕ → Type 0

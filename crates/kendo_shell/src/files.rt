@@ -90,6 +90,33 @@ pub fn other_bytes(
     Ok(None)
 }
 
+/// Like `other_bytes`, but of a file of any length.
+///
+/// Errors: `Memory`.
+pub fn all_bytes(
+    rt: &HostRuntime,
+    alloc: Global,
+    path: &str,
+    explains: bool,
+) -> Result<Option<Vec<u8>>, Memory> {
+    match read_all(rt, alloc, path) {
+        Ok(bytes) => Ok(Some(bytes)),
+        Err(error) => {
+            let unusable = Unusable::new("read", path, Reason::of(&error));
+            unusable.report(rt, alloc, None, explains)?;
+            Ok(None)
+        }
+    }
+}
+
+/// The bytes of a file.
+fn read_all(rt: &HostRuntime, alloc: Global, path: &str) -> io::Result<Vec<u8>> {
+    let mut bytes = Vec::new(alloc);
+    let mut file = File::open(rt, path)?;
+    file.read_to_end(&mut bytes)?;
+    Ok(bytes)
+}
+
 /// The bytes of a file, up to one more than a source file may have.
 fn read_file(rt: &HostRuntime, alloc: Global, path: &str) -> io::Result<Vec<u8>> {
     read_source(alloc, File::open(rt, path)?)

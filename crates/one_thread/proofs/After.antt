@@ -3,7 +3,7 @@ use Rattle.std.proofs.Common.{◌≡◌, ◌≢◌, ℕ, zero, suc, ◌+◌, Boo
 use Rattle.std.specs.Prelude.{◌==◌, slice_index_or, slice_set}
 use Rattle.std.specs.Option.{is_some}
 use Rattle.std.proofs.lemmas.Bool.{eq-eqb, ne_eqb}
-use Rattle.std.proofs.lemmas.List.{map-append}
+use Rattle.std.proofs.lemmas.List.{map-append, set-get_or}
 use Rattle.logical_clock.specs.declared.key.Key.{Key}
 use Rattle.reference_world.specs.Deeds.{IsShownBy, SharedValue, deed_of, history_of}
 use Rattle.reference_world.specs.declared.deed.Deed.{Deed as Did}
@@ -20,7 +20,7 @@ use Rattle.one_thread.specs.declared.goroutine.Goroutine.{Goroutine}
 use Rattle.one_thread.specs.Places.{Sets, SleepOn, Wakes, awake_in, awake_of, bed_at, here, woken_to}
 use Rattle.one_thread.specs.Worlds.{Applies, IsWorldOf, LieIn, Misses, Once, numbers}
 use Rattle.one_thread.proofs.Orderly.{orderly, woken_numbers}
-use Rattle.one_thread.proofs.Standing.{awake_is, awake_no_bed, no_bed, sleep_on}
+use Rattle.one_thread.proofs.Standing.{awake_is, awake_no_bed, here_is, no_bed, sleep_on}
 
 module _ {S : Type 0} (K : GoroutineKind) (held : S → K.State) (limit : ℕ) where
   abbrev Places : Type 0
@@ -118,8 +118,14 @@ module _ {S : Type 0} (K : GoroutineKind) (held : S → K.State) (limit : ℕ) w
     set_is : (mid : Places) (a b : Option (Clocked K.State)) → Sets held old mid n a b → awake_in held mid ≡ slice_set w.awake n a
     set_is mid a b set = set.awake ∙ ap (λ (x : List (Option (Clocked K.State))). slice_set x n a) fits.awake
 
-    pub applied : (deed : Did) → Known w.shared.shared n p v' (what deed) → v'.ending ≡ None → Applies K held (s.clock + 1) n s deed old new → IsWorldOf K held (after w n s (what deed)) new v'
-    applied (did.Done reply woken) k going h =
+    -- the actor stays as it was
+    set_back : slice_set w.awake n (Some s) ≡ w.awake
+    set_back =
+        let at : slice_index_or w.awake n None ≡ Some s = ap (λ (a : List (Option (Clocked K.State))). slice_index_or a n None) (sym fits.awake) ∙ here_is held old n ∙ up in
+        ap (λ (x : Option (Clocked K.State)). slice_set w.awake n x) (sym at) ∙ set-get_or w.awake n None
+
+    pub applied : (deed : Did) → Known w.shared.shared n p v' (what deed) → Applies K held (s.clock + 1) n s deed old new → IsWorldOf K held (after w n s (what deed)) new v'
+    applied (did.Done reply woken) k h =
         let on = on_by h.0 (Some (told K s (s.clock + 1) (reply_of reply))) h.1 in
         let r = wakes_all (s.clock + 1) w.shared.beds woken.items h.0 new k.woken (all_beds old h.0 w.shared.beds w.shared.shared.asleep woken.items lay on k.fair.woken) h.2 in
         record {
@@ -128,13 +134,13 @@ module _ {S : Type 0} (K : GoroutineKind) (held : S → K.State) (limit : ℕ) w
           shared = k.shown;
           once = k.asleep;
         }
-    applied (did.Prints bytes) k going set = record {
+    applied (did.Prints bytes) k set = record {
       awake = set_is new (Some (told K s (s.clock + 1) Nothing)) None set ∙ sym (append-nil _);
       beds = all_lie new w.shared.beds _ (λ x i. lay x (k.fair.asleep x i) ∙ sym (on_by new (Some (told K s (s.clock + 1) Nothing)) set x.number));
       shared = k.shown;
       once = k.asleep;
     }
-    applied (did.Starts function arguments) k going h =
+    applied (did.Starts function arguments) k h =
         let mid : Places = h.0 in
         let g : Goroutine S = h.1 in
         let on = on_by mid (Some (told K s (s.clock + 1) Nothing)) h.2 in
@@ -145,7 +151,7 @@ module _ {S : Type 0} (K : GoroutineKind) (held : S → K.State) (limit : ℕ) w
           shared = k.shown;
           once = k.asleep;
         }
-    applied did.Sleeps k going set = record {
+    applied did.Sleeps k set = record {
       awake = set_is new None (Some s) set ∙ sym (append-nil _);
       beds = all_lie new (record { number = n; state = s } ∷ w.shared.beds) _ (λ x i. laid x (k.fair.asleep x i));
       shared = k.shown;
@@ -157,11 +163,21 @@ module _ {S : Type 0} (K : GoroutineKind) (held : S → K.State) (limit : ℕ) w
         laid x (inr e) =
             let m : x.number ≡ n = ap (λ (y : Sleeper). y.number) e in
             ap (λ (b : Bool). cond b (Some s) (in_bed x.number w.shared.beds)) (eq-eqb n x.number (sym m)) ∙ sym set.bed ∙ ap (bed_at held new) (sym m)
-    applied did.Leaves k going set = record {
+    applied did.Leaves k set = record {
       awake = set_is new None None set ∙ sym (append-nil _);
       beds = all_lie new w.shared.beds _ (λ x i. lay x (k.fair.asleep x i) ∙ sym (on_by new None set x.number));
       shared = k.shown;
       once = k.asleep;
     }
-    applied (did.Panics cause clause) k going h = let e = k.shown.ending in cc
-    applied (did.Ends end) k going h = let e = k.shown.ending in cc
+    applied (did.Panics cause clause) k same = record {
+      awake = ap (awake_in held) same ∙ fits.awake ∙ sym set_back ∙ sym (append-nil _);
+      beds = all_lie new w.shared.beds _ (λ x i. lay x (k.fair.asleep x i) ∙ ap (λ (y : Places). bed_at held y x.number) (sym same));
+      shared = k.shown;
+      once = k.asleep;
+    }
+    applied (did.Ends end) k same = record {
+      awake = ap (awake_in held) same ∙ fits.awake ∙ sym set_back ∙ sym (append-nil _);
+      beds = all_lie new w.shared.beds _ (λ x i. lay x (k.fair.asleep x i) ∙ ap (λ (y : Places). bed_at held y x.number) (sym same));
+      shared = k.shown;
+      once = k.asleep;
+    }

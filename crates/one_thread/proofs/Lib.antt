@@ -4,3 +4,5 @@ pub mod Orderly
 pub mod Standing
 pub mod Within
 pub mod Keyed
+mod Falling
+pub mod Snapshots

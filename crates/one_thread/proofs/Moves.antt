@@ -1,12 +1,14 @@
 -- Moves of the run, and what was written.
-use Rattle.std.proofs.Common.{◌≡◌, ℕ, zero, suc, ◌+◌, Bool, true, false, ◌&&◌, not, cond, List, [], ◌∷◌, ◌++◌, length, map, take, Option, Some, None, refl, sym, ap, ◌∙◌, subst, append-nil, append_assoc, zero-add, suc-add}
+use Rattle.std.proofs.Common.{◌≡◌, ℕ, suc, ◌+◌, Bool, true, false, ◌&&◌, not, cond, List, [], ◌∷◌, ◌++◌, length, map, take, Option, Some, None, refl, sym, ap, ◌∙◌, subst, append-nil, append_assoc, zero-add, suc-add}
 use Rattle.std.specs.Prelude.{◌==◌, ◌^◌, Result, Ok, Err, IfOk, option_map, slice_index_or}
 use Rattle.std.specs.Io.KnownBytes.{Appends}
 use Rattle.std.specs.Option.{is_some}
 use Rattle.std.proofs.Math.Seq.{take-length}
 use Rattle.logical_clock.specs.declared.key.Key.{Key}
 use Rattle.logical_clock.specs.Order.{keys, least, sooner, with_key}
+use Rattle.reference_world.proofs.Events.{deed_events}
 use Rattle.reference_world.specs.Deeds.{History, MeetingValue, Performs, SharedValue, deed_of, history_of, opened}
+use Rattle.reference_world.specs.Events.{event_by}
 use Rattle.reference_world.specs.declared.deed.Deed.{Deed as Did}
 use Rattle.reference_world.specs.declared.deed.Deed.TheVariants as did
 use Rattle.turn_rule.specs.Turns.{World, move_at, move_next, next, one}
@@ -20,13 +22,13 @@ use Rattle.word.specs.Views.{request_of}
 use Rattle.word.specs.Worlds.{Bed, Rest, end_of, is_deserted, moment, opening, rules}
 use Rattle.one_thread.specs.declared.goroutine.Goroutine.{Goroutine}
 use Rattle.one_thread.specs.declared.goroutine.Turn.TheVariants as turns
-use Rattle.one_thread.specs.Places.{AdvancesAt, IsAt, SleepOn, awake_in, awake_of, clock_of, clocked, here}
+use Rattle.one_thread.specs.Places.{AdvancesAt, IsAt, SleepOn, StepsAt, awake_in, awake_of, clock_of, clocked, here}
 use Rattle.one_thread.specs.Worlds.{Applies, Goes, IsAsked, IsLast, IsOpen, IsWorldOf, LieIn, Stands, printed}
 use Rattle.whole_run.specs.Runs.{BeginsOutput, IsWhole}
 use Rattle.one_thread.proofs.After.{Known, after, applied, known, one_after}
 use Rattle.word.specs.declared.request.Request.{Request as Asked}
 use Rattle.word.proofs.Laws.{laws}
-use Rattle.one_thread.proofs.Standing.{awake_is}
+use Rattle.one_thread.proofs.Standing.{awake_is, here_is}
 
 appends_more : (old mid new : Option (List ℕ)) (xs ys : List ℕ) → Appends old mid xs → Appends mid new ys → Appends old new (xs ++ ys)
 appends_more None mid new xs ys a b = tt
@@ -81,11 +83,6 @@ module _ {S : Type 0} (K : GoroutineKind) (held : S → K.State) (limit : ℕ) w
   keys_is n [] = refl
   keys_is n (x ∷ xs) = ap (λ (o : Option ℕ). with_key n o (keys (option_map (rules K limit).clock) (suc n) (awake_in held xs))) (clock_is x) ∙ ap (with_key n (clock_of x)) (keys_is (suc n) xs)
 
-  here_is : (xs : List (Option (Goroutine S))) (n : ℕ) → slice_index_or (awake_in held xs) n None ≡ here (awake_of held) xs n
-  here_is [] n = refl
-  here_is (x ∷ xs) zero = refl
-  here_is (x ∷ xs) (suc n) = here_is xs n
-
   -- ---- nobody is awake
 
   nobody_by : (n : ℕ) (x : Option (Goroutine S)) (o : Option ℕ) (ks : List Key) → clock_of x ≡ o → least (with_key n o ks) ≡ None → (clock_of x ≡ None) × (least ks ≡ None)
@@ -106,6 +103,25 @@ module _ {S : Type 0} (K : GoroutineKind) (held : S → K.State) (limit : ℕ) w
       let t = nobody_by n x (clock_of x) (keys clock_of (suc n) xs) refl h in
       ap (λ (b : Bool). not b && is_deserted (map is_some (awake_in held xs))) (not_awake x t.0) ∙ deserted (suc n) xs t.1
 
+  -- ---- somebody is awake
+
+  is_awake : (x : Option (Goroutine S)) (c : ℕ) → clock_of x ≡ Some c → is_some (awake_of held x) ≡ true
+  is_awake None c e = cc
+  is_awake (Some g) c e = go g.asleep e
+    where
+      go : (b : Bool) → cond b None (Some g.clock) ≡ Some c → is_some (cond b None (Some (clocked held g))) ≡ true
+      go true e' = cc
+      go false e' = refl
+
+  somebody_by : (n : ℕ) (x : Option (Goroutine S)) (o : Option ℕ) (xs : List (Option (Goroutine S))) (k : Key) → clock_of x ≡ o → least (with_key n o (keys clock_of (suc n) xs)) ≡ Some k
+      → (least (keys clock_of (suc n) xs) ≡ Some k → is_deserted (map is_some (awake_in held xs)) ≡ false) → is_deserted (map is_some (awake_in held (x ∷ xs))) ≡ false
+  somebody_by n x None xs k e h rest = ap (λ (b : Bool). not b && is_deserted (map is_some (awake_in held xs))) (not_awake x e) ∙ rest h
+  somebody_by n x (Some c) xs k e h rest = ap (λ (b : Bool). not b && is_deserted (map is_some (awake_in held xs))) (is_awake x c e)
+
+  somebody : (n : ℕ) (xs : List (Option (Goroutine S))) (k : Key) → least (keys clock_of n xs) ≡ Some k → is_deserted (map is_some (awake_in held xs)) ≡ false
+  somebody n [] k h = cc
+  somebody n (x ∷ xs) k h = somebody_by n x (clock_of x) xs k refl h (somebody (suc n) xs k)
+
   -- ---- the world in memory
 
   lie_on : (old new : List (Option (Goroutine S))) (beds : List (Bed K.State)) (ss : List Sleeper) → SleepOn held old new → LieIn K held old beds ss → LieIn K held new beds ss
@@ -116,7 +132,7 @@ module _ {S : Type 0} (K : GoroutineKind) (held : S → K.State) (limit : ℕ) w
   next_is w old v o fits is = ap (λ (a : List (Option (Clocked K.State))). next (rules K limit) a) (sym fits.awake) ∙ ap least (keys_is 0 old) ∙ is
 
   at_is : (w : World (Clocked K.State) (Rest K.State)) (old : List (Option (Goroutine S))) (v : SharedValue) (n : ℕ) → IsWorldOf K held w old v → slice_index_or w.awake n None ≡ here (awake_of held) old n
-  at_is w old v n fits = ap (λ (a : List (Option (Clocked K.State))). slice_index_or a n None) (sym fits.awake) ∙ here_is old n
+  at_is w old v n fits = ap (λ (a : List (Option (Clocked K.State))). slice_index_or a n None) (sym fits.awake) ∙ here_is held old n
 
   moment_next : (n : ℕ) → moment K limit (n + 1) ≡ one (rules K limit) (moment K limit n)
   moment_next n = run_add (rules K limit) (laws K limit) n 1 (opening K)
@@ -133,10 +149,15 @@ module _ {S : Type 0} (K : GoroutineKind) (held : S → K.State) (limit : ℕ) w
     pub begins : BeginsOutput K limit seen now
     begins = (st.moves, length w.shared.shared.output, subst (Appends seen now) (sym (take-length w.shared.shared.output)) st.written)
 
-    ends : least (keys clock_of 0 old) ≡ None → end_of w ≡ Some Deadlock
+    pub ends : least (keys clock_of 0 old) ≡ None → end_of w ≡ Some Deadlock
     ends none =
         ap (λ (o : Option Ending). cond (is_some o) o (cond (is_deserted (map is_some w.awake)) (Some Deadlock) None)) goes
         ∙ ap (λ (b : Bool). cond b (Some Deadlock) None) (ap (λ (a : List (Option (Clocked K.State))). is_deserted (map is_some a)) (sym st.world.awake) ∙ deserted 0 old none)
+
+    pub runs_on : (turn : Key) → least (keys clock_of 0 old) ≡ Some turn → end_of w ≡ None
+    runs_on turn is =
+        ap (λ (o : Option Ending). cond (is_some o) o (cond (is_deserted (map is_some w.awake)) (Some Deadlock) None)) goes
+        ∙ ap (λ (b : Bool). cond b (Some Deadlock) None) (ap (λ (a : List (Option (Clocked K.State))). is_deserted (map is_some a)) (sym st.world.awake) ∙ somebody 0 old turn is)
 
     pub deadlock : least (keys clock_of 0 old) ≡ None → IsWhole K limit seen now Deadlock
     deadlock none = (st.moves, st.written, ends none)
@@ -144,35 +165,47 @@ module _ {S : Type 0} (K : GoroutineKind) (held : S → K.State) (limit : ℕ) w
     pub deadlock_last : least (keys clock_of 0 old) ≡ None → IsLast K held limit None old
     deadlock_last none = (st.moves, v, st.world, ends none)
 
-    pub stepped : (key : Key) (place : ℕ) (new : List (Option (Goroutine S))) → least (keys clock_of 0 old) ≡ Some key → key.number ≡ place → AdvancesAt K held limit turns.Stepped old place new → Stands K held limit seen now new v
-    stepped key place new is number h =
-        let there : World (Clocked K.State) (Rest K.State) = record { awake = awake_in held new; shared = w.shared } in
-        let moves : one (rules K limit) w ≡ there =
-        ap (λ (o : Option Ending). cond (is_some o) w (move_next (rules K limit) w (next (rules K limit) w.awake))) goes
+    -- the world after a local step
+    pub stepped_to : (key : Key) (place : ℕ) (new : List (Option (Goroutine S))) → least (keys clock_of 0 old) ≡ Some key → key.number ≡ place → StepsAt K held limit old place new
+        → moment K limit (st.moves + 1) ≡ record { awake = awake_in held new; shared = w.shared }
+    stepped_to key place new is number h =
+        moment_next st.moves
+        ∙ (ap (λ (o : Option Ending). cond (is_some o) w (move_next (rules K limit) w (next (rules K limit) w.awake))) goes
         ∙ ap (move_next (rules K limit) w) (next_is w old v (Some key) st.world is)
         ∙ ap (λ (n : ℕ). move_at (rules K limit) w n (slice_index_or w.awake n None)) number
         ∙ ap (move_at (rules K limit) w place) (at_is w old v place st.world)
         ∙ ap (λ (a : List (Option (Clocked K.State))). move_at (rules K limit) (record { awake = a; shared = w.shared }) place (here (awake_of held) old place)) (sym st.world.awake)
-        ∙ h.0 w.shared in
-        let e : moment K limit (st.moves + 1) ≡ there = moment_next st.moves ∙ moves in
-        record {
-          moves = st.moves + 1;
-          world = subst (λ (x : World (Clocked K.State) (Rest K.State)). IsWorldOf K held x new v) (sym e) (record { awake = refl; beds = lie_on old new w.shared.beds w.shared.shared.asleep h.1 st.world.beds; shared = st.world.shared; once = st.world.once });
-          written = subst (λ (x : World (Clocked K.State) (Rest K.State)). Appends seen now x.shared.shared.output) (sym e) st.written;
-          goes_on = st.goes_on;
-        }
+        ∙ h.0 w.shared)
+
+    pub stepped_world : (key : Key) (place : ℕ) (new : List (Option (Goroutine S))) → least (keys clock_of 0 old) ≡ Some key → key.number ≡ place → StepsAt K held limit old place new
+        → IsWorldOf K held (moment K limit (st.moves + 1)) new v
+    stepped_world key place new is number h =
+        subst (λ (x : World (Clocked K.State) (Rest K.State)). IsWorldOf K held x new v) (sym (stepped_to key place new is number h))
+        (record { awake = refl; beds = lie_on old new w.shared.beds w.shared.shared.asleep h.1 st.world.beds; shared = st.world.shared; once = st.world.once })
+
+    pub stepped : (key : Key) (place : ℕ) (new : List (Option (Goroutine S))) → least (keys clock_of 0 old) ≡ Some key → key.number ≡ place → StepsAt K held limit old place new → Stands K held limit seen now new v
+    stepped key place new is number h = record {
+      moves = st.moves + 1;
+      world = stepped_world key place new is number h;
+      written = subst (λ (x : World (Clocked K.State) (Rest K.State)). Appends seen now x.shared.shared.output) (sym (stepped_to key place new is number h)) st.written;
+      goes_on = st.goes_on;
+    }
+
+    -- the world of a goroutine that asks stays
+    pub asked_world : (new : List (Option (Goroutine S))) → awake_in held new ≡ awake_in held old → SleepOn held old new → IsWorldOf K held w new v
+    asked_world new same on = record { awake = same ∙ st.world.awake; beds = lie_on old new w.shared.beds w.shared.shared.asleep on st.world.beds; shared = st.world.shared; once = st.world.once }
 
     pub asks_on : (key : Key) (place clock : ℕ) (request : Asked) (new : List (Option (Goroutine S))) → least (keys clock_of 0 old) ≡ Some key → key.number ≡ place → AdvancesAt K held limit (turns.Asks request clock) old place new → Stands K held limit seen now new v × IsAsked K held limit new place clock (request_of request)
     asks_on key place clock request new is number h = (
       record {
         moves = st.moves;
-        world = record { awake = h.4 ∙ st.world.awake; beds = lie_on old new w.shared.beds w.shared.shared.asleep h.5 st.world.beds; shared = st.world.shared; once = st.world.once };
+        world = asked_world new h.4 h.5;
         written = st.written;
         goes_on = st.goes_on;
       },
       record {
         state = h.0;
-        at = record { here = sym (here_is new place) ∙ ap (λ (a : List (Option (Clocked K.State))). slice_index_or a place None) h.4 ∙ here_is old place ∙ h.1.here; asks = h.1.asks };
+        at = record { here = sym (here_is held new place) ∙ ap (λ (a : List (Option (Clocked K.State))). slice_index_or a place None) h.4 ∙ here_is held old place ∙ h.1.here; asks = h.1.asks };
         what = h.2;
         at_clock = h.3;
         key = key;
@@ -222,6 +255,30 @@ module _ {S : Type 0} (K : GoroutineKind) (held : S → K.State) (limit : ℕ) w
             (appends_more seen now new w.shared.shared.output (take k (printed deed)) st.written a),
       )
 
+      is : d ≡ deed_of (history_of w.shared.shared) place ask.state.clock (meant w.shared.shared place q) deed v' v'.meeting
+      is = (done w.shared.shared st.world.shared).0
+
+      -- the world after the request
+      pub went : (new : List (Option (Goroutine S))) (later : ℕ) → later ≡ clock + 1 → Applies K held later place ask.state deed old new → IsWorldOf K held (moment K limit (st.moves + 1)) new v'
+      went new later one applies =
+          subst (λ (x : World (Clocked K.State) (Rest K.State)). IsWorldOf K held x new v') (sym (next_moment ∙ ap (after K held limit w place ask.state) is))
+          (applied K held limit w old new v v' place ask.state (meant w.shared.shared place q) st.world ask.at.here deed
+          (subst (λ (x : Deed). Known K held limit w.shared.shared place (meant w.shared.shared place q) v' x) is (known K held limit w.shared.shared place ask.state.clock q v' st.world.once (done w.shared.shared st.world.shared).1))
+          (subst (λ (c : ℕ). Applies K held c place ask.state deed old new) (one ∙ ap (λ (c : ℕ). c + 1) ask.at_clock) applies))
+
+      -- the events then
+      pub events_after : (moment K limit (st.moves + 1)).shared.shared.events ≡ w.shared.shared.events ++ event_by place ask.state.clock (meant w.shared.shared place q) v'.made deed ∷ []
+      events_after =
+          ap (λ (x : World (Clocked K.State) (Rest K.State)). x.shared.shared.events) next_moment
+          ∙ ap (λ (x : Deed). x.shared.events) is
+          ∙ deed_events (history_of w.shared.shared) place ask.state.clock (meant w.shared.shared place q) deed v' v'.meeting
+
+      -- how the run has ended then
+      pub ends_after : (e : Ending) → v'.ending ≡ Some e → end_of (moment K limit (st.moves + 1)) ≡ Some e
+      ends_after e h =
+          ap (λ (x : World (Clocked K.State) (Rest K.State)). end_of x) next_moment
+          ∙ ap (λ (o : Option Ending). cond (is_some o) o (cond (is_deserted (map is_some (after K held limit w place ask.state d).awake)) (Some Deadlock) None)) (sym (done w.shared.shared st.world.shared).1.ending ∙ h)
+
       -- all of it is written
       pub goes_after : (written : Option (List ℕ)) (new : List (Option (Goroutine S))) (later : ℕ) → later ≡ clock + 1 → Appends now written (printed deed) → Applies K held later place ask.state deed old new → Goes K held limit seen written new v' v'.ending
       goes_after written new later one a applies = go v'.ending refl
@@ -229,43 +286,27 @@ module _ {S : Type 0} (K : GoroutineKind) (held : S → K.State) (limit : ℕ) w
           all : Appends seen written (moment K limit (st.moves + 1)).shared.shared.output
           all = subst (Appends seen written) (sym output_is) (appends_more seen now written w.shared.shared.output (printed deed) st.written a)
 
-          is : d ≡ deed_of (history_of w.shared.shared) place ask.state.clock (meant w.shared.shared place q) deed v' v'.meeting
-          is = (done w.shared.shared st.world.shared).0
-
-          ends_so : (e : Option Ending) → v'.ending ≡ e → d.shared.ending ≡ e
-          ends_so e h = sym (done w.shared.shared st.world.shared).1.ending ∙ h
-
           go : (o : Option Ending) → v'.ending ≡ o → Goes K held limit seen written new v' o
-          go (Some e) h = (
-            st.moves + 1,
-            all,
-            ap (λ (x : World (Clocked K.State) (Rest K.State)). end_of x) next_moment
-                ∙ ap (λ (o : Option Ending). cond (is_some o) o (cond (is_deserted (map is_some (after K held limit w place ask.state d).awake)) (Some Deadlock) None)) (ends_so (Some e) h),
-          )
-          go None h = record {
-            moves = st.moves + 1;
-            world = subst (λ (x : World (Clocked K.State) (Rest K.State)). IsWorldOf K held x new v') (sym (next_moment ∙ ap (after K held limit w place ask.state) is))
-                (applied K held limit w old new v v' place ask.state (meant w.shared.shared place q) st.world ask.at.here deed
-                (subst (λ (x : Deed). Known K held limit w.shared.shared place (meant w.shared.shared place q) v' x) is (known K held limit w.shared.shared place ask.state.clock q v' st.world.once (done w.shared.shared st.world.shared).1))
-                h (subst (λ (c : ℕ). Applies K held c place ask.state deed old new) (one ∙ ap (λ (c : ℕ). c + 1) ask.at_clock) applies));
-            written = all;
-            goes_on = h;
-          }
+          go (Some e) h = (st.moves + 1, all, ends_after e h)
+          go None h = record { moves = st.moves + 1; world = went new later one applies; written = all; goes_on = h }
 
   -- ---- the beginning
 
-  pub opened_stands : (seen : Option (List ℕ)) (places : List (Option (Goroutine S))) (v : SharedValue) → IsOpen K held places → v ≡ opened → Stands K held limit seen seen places v
-  opened_stands seen places v start is =
+  pub opened_world : (places : List (Option (Goroutine S))) → IsOpen K held places → IsWorldOf K held (opening K) places opened
+  opened_world places start =
       let g : Goroutine S = start.0 in
-      let there : IsWorldOf K held (opening K) (None ∷ Some g ∷ []) opened = record {
+      subst (λ (x : List (Option (Goroutine S))). IsWorldOf K held (opening K) x opened) (sym start.3) (record {
         awake = ap (λ (x : Option (Clocked K.State)). None ∷ x ∷ []) (awake_is held g start.2 ∙ ap (λ (s : Clocked K.State). Some s) start.1);
         beds = tt;
         shared = record { asleep = refl; channels = refl; live = refl; made = refl; events = refl; ending = refl };
         once = tt;
-      } in
+      })
+
+  pub opened_stands : (seen : Option (List ℕ)) (places : List (Option (Goroutine S))) (v : SharedValue) → IsOpen K held places → v ≡ opened → Stands K held limit seen seen places v
+  opened_stands seen places v start is =
       subst (λ (x : SharedValue). Stands K held limit seen seen places x) (sym is) (record {
         moves = 0;
-        world = subst (λ (x : List (Option (Goroutine S))). IsWorldOf K held (opening K) x opened) (sym start.3) there;
+        world = opened_world places start;
         written = appends_none seen;
         goes_on = refl;
       })

@@ -7,13 +7,13 @@ use Rattle.std.proofs.lemmas.List.Elements.{All-set}
 use Rattle.std.proofs.Math.Seq.{map-set_same}
 use Rattle.turn_rule.specs.Turns.{World, move_at, move_on}
 use Rattle.word.specs.Values.{Reply}
-use Rattle.word.specs.Kinds.{Clocked, GoroutineKind, told}
+use Rattle.word.specs.Kinds.{Clocked, GoroutineKind, local, told}
 use Rattle.word.specs.Worlds.{Rest, rules}
 use Rattle.one_thread.specs.declared.goroutine.Goroutine.{Goroutine}
 use Rattle.one_thread.specs.declared.goroutine.Turn.{Turn}
 use Rattle.one_thread.specs.declared.goroutine.Turn.TheVariants as turns
 use Rattle.one_thread.specs.Steps.{Advances}
-use Rattle.one_thread.specs.Places.{AdvancesAt, AreWithin, IsLaid, IsWithin, Sets, SleepOn, Wakes, awake_in, awake_of, bed_at, bed_of, clocked, here, woken_to}
+use Rattle.one_thread.specs.Places.{AdvancesAt, AreWithin, IsLaid, IsWithin, Sets, SleepOn, StepsAt, Wakes, awake_in, awake_of, bed_at, bed_of, clocked, here, woken_to}
 
 -- what was read at a place, whatever stands for one that is not there
 pub read_at : {A : Type 0} (xs : List A) (n : ℕ) (x d : A) → n < length xs → x ≡ slice_index_or xs n x → slice_index_or xs n d ≡ x
@@ -36,6 +36,12 @@ set_twice (z ∷ zs) (suc n) x y = ap (λ ws. z ∷ ws) (set_twice zs n x y)
 module _ {S H : Type 0} (held : S → H) where
   pub awake_is : (g : Goroutine S) → g.asleep ≡ false → awake_of held (Some g) ≡ Some (clocked held g)
   awake_is g e = ap (λ b. cond b None (Some (clocked held g))) e
+
+  -- who is awake at a place
+  pub here_is : (xs : List (Option (Goroutine S))) (n : ℕ) → slice_index_or (awake_in held xs) n None ≡ here (awake_of held) xs n
+  here_is [] n = refl
+  here_is (x ∷ xs) zero = refl
+  here_is (x ∷ xs) (suc n) = here_is xs n
 
   pub no_bed : (g : Goroutine S) → g.asleep ≡ false → bed_of held (Some g) ≡ None
   no_bed g e = ap (λ b. cond b (Some (clocked held g)) None) e
@@ -64,8 +70,8 @@ module _ {S H : Type 0} (held : S → H) where
       go false e' = refl
 
 module _ {S : Type 0} (K : GoroutineKind) (held : S → K.State) (limit : ℕ) where
-  pub turned : (old : List (Option (Goroutine S))) (n : ℕ) (g h : Goroutine S) (turn : Turn) → slice_index_or old n None ≡ Some g → n < length old → g.asleep ≡ false → h.asleep ≡ g.asleep → Advances K limit turn (clocked held g) (clocked held h) → AdvancesAt K held limit turn old n (slice_set old n (Some h))
-  turned old n g h turns.Stepped at lt up same step =
+  steps_at : (old : List (Option (Goroutine S))) (n : ℕ) (g h : Goroutine S) → slice_index_or old n None ≡ Some g → n < length old → g.asleep ≡ false → h.asleep ≡ g.asleep → local K limit (clocked held g) ≡ Some (clocked held h) → StepsAt K held limit old n (slice_set old n (Some h))
+  steps_at old n g h at lt up same step =
       let there : here (awake_of held) old n ≡ Some (clocked held g) = ap (awake_of held) at ∙ awake_is held g up in
       let set : Sets held old (slice_set old n (Some h)) n (Some (clocked held h)) None = sets held old n (Some h) (Some (clocked held h)) None lt (awake_is held h (same ∙ up)) (no_bed held h (same ∙ up)) in (
         (λ w.
@@ -74,6 +80,10 @@ module _ {S : Type 0} (K : GoroutineKind) (held : S → K.State) (limit : ℕ) w
             ∙ ap (λ (a : List (Option (Clocked K.State))). let v : World (Clocked K.State) (Rest K.State) = record { awake = a; shared = w } in v) (sym set.awake)),
         sleep_on held old (slice_set old n (Some h)) n (Some (clocked held h)) (awake_no_bed held (slice_index_or old n None) (clocked held g) there) set,
       )
+
+  pub turned : (old : List (Option (Goroutine S))) (n : ℕ) (g h : Goroutine S) (turn : Turn) → slice_index_or old n None ≡ Some g → n < length old → g.asleep ≡ false → h.asleep ≡ g.asleep → Advances K limit turn (clocked held g) (clocked held h) → AdvancesAt K held limit turn old n (slice_set old n (Some h))
+  turned old n g h turns.Slid at lt up same step = steps_at old n g h at lt up same step
+  turned old n g h turns.Ticked at lt up same step = steps_at old n g h at lt up same step
   turned old n g h (turns.Asks request clock) at lt up same step =
       let there : here (awake_of held) old n ≡ Some (clocked held g) = ap (awake_of held) at ∙ awake_is held g up in
       let set : Sets held old (slice_set old n (Some h)) n (Some (clocked held h)) None = sets held old n (Some h) (Some (clocked held h)) None lt (awake_is held h (same ∙ up)) (no_bed held h (same ∙ up)) in (

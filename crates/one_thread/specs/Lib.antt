@@ -1,3 +1,5 @@
 pub mod Places
+pub mod Snapshots
 pub mod Steps
 pub mod Worlds
+pub mod Progress

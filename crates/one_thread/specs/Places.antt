@@ -35,7 +35,8 @@ AreWithin limit places = All (IsWithin limit) places
 
 -- nor is that of a goroutine that goes on after its request
 abbrev pub IsSoon : ℕ → Turn → Type 0
-IsSoon limit turns.Stepped = Unit {0}
+IsSoon limit turns.Slid = Unit {0}
+IsSoon limit turns.Ticked = Unit {0}
 IsSoon limit (turns.Asks request clock) = clock + 1 ≤ limit
 IsSoon limit turns.Exhausted = Unit {0}
 
@@ -89,10 +90,15 @@ module _ {S : Type 0} (K : GoroutineKind) (held : S → K.State) where
     pub here : here (awake_of held) places n ≡ Some s
     pub asks : local K limit s ≡ None
 
+  -- the goroutine at place n, if it is awake, makes its local step
+  abbrev pub StepsAt : ℕ → List (Option (Goroutine S)) → ℕ → List (Option (Goroutine S)) → Type 0
+  StepsAt limit old n new =
+      ((w : Rest K.State) → move_at (rules K limit) (record { awake = awake_in held old; shared = w }) n (here (awake_of held) old n) ≡ record { awake = awake_in held new; shared = w }) × SleepOn held old new
+
   -- the goroutine at place n, if it is awake, makes its local step, or has none and asks
   abbrev pub AdvancesAt : ℕ → Turn → List (Option (Goroutine S)) → ℕ → List (Option (Goroutine S)) → Type 0
-  AdvancesAt limit turns.Stepped old n new =
-      ((w : Rest K.State) → move_at (rules K limit) (record { awake = awake_in held old; shared = w }) n (here (awake_of held) old n) ≡ record { awake = awake_in held new; shared = w }) × SleepOn held old new
+  AdvancesAt limit turns.Slid old n new = StepsAt limit old n new
+  AdvancesAt limit turns.Ticked old n new = StepsAt limit old n new
   AdvancesAt limit (turns.Asks request clock) old n new =
       (s : Clocked K.State) × IsAt limit old n s × (asks K limit s ≡ Some (request_of request)) × (clock ≡ s.clock) × (awake_in held new ≡ awake_in held old) × SleepOn held old new
   AdvancesAt limit turns.Exhausted old n new = (s : Clocked K.State) × IsAt limit old n s × (asks K limit s ≡ Some Exhausted)

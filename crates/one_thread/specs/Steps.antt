@@ -17,7 +17,8 @@ Moves next (steps.Asks request) new old = (next ≡ Asks (request_of request)) �
 
 -- the goroutine makes this local step, or has none and asks
 abbrev pub Advances : (K : GoroutineKind) (limit : ℕ) → Turn → Clocked K.State → Clocked K.State → Type 0
-Advances K limit turns.Stepped old new = local K limit old ≡ Some new
+Advances K limit turns.Slid old new = local K limit old ≡ Some new
+Advances K limit turns.Ticked old new = local K limit old ≡ Some new
 Advances K limit (turns.Asks request clock) old new = (local K limit old ≡ None) × (asks K limit old ≡ Some (request_of request)) × (new ≡ old) × (clock ≡ old.clock)
 Advances K limit turns.Exhausted old new = (local K limit old ≡ None) × (asks K limit old ≡ Some Exhausted)
 

@@ -59,8 +59,8 @@ module _ {S : Type 0} (K : GoroutineKind) (held : S → K.State) where
       × (clocked held g ≡ at clock (K.begin function arguments.items)) × (g.asleep ≡ false) × (new ≡ mid ++ Some g ∷ [])
   Applies clock n s deeds.Sleeps old new = Sets held old new n None (Some s)
   Applies clock n s deeds.Leaves old new = Sets held old new n None None
-  Applies clock n s (deeds.Panics cause clause) old new = Unit {0}
-  Applies clock n s (deeds.Ends end) old new = Unit {0}
+  Applies clock n s (deeds.Panics cause clause) old new = new ≡ old
+  Applies clock n s (deeds.Ends end) old new = new ≡ old
 
   -- the run goes on, or has ended so
   abbrev pub Goes : ℕ → Option (List ℕ) → Option (List ℕ) → List (Option (Goroutine S)) → SharedValue → Option Ending → Type 0

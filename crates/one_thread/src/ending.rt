@@ -47,7 +47,8 @@ pub fn last_moment<P: Interpreter, W: Write>(
         let Some(turn) = goroutines.least() else {
             return Ok(Some(deserted(goroutines.into_all())));
         };
-        if let Some(end) = one_move(alloc, program, &mut goroutines, &mut shared, limit, output)? {
+        let made = one_move(alloc, program, &mut goroutines, &mut shared, limit, output)?;
+        if let Some(end) = made.ending() {
             return Ok(Some(stopped(end, turn, goroutines.into_all())));
         }
     }

@@ -6,6 +6,7 @@ ghost use Rattle.word.specs.Related.{kind_of};
 ghost use Rattle.word.specs.Views.{reply_of};
 ghost use Rattle.one_thread.specs.Steps.{Advances, asking};
 ghost use Rattle.one_thread.specs.Places.{IsSoon, clocked};
+ghost use Rattle.one_thread.specs.Progress.{FallsInTurn};
 
 use crate::interpreter::{Interpreter, Step};
 use go_text::Memory;
@@ -26,8 +27,10 @@ pub struct Goroutine<S: Drop> {
 /// What came of a goroutine's turn.
 #[derive(Drop)]
 pub(crate) enum Turn {
-    /// It made a step of its own.
-    Stepped,
+    /// It made a step of its own that costs nothing.
+    Slid,
+    /// It made a step of its own that costs a tick.
+    Ticked,
     /// It makes a request at this clock, which is below the limit.
     Asks(Request, Clock),
     /// It is at the clock limit.
@@ -47,19 +50,20 @@ pub(crate) fn advance<P: Interpreter>(
     ensures soon { IfOk result (IsSoon limit) }
     ensures turn { IfOk result (λ turn. Advances (kind_of (P.parts program.now)) limit turn (clocked (P.held program.now) goroutine.old) (clocked (P.held program.now) goroutine.new)) }
     ensures asleep { OnOk result (goroutine.new.asleep ≡ goroutine.old.asleep) }
+    ensures falls { IfOk result (λ turn. FallsInTurn (λ state. P.weight program.now (P.held program.now state)) limit turn goroutine.old goroutine.new) }
 {
     let later = later(goroutine.clock, limit);
     if goroutine.doomed {
         return Ok(asking(Request::Panic(Panic::SendOnClosed), goroutine.clock, later));
     }
     match program.step(alloc, &mut goroutine.state)? {
-        Step::Slides => Ok(Turn::Stepped),
+        Step::Slides => Ok(Turn::Slid),
         Step::Ticks => {
             let Some(clock) = later else {
                 return Ok(Turn::Exhausted);
             };
             goroutine.clock = clock;
-            Ok(Turn::Stepped)
+            Ok(Turn::Ticked)
         }
         Step::Asks(request) => Ok(asking(request, goroutine.clock, later)),
     }

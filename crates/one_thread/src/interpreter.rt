@@ -1,7 +1,7 @@
 //! What the run asks of a kind of goroutine.
 
 ghost use Rattle.std.specs.Prelude.{◌≡◌, ℕ, List, IfOk, OnOk};
-ghost use Rattle.word.specs.Related.{Parts};
+ghost use Rattle.word.specs.Related.{Falls, Parts};
 ghost use Rattle.word.specs.Views.{reply_of};
 ghost use Rattle.one_thread.specs.Steps.{Moves};
 
@@ -34,6 +34,9 @@ pub trait Interpreter {
     // The state that is kept so.
     ghost held: { Self → Self.State → Held };
 
+    // What a state weighs: less after each step that costs nothing.
+    ghost weight: { Self → Held → ℕ };
+
     /// The next step of a goroutine. One that asks stays as it is.
     fn step(&self, alloc: Global, state: &mut Self::State) -> Result<Step, Memory>
         ensures { IfOk result (λ step. Moves ((parts self.now).next (held self.now state.old)) step (held self.now state.new) (held self.now state.old)) };
@@ -49,4 +52,6 @@ pub trait Interpreter {
     /// The number of `main`.
     fn main(&self) -> u32
         ensures { result ≡ (parts self.now).main };
+
+    ghost falls: { (program : Self) (state : Held) → Falls (weight program) (weight program state) ((parts program).next state) };
 }

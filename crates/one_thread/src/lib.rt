@@ -5,10 +5,13 @@
 mod ending;
 mod goroutine;
 mod interpreter;
+mod move_kind;
 mod places;
 mod running;
+mod snapshot;
 
 pub use ending::{Ended, last_moment};
 pub use goroutine::Goroutine;
 pub use interpreter::{Interpreter, Step};
 pub use running::run;
+pub use snapshot::{Snapshot, Until, run_until};

@@ -6,6 +6,7 @@ ghost use Rattle.word.specs.Kinds.{Clocked, told};
 ghost use Rattle.word.specs.Related.{kind_of};
 ghost use Rattle.word.specs.Views.{reply_of};
 ghost use Rattle.one_thread.specs.Places.{AdvancesAt, AreWithin, IsLaid, IsSoon, Sets, Wakes, awake_of, bed_at, clock_of, here, key_of, woken_to};
+ghost use Rattle.one_thread.specs.Progress.{TurnFalls};
 
 use crate::goroutine::{Goroutine, Turn, advance, tell};
 use crate::interpreter::Interpreter;
@@ -158,15 +159,16 @@ pub(crate) fn advance_at<P: Interpreter>(
     ensures within { OnOk result (AreWithin limit places.new) }
     ensures soon { IfOk result (IsSoon limit) }
     ensures turn { IfOk result (λ turn. AdvancesAt (kind_of (P.parts program.now)) (P.held program.now) limit turn places.old place places.new) }
+    ensures falls { IfOk result (λ turn. (clock : ℕ) → here clock_of places.old place ≡ Some clock → TurnFalls (λ state. P.weight program.now (P.held program.now state)) limit turn places.old places.new) }
 {
     if place >= places.all.len() {
-        return Ok(Turn::Stepped);
+        return Ok(Turn::Slid);
     }
     let Some(goroutine) = &mut places.all[place] else {
-        return Ok(Turn::Stepped);
+        return Ok(Turn::Slid);
     };
     if goroutine.asleep {
-        return Ok(Turn::Stepped);
+        return Ok(Turn::Slid);
     }
     let turn = advance(program, alloc, goroutine, limit);
     note(&mut places.keys, place, key_of(goroutine, place));

@@ -7,11 +7,13 @@ ghost use Rattle.word.specs.Related.{kind_of};
 ghost use Rattle.word.specs.Values.{Request as AnyRequest};
 ghost use Rattle.word.specs.Views.{request_of};
 ghost use Rattle.one_thread.specs.Places.{AreWithin, awake_of, here};
+ghost use Rattle.one_thread.specs.Progress.{EventFalls, MoveFalls, TickFalls, ending_in, events_left};
 ghost use Rattle.one_thread.specs.Worlds.{Applies, Goes, IsAsked, IsOpen, Stands, printed};
 ghost use Rattle.whole_run.specs.Runs.{BeginsOutput, IsLimit, IsWhole};
 
 use crate::goroutine::{Goroutine, Turn};
 use crate::interpreter::Interpreter;
+use crate::move_kind::Move;
 use crate::places::{Places, advance_at, tell_at, wake_all};
 use go_text::{Fault, Memory};
 use logical_clock::{Clock, Key};
@@ -24,7 +26,7 @@ use word::{Write, write_all};
 /// Runs goroutine 1 at `main`, and all that come of it, up to the clock limit (1 to 2^62 steps), and answers how the run
 /// ended. What is written begins the output of the one-thread run; at an end it is all of it.
 ///
-/// Errors: `BadLimit`; `Write`; `Memory`, as which 2^192 moves count, since no run makes so many.
+/// Errors: `BadLimit`; `Write`; `Memory`.
 pub fn run<P: Interpreter, W: Write>(
     alloc: Global,
     program: &P,
@@ -60,12 +62,12 @@ fn run_below<P: Interpreter, W: Write>(
 {
     let mut places = opening(alloc, program)?;
     let mut shared = Shared::new(alloc)?;
-    for _ in 0..u64::MAX {
-        if let Some(end) = most_moves(alloc, program, &mut places, &mut shared, limit, output)? {
+    // Each event leaves fewer of the 2^62 that a run can have.
+    'events: loop {
+        if let Some(end) = next_event(alloc, program, &mut places, &mut shared, limit, output)? {
             return Ok(end);
         }
     }
-    Err(Fault::Memory)
 }
 
 /// Goroutine 1 alone, at `main`.
@@ -87,8 +89,8 @@ pub(crate) fn opening<P: Interpreter>(
     Ok(places)
 }
 
-/// Up to 2^128 moves, and the end of the run, where it has ended.
-fn most_moves<P: Interpreter, W: Write>(
+/// Makes moves up to a request that is performed, or to the end of the run, which is returned.
+fn next_event<P: Interpreter, W: Write>(
     alloc: Global,
     program: &P,
     places: &mut Places<P::State>,
@@ -103,45 +105,49 @@ fn most_moves<P: Interpreter, W: Write>(
     ensures goes { IfOk result (λ ending. (known : Option (List ℕ)) → Stands (kind_of (P.parts program.now)) (P.held program.now) limit known (W.contents output.old) places.old shared.old → Goes (kind_of (P.parts program.now)) (P.held program.now) limit known (W.contents output.new) places.new shared.new ending) }
     ensures begins { (known : Option (List ℕ)) → Stands (kind_of (P.parts program.now)) (P.held program.now) limit known (W.contents output.old) places.old shared.old → BeginsOutput (kind_of (P.parts program.now)) limit known (W.contents output.new) }
     ensures going { IfOk result (λ ending. ending ≡ None → shared.new.ending ≡ None) }
+    ensures falls { IfOk result (λ ending. ending ≡ None → events_left shared.new < events_left shared.old) }
     ensures write { IsErrOf result Fault.Write → W.has_failed output.new ≡ true }
     ensures only { IfErr result (λ fault. (fault ≡ Fault.Memory) ⊎ (fault ≡ Fault.Write)) }
 {
-    for _ in 0..u64::MAX {
-        if let Some(end) = moves(alloc, program, places, shared, limit, output)? {
-            return Ok(Some(end));
+    // Each tick leaves its goroutine fewer of them up to the limit.
+    'ticks: loop {
+        let made = next_tick(alloc, program, places, shared, limit, output)?;
+        if !made.is_tick() {
+            return Ok(made.ending());
         }
     }
-    Ok(None)
 }
 
-/// Up to 2^64 moves, and the end of the run, where it has ended.
-fn moves<P: Interpreter, W: Write>(
+/// Makes moves up to one that is no slide, which is returned.
+fn next_tick<P: Interpreter, W: Write>(
     alloc: Global,
     program: &P,
     places: &mut Places<P::State>,
     shared: &mut Shared,
     limit: u64,
     output: &mut W,
-) -> Result<Option<End>, Fault>
+) -> Result<Move, Fault>
     requires going { shared.old.ending ≡ None }
     requires within { AreWithin limit places.old }
     requires limit { limit ≤ 2 ^ 62 }
     ensures within { OnOk result (AreWithin limit places.new) }
-    ensures goes { IfOk result (λ ending. (known : Option (List ℕ)) → Stands (kind_of (P.parts program.now)) (P.held program.now) limit known (W.contents output.old) places.old shared.old → Goes (kind_of (P.parts program.now)) (P.held program.now) limit known (W.contents output.new) places.new shared.new ending) }
+    ensures goes { IfOk result (λ made. (known : Option (List ℕ)) → Stands (kind_of (P.parts program.now)) (P.held program.now) limit known (W.contents output.old) places.old shared.old → Goes (kind_of (P.parts program.now)) (P.held program.now) limit known (W.contents output.new) places.new shared.new (ending_in made)) }
     ensures begins { (known : Option (List ℕ)) → Stands (kind_of (P.parts program.now)) (P.held program.now) limit known (W.contents output.old) places.old shared.old → BeginsOutput (kind_of (P.parts program.now)) limit known (W.contents output.new) }
-    ensures going { IfOk result (λ ending. ending ≡ None → shared.new.ending ≡ None) }
+    ensures going { IfOk result (λ made. ending_in made ≡ None → shared.new.ending ≡ None) }
+    ensures falls { IfOk result (λ made. TickFalls limit made places.old shared.old places.new shared.new) }
     ensures write { IsErrOf result Fault.Write → W.has_failed output.new ≡ true }
     ensures only { IfErr result (λ fault. (fault ≡ Fault.Memory) ⊎ (fault ≡ Fault.Write)) }
 {
-    for _ in 0..u64::MAX {
-        if let Some(end) = one_move(alloc, program, places, shared, limit, output)? {
-            return Ok(Some(end));
+    // After each slide the goroutines' states weigh less.
+    'slides: loop {
+        let made = one_move(alloc, program, places, shared, limit, output)?;
+        if !made.is_slide() {
+            return Ok(made);
         }
     }
-    Ok(None)
 }
 
-/// One move, and the end of the run, where it has ended.
+/// Makes one move.
 pub(crate) fn one_move<P: Interpreter, W: Write>(
     alloc: Global,
     program: &P,
@@ -149,24 +155,26 @@ pub(crate) fn one_move<P: Interpreter, W: Write>(
     shared: &mut Shared,
     limit: u64,
     output: &mut W,
-) -> Result<Option<End>, Fault>
+) -> Result<Move, Fault>
     requires going { shared.old.ending ≡ None }
     requires within { AreWithin limit places.old }
     requires limit { limit ≤ 2 ^ 62 }
     ensures within { OnOk result (AreWithin limit places.new) }
-    ensures goes { IfOk result (λ ending. (known : Option (List ℕ)) → Stands (kind_of (P.parts program.now)) (P.held program.now) limit known (W.contents output.old) places.old shared.old → Goes (kind_of (P.parts program.now)) (P.held program.now) limit known (W.contents output.new) places.new shared.new ending) }
+    ensures goes { IfOk result (λ made. (known : Option (List ℕ)) → Stands (kind_of (P.parts program.now)) (P.held program.now) limit known (W.contents output.old) places.old shared.old → Goes (kind_of (P.parts program.now)) (P.held program.now) limit known (W.contents output.new) places.new shared.new (ending_in made)) }
     ensures begins { (known : Option (List ℕ)) → Stands (kind_of (P.parts program.now)) (P.held program.now) limit known (W.contents output.old) places.old shared.old → BeginsOutput (kind_of (P.parts program.now)) limit known (W.contents output.new) }
-    ensures going { IfOk result (λ ending. ending ≡ None → shared.new.ending ≡ None) }
+    ensures going { IfOk result (λ made. ending_in made ≡ None → shared.new.ending ≡ None) }
+    ensures falls { IfOk result (λ made. MoveFalls (λ state. P.weight program.now (P.held program.now state)) limit made places.old shared.old places.new shared.new) }
     ensures write { IsErrOf result Fault.Write → W.has_failed output.new ≡ true }
     ensures only { IfErr result (λ fault. (fault ≡ Fault.Memory) ⊎ (fault ≡ Fault.Write)) }
 {
     let Some(key) = places.least() else {
-        return Ok(Some(End::Deadlock));
+        return Ok(Move::Last(End::Deadlock));
     };
     let place = key.number as usize;
     match advance_at(program, alloc, places, place, limit)? {
-        Turn::Stepped => Ok(None),
-        Turn::Exhausted => Ok(Some(End::Exhausted)),
+        Turn::Slid => Ok(Move::Slide),
+        Turn::Ticked => Ok(Move::Tick),
+        Turn::Exhausted => Ok(Move::Last(End::Exhausted)),
         Turn::Asks(request, clock) => {
             perform(
                 alloc, program, places, shared, place, clock, request, output,
@@ -175,8 +183,7 @@ pub(crate) fn one_move<P: Interpreter, W: Write>(
     }
 }
 
-/// Performs the request that the goroutine at this place, whose turn it is, makes at this clock. Returns the end of the run, if
-/// it has ended.
+/// Performs the request that the goroutine at this place, whose turn it is, makes at this clock.
 fn perform<P: Interpreter, W: Write>(
     alloc: Global,
     program: &P,
@@ -186,13 +193,14 @@ fn perform<P: Interpreter, W: Write>(
     clock: Clock,
     request: Request,
     output: &mut W,
-) -> Result<Option<End>, Fault>
+) -> Result<Move, Fault>
     requires going { shared.old.ending ≡ None }
     requires last { clock < 2 ^ 62 }
     ensures within { OnOk result ((limit : ℕ) → clock + 1 ≤ limit → AreWithin limit places.old → AreWithin limit places.new) }
-    ensures goes { IfOk result (λ ending. (limit : ℕ) (known : Option (List ℕ)) → IsAsked (kind_of (P.parts program.now)) (P.held program.now) limit places.old place clock (request_of request) → Stands (kind_of (P.parts program.now)) (P.held program.now) limit known (W.contents output.old) places.old shared.old → Goes (kind_of (P.parts program.now)) (P.held program.now) limit known (W.contents output.new) places.new shared.new ending) }
+    ensures goes { IfOk result (λ made. (limit : ℕ) (known : Option (List ℕ)) → IsAsked (kind_of (P.parts program.now)) (P.held program.now) limit places.old place clock (request_of request) → Stands (kind_of (P.parts program.now)) (P.held program.now) limit known (W.contents output.old) places.old shared.old → Goes (kind_of (P.parts program.now)) (P.held program.now) limit known (W.contents output.new) places.new shared.new (ending_in made)) }
     ensures begins { (limit : ℕ) (known : Option (List ℕ)) → IsAsked (kind_of (P.parts program.now)) (P.held program.now) limit places.old place clock (request_of request) → Stands (kind_of (P.parts program.now)) (P.held program.now) limit known (W.contents output.old) places.old shared.old → BeginsOutput (kind_of (P.parts program.now)) limit known (W.contents output.new) }
-    ensures going { IfOk result (λ ending. ending ≡ None → shared.new.ending ≡ None) }
+    ensures going { IfOk result (λ made. ending_in made ≡ None → shared.new.ending ≡ None) }
+    ensures falls { IfOk result (λ made. EventFalls made shared.old shared.new) }
     ensures write { IsErrOf result Fault.Write → W.has_failed output.new ≡ true }
     ensures only { IfErr result (λ fault. (fault ≡ Fault.Memory) ⊎ (fault ≡ Fault.Write)) }
 {
@@ -204,7 +212,7 @@ fn perform<P: Interpreter, W: Write>(
     print(&deed, output)?;
     let later = Clock::at(clock.time() + 1);
     apply(alloc, program, places, place, later, deed)?;
-    Ok(shared.ending())
+    Ok(Move::performed(shared.ending()))
 }
 
 /// Writes what a deed prints.
@@ -224,7 +232,7 @@ fn print<W: Write>(deed: &Deed, output: &mut W) -> Result<(), Fault>
 }
 
 /// Does to the goroutines what became of a request of the one at this place; whoever goes on is at this clock.
-fn apply<P: Interpreter>(
+pub(crate) fn apply<P: Interpreter>(
     alloc: Global,
     program: &P,
     places: &mut Places<P::State>,

@@ -5,5 +5,4 @@ pub mod FileLaws
 pub mod Sizes
 pub mod Counts
 pub mod Parsing
-pub mod Counting
 pub mod Spelled

@@ -1,10 +1,10 @@
 //! Fields of struct types, and parameters of functions.
 
-ghost use Rattle.std.specs.Prelude.{map};
+ghost use Rattle.std.specs.Prelude.{map, IfErr};
 ghost use Rattle.scanner.specs.declared.kind.TokenKind.{TokenKind};
 ghost use Rattle.syntax.specs.View.{declared_of};
 ghost use Rattle.parser_base.specs.Cursor.{ahead};
-ghost use Rattle.parser_base.specs.Reading.{Gives, entry_next};
+ghost use Rattle.parser_base.specs.Reading.{Gives, NamesRefusal, entry_next};
 ghost use Rattle.parser_simple.specs.Reading.{begins_name};
 ghost use Rattle.parser.specs.Reading.{declared, some_declared, all_declared};
 
@@ -28,7 +28,8 @@ fn declared_next(
     close: TokenKind,
     cursor: Cursor<'_>,
 ) -> Result<(Next, Cursor<'_>), ParseFault>
-    ensures { Gives (λ x. (x.0, ahead x.1)) result (entry_next separator begins_name close (ahead cursor.entry)) }
+    ensures gives { Gives (λ x. (x.0, ahead x.1)) result (entry_next separator begins_name close (ahead cursor.entry)) }
+    ensures refused { IfErr result NamesRefusal }
 {
     let Some((Word::Mark(kind), rest)) = cursor.next() else {
         return Err(ParseFault::Syntax(cursor.place()));

@@ -1,9 +1,9 @@
 //! Files.
 
-ghost use Rattle.std.specs.Prelude.{map, length};
+ghost use Rattle.std.specs.Prelude.{map, length, IfErr};
 ghost use Rattle.syntax.specs.View.{file_of, top_of};
 ghost use Rattle.parser_base.specs.Cursor.{ahead};
-ghost use Rattle.parser_base.specs.Reading.{Gives, Syntax, listed};
+ghost use Rattle.parser_base.specs.Reading.{Gives, NamesRefusal, Syntax, listed};
 ghost use Rattle.parser.specs.Reading.{top, top_next, tops, file};
 
 use crate::top::{STATEMENT_ROOM, declaration};
@@ -18,7 +18,8 @@ use syntax::{FileNode, TopNode};
 /// What follows a declaration.
 #[tactic(auto, unfolding(crate::specs::Reading::top_next))]
 fn declaration_next(cursor: Cursor<'_>) -> Result<(Next, Cursor<'_>), ParseFault>
-    ensures { Gives (λ x. (x.0, ahead x.1)) result (top_next (ahead cursor.entry)) }
+    ensures gives { Gives (λ x. (x.0, ahead x.1)) result (top_next (ahead cursor.entry)) }
+    ensures refused { IfErr result NamesRefusal }
 {
     let rest = cursor.expect(TokenKind::Semicolon)?;
     let next = match rest.next() {

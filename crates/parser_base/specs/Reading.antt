@@ -42,6 +42,11 @@ named_by (parse.TooManyEntries span) = Some (TooMany Entries)
 named_by (parse.TooManyClauses span) = Some (TooMany SelectClauses)
 named_by parse.Memory = None
 
+-- The tokens are why: memory did not run out.
+abbrev pub NamesRefusal : ParseFault → Type 0
+NamesRefusal parse.Memory = ⊥
+NamesRefusal fault = Unit {0}
+
 abbrev pub limit_refusal : LimitKind → Option Refusal
 limit_refusal limits.ListEntries = Some (TooMany Entries)
 limit_refusal limits.SelectClauses = Some (TooMany SelectClauses)

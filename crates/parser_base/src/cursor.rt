@@ -4,7 +4,7 @@ ghost use Rattle.std.specs.Prelude.{◌≡◌, ◌∷◌, [], IfOk, IfErr, Match
 ghost use Rattle.go_text.specs.Source.{bytes_of};
 ghost use Rattle.parser_base.specs.Lexemes.{lexemes, piece};
 ghost use Rattle.parser_base.specs.Spelling.{makes_value, is_builtin};
-ghost use Rattle.parser_base.specs.Reading.{Gives, expect, expect_name, plain_name};
+ghost use Rattle.parser_base.specs.Reading.{Gives, NamesRefusal, expect, expect_name, plain_name};
 
 use crate::fault::ParseFault;
 use go_text::{Source, Span, is_word};
@@ -109,7 +109,8 @@ impl<'a> Cursor<'a> {
     /// The place behind a mark that is wanted here.
     #[tactic(auto, unfolding(crate::specs::Reading::expect))]
     pub fn expect(self, kind: TokenKind) -> Result<Cursor<'a>, ParseFault>
-        ensures { Gives (λ x. ahead x) result (expect kind (ahead self.entry)) }
+        ensures gives { Gives (λ x. ahead x) result (expect kind (ahead self.entry)) }
+        ensures refused { IfErr result NamesRefusal }
     {
         match self.next() {
             Some((Word::Mark(first), rest)) if first == kind => Ok(rest),
@@ -120,7 +121,8 @@ impl<'a> Cursor<'a> {
     /// The place behind a name that is wanted here.
     #[tactic(auto, unfolding(crate::specs::Reading::expect_name))]
     pub fn expect_name(self, name: &[u8]) -> Result<Cursor<'a>, ParseFault>
-        ensures { Gives (λ x. ahead x) result (expect_name name.now (ahead self.entry)) }
+        ensures gives { Gives (λ x. ahead x) result (expect_name name.now (ahead self.entry)) }
+        ensures refused { IfErr result NamesRefusal }
     {
         match self.next() {
             Some((Word::Name(first), rest)) if first == name => Ok(rest),
@@ -131,7 +133,8 @@ impl<'a> Cursor<'a> {
     /// A name that may be declared, and the place behind it.
     #[tactic(auto, unfolding(crate::specs::Reading::plain_name))]
     pub fn plain_name(self) -> Result<(&'a [u8], Cursor<'a>), ParseFault>
-        ensures { Gives (λ x. (x.0.now, ahead x.1)) result (plain_name (ahead self.entry)) }
+        ensures gives { Gives (λ x. (x.0.now, ahead x.1)) result (plain_name (ahead self.entry)) }
+        ensures refused { IfErr result NamesRefusal }
     {
         match self.next() {
             Some((Word::Name(name), rest)) if !is_builtin(name) => Ok((name, rest)),

@@ -1,12 +1,12 @@
 //! Expressions, by the strength of their operators.
 
-ghost use Rattle.std.specs.Prelude.{◌≡◌, ℕ, ◌<◌, ◌≤◌, ◌+◌, ◌-◌, true, List as Lists, IfOk, option_map, map};
+ghost use Rattle.std.specs.Prelude.{◌≡◌, ℕ, ◌<◌, ◌≤◌, ◌+◌, ◌-◌, true, List as Lists, IfOk, IfErr, option_map, map};
 ghost use Rattle.syntax.specs.Tree.{Expression, Parenthesized, Receive, MakeSized, Length, Capacity};
 ghost use Rattle.syntax.specs.Measures.{Entries, highest, type_height, expression_height};
 ghost use Rattle.syntax.specs.View.{type_of, expression_of};
 ghost use Rattle.parser_base.specs.Cursor.{ahead};
 ghost use Rattle.parser_base.specs.Lexemes.{Lexeme};
-ghost use Rattle.parser_base.specs.Reading.{Gives, Reading, TooMany, as_one, begins, closed, value_next, listed, values, composite, called, named, to_parenthesis, argument, sized, made, builtin, step_at, negated, operand, applied, expression, resumed};
+ghost use Rattle.parser_base.specs.Reading.{Gives, NamesRefusal, Reading, TooMany, as_one, begins, closed, value_next, listed, values, composite, called, named, to_parenthesis, argument, sized, made, builtin, step_at, negated, operand, applied, expression, resumed};
 
 use crate::beside::beside;
 use crate::cursor::{Cursor, Word, is_builtin, makes_value};
@@ -77,7 +77,8 @@ pub fn closed(
     trailing: bool,
     cursor: Cursor<'_>,
 ) -> Result<(Next, Cursor<'_>), ParseFault>
-    ensures { Gives (λ x. (x.0, ahead x.1)) result (closed close trailing (ahead cursor.entry)) }
+    ensures gives { Gives (λ x. (x.0, ahead x.1)) result (closed close trailing (ahead cursor.entry)) }
+    ensures refused { IfErr result NamesRefusal }
 {
     let rest = cursor.expect(close)?;
     Ok((Next::End(trailing), rest))
@@ -86,7 +87,8 @@ pub fn closed(
 /// What follows a value of a list, and the place of the next one or behind the list.
 #[tactic(auto, unfolding(crate::specs::Reading::entry_next))]
 pub fn value_next(close: TokenKind, cursor: Cursor<'_>) -> Result<(Next, Cursor<'_>), ParseFault>
-    ensures { Gives (λ x. (x.0, ahead x.1)) result (value_next close (ahead cursor.entry)) }
+    ensures gives { Gives (λ x. (x.0, ahead x.1)) result (value_next close (ahead cursor.entry)) }
+    ensures refused { IfErr result NamesRefusal }
 {
     let Some((Word::Mark(kind), rest)) = cursor.next() else {
         return Err(ParseFault::Syntax(cursor.place()));

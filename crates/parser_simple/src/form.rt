@@ -1,8 +1,8 @@
 //! What stands behind a place, by which the forms of a statement differ.
 
-ghost use Rattle.std.specs.Prelude.{◌≡◌, true, zero};
+ghost use Rattle.std.specs.Prelude.{◌≡◌, true, zero, IfErr};
 ghost use Rattle.parser_base.specs.Cursor.{ahead};
-ghost use Rattle.parser_base.specs.Reading.{Gives, begins};
+ghost use Rattle.parser_base.specs.Reading.{Gives, NamesRefusal, begins};
 ghost use Rattle.parser_simple.specs.Spelling.{update_kind};
 ghost use Rattle.parser_simple.specs.Reading.{begins_with, begins_call, begins_name, separator_next, update_of, form_at, form_of, place_form, defines, goes_on, within, stopped, fits};
 
@@ -70,7 +70,8 @@ pub fn begins_name(cursor: Cursor<'_>) -> bool
 /// What follows a name or a place of a list without a closing mark, and the place of the next one or behind the list.
 #[tactic(auto, unfolding(crate::specs::Reading::separator_next))]
 pub fn name_next(separator: TokenKind, cursor: Cursor<'_>) -> Result<(Next, Cursor<'_>), ParseFault>
-    ensures { Gives (λ x. (x.0, ahead x.1)) result (separator_next begins_name separator (ahead cursor.entry)) }
+    ensures gives { Gives (λ x. (x.0, ahead x.1)) result (separator_next begins_name separator (ahead cursor.entry)) }
+    ensures refused { IfErr result NamesRefusal }
 {
     match cursor.next() {
         Some((Word::Mark(kind), rest)) if kind == separator => {
@@ -86,7 +87,8 @@ pub fn name_next(separator: TokenKind, cursor: Cursor<'_>) -> Result<(Next, Curs
 /// What follows a value of a list without a closing mark, and the place of the next one or behind the list.
 #[tactic(auto, unfolding(crate::specs::Reading::separator_next))]
 pub fn value_next(cursor: Cursor<'_>) -> Result<(Next, Cursor<'_>), ParseFault>
-    ensures { Gives (λ x. (x.0, ahead x.1)) result (separator_next begins TokenKind.Comma (ahead cursor.entry)) }
+    ensures gives { Gives (λ x. (x.0, ahead x.1)) result (separator_next begins TokenKind.Comma (ahead cursor.entry)) }
+    ensures refused { IfErr result NamesRefusal }
 {
     match cursor.next() {
         Some((Word::Mark(TokenKind::Comma), rest)) => {
@@ -232,7 +234,8 @@ fn goes_on(header: bool, literals: bool, alone: bool, kind: TokenKind) -> bool
 
 /// Refuses what has more levels than there is room for, at what follows it: as too high where it `goes` on as a value.
 pub fn within(height: usize, room: u32, goes: bool, behind: Cursor<'_>) -> Result<(), ParseFault>
-    ensures { Gives (λ x. x) result (within height room goes) }
+    ensures gives { Gives (λ x. x) result (within height room goes) }
+    ensures refused { IfErr result NamesRefusal }
 {
     if height <= room as usize {
         return Ok(());
@@ -245,7 +248,8 @@ pub fn within(height: usize, room: u32, goes: bool, behind: Cursor<'_>) -> Resul
 
 /// Refuses the same where no value goes on; behind a period, where a name is to come next, there is room for none.
 fn stopped(named: bool, height: usize, room: u32, behind: Cursor<'_>) -> Result<(), ParseFault>
-    ensures { Gives (λ x. x) result (stopped named height room) }
+    ensures gives { Gives (λ x. x) result (stopped named height room) }
+    ensures refused { IfErr result NamesRefusal }
 {
     within(height, if named { 0 } else { room }, false, behind)
 }
@@ -253,7 +257,8 @@ fn stopped(named: bool, height: usize, room: u32, behind: Cursor<'_>) -> Result<
 /// Refuses a name or a selection here that is too high as a value, at what follows it, since it could be a place before.
 #[tactic(auto, unfolding(crate::specs::Reading::fits))]
 pub fn fits(header: bool, literals: bool, room: u32, cursor: Cursor<'_>) -> Result<(), ParseFault>
-    ensures { Gives (λ x. x) result (fits header literals true 0 room (ahead cursor.entry)) }
+    ensures gives { Gives (λ x. x) result (fits header literals true 0 room (ahead cursor.entry)) }
+    ensures refused { IfErr result NamesRefusal }
 {
     let mut named = true;
     let mut height = 0;

@@ -6,7 +6,7 @@ ghost use Rattle.syntax.specs.Tree.{Simple, Value, CallAlone, Close, ReceiveAlon
 ghost use Rattle.syntax.specs.Measures.{Entries, highest, expression_height};
 ghost use Rattle.syntax.specs.View.{expression_of, part_of, simple_of};
 ghost use Rattle.parser_base.specs.Cursor.{ahead};
-ghost use Rattle.parser_base.specs.Reading.{Gives, Reading, TooMany, as_one, entry_next, listed, closed, argument, expression};
+ghost use Rattle.parser_base.specs.Reading.{Gives, NamesRefusal, Reading, TooMany, as_one, entry_next, listed, closed, argument, expression};
 ghost use Rattle.parser_simple.specs.Reading.{begins_part, part, parts, print, received, passed, builtin_call, assigned, defined, stepped, updated, behind_place, formed, led, send_operand, sent, led_or_sent, sent_on, alone_or_sent, called, simple, defines};
 
 use crate::form::{Form, begins_call, begins_with, defines, fits, form_of, update_kind};
@@ -64,7 +64,8 @@ fn print_argument(
 /// What follows an argument of `print` or `println`, and the place of the next one or behind the arguments.
 #[tactic(auto, unfolding(parser_base::specs::Reading::entry_next))]
 fn print_argument_next(cursor: Cursor<'_>) -> Result<(Next, Cursor<'_>), ParseFault>
-    ensures { Gives (λ x. (x.0, ahead x.1)) result (entry_next TokenKind.Comma begins_part TokenKind.RightParenthesis (ahead cursor.entry)) }
+    ensures gives { Gives (λ x. (x.0, ahead x.1)) result (entry_next TokenKind.Comma begins_part TokenKind.RightParenthesis (ahead cursor.entry)) }
+    ensures refused { IfErr result NamesRefusal }
 {
     let Some((Word::Mark(kind), rest)) = cursor.next() else {
         return Err(ParseFault::Syntax(cursor.place()));
@@ -384,7 +385,8 @@ fn operator_assignment(
 fn as_some(
     read: Result<Found<'_, SimpleNode>, ParseFault>,
 ) -> Result<Found<'_, Option<SimpleNode>>, ParseFault>
-    ensures { (words : Reading Simple) → Gives (λ x. (simple_of x.node, ahead x.rest)) read.entry words → Gives (λ x. (option_map simple_of x.node, ahead x.rest)) result (as_one (λ (s : Simple). Some s) words) }
+    ensures gives { (words : Reading Simple) → Gives (λ x. (simple_of x.node, ahead x.rest)) read.entry words → Gives (λ x. (option_map simple_of x.node, ahead x.rest)) result (as_one (λ (s : Simple). Some s) words) }
+    ensures err { IfErr result (λ fault. read.entry ≡ Err fault) }
 {
     let found = read?;
     Ok(Found {

@@ -7,7 +7,7 @@ ghost use Rattle.syntax.specs.Measures.{SelectClauses};
 ghost use Rattle.syntax.specs.View.{comm_of, statement_of, body_of, clauses};
 ghost use Rattle.parser_base.specs.Lexemes.{Mark};
 ghost use Rattle.parser_base.specs.Cursor.{ahead};
-ghost use Rattle.parser_base.specs.Reading.{Gives, Fails, Syntax, TooMany, listed, as_one};
+ghost use Rattle.parser_base.specs.Reading.{Gives, NamesRefusal, Fails, Syntax, TooMany, listed, as_one};
 ghost use Rattle.parser_statement.specs.Reading.{statement_next, clause_next, next_of, clauses_next, waited, clause_body, other, otherwise, branched, repeated, one_clause, no_clause, selected, marked, stated, statement, block, branch, clause};
 ghost use Rattle.parser_statement.specs.Views.{branch_of, otherwise_of, clause_of};
 
@@ -30,7 +30,8 @@ use syntax::{ClauseNode, CommNode, ElseNode, IfNode, StatementNode};
 /// What follows a statement of a block.
 #[tactic(auto, unfolding(crate::specs::Reading::statement_next))]
 pub fn statement_next(cursor: Cursor<'_>) -> Result<(Next, Cursor<'_>), ParseFault>
-    ensures { Gives (λ x. (x.0, ahead x.1)) result (statement_next (ahead cursor.entry)) }
+    ensures gives { Gives (λ x. (x.0, ahead x.1)) result (statement_next (ahead cursor.entry)) }
+    ensures refused { IfErr result NamesRefusal }
 {
     match cursor.next() {
         Some((Word::Mark(TokenKind::Semicolon), rest)) => Ok((Next::More, rest)),
@@ -42,7 +43,8 @@ pub fn statement_next(cursor: Cursor<'_>) -> Result<(Next, Cursor<'_>), ParseFau
 /// What follows a statement of a clause.
 #[tactic(auto, unfolding(crate::specs::Reading::clause_next))]
 fn clause_next(cursor: Cursor<'_>) -> Result<(Next, Cursor<'_>), ParseFault>
-    ensures { Gives (λ x. (x.0, ahead x.1)) result (clause_next (ahead cursor.entry)) }
+    ensures gives { Gives (λ x. (x.0, ahead x.1)) result (clause_next (ahead cursor.entry)) }
+    ensures refused { IfErr result NamesRefusal }
 {
     if let Some((Word::Mark(TokenKind::Semicolon), rest)) = cursor.next() {
         return Ok((Next::More, rest));
@@ -55,7 +57,8 @@ fn clause_next(cursor: Cursor<'_>) -> Result<(Next, Cursor<'_>), ParseFault>
 
 /// What follows a statement of a block or, where `clause` holds, of a clause.
 fn next_of(clause: bool, cursor: Cursor<'_>) -> Result<(Next, Cursor<'_>), ParseFault>
-    ensures { Gives (λ x. (x.0, ahead x.1)) result (next_of clause (ahead cursor.entry)) }
+    ensures gives { Gives (λ x. (x.0, ahead x.1)) result (next_of clause (ahead cursor.entry)) }
+    ensures refused { IfErr result NamesRefusal }
 {
     if clause {
         clause_next(cursor)
@@ -67,7 +70,8 @@ fn next_of(clause: bool, cursor: Cursor<'_>) -> Result<(Next, Cursor<'_>), Parse
 /// What follows a clause.
 #[tactic(auto, unfolding(crate::specs::Reading::clauses_next))]
 fn clauses_next(cursor: Cursor<'_>) -> Result<(Next, Cursor<'_>), ParseFault>
-    ensures { Gives (λ x. (x.0, ahead x.1)) result (clauses_next (ahead cursor.entry)) }
+    ensures gives { Gives (λ x. (x.0, ahead x.1)) result (clauses_next (ahead cursor.entry)) }
+    ensures refused { IfErr result NamesRefusal }
 {
     if begins_with(TokenKind::RightBrace, cursor) {
         let rest = cursor.expect(TokenKind::RightBrace)?;

@@ -26,6 +26,8 @@ impl<'p, P: Interpreter + Drop> Interpreter for Paused<'p, P> {
     ghost use Rattle.pauses.specs.Paused.{PausedState, paused_parts};
     ghost use Rattle.pauses.specs.Plans.{pauses_of};
     ghost use Rattle.paused_goroutine.specs.Views.{state_of};
+    ghost use Rattle.pauses.specs.Weights.{paused_weight};
+    ghost use Rattle.pauses.proofs.Falls.{paused_falls};
 
     type State = PausedState<P::State>;
 
@@ -34,6 +36,8 @@ impl<'p, P: Interpreter + Drop> Interpreter for Paused<'p, P> {
     ghost parts = { λ paused. paused_parts (P.parts paused.program) (pauses_of paused.plan.now.pauses.items) };
 
     ghost held = { λ paused kept. state_of (P.held paused.program) kept };
+
+    ghost weight = { λ paused state. paused_weight (P.weight paused.program) state };
 
     fn step(&self, alloc: Global, state: &mut Self::State) -> Result<Step, Memory> {
         if state.progress.left != 0 {
@@ -70,4 +74,6 @@ impl<'p, P: Interpreter + Drop> Interpreter for Paused<'p, P> {
     fn main(&self) -> u32 {
         self.program.main()
     }
+
+    ghost falls = { λ paused state. paused_falls (P.parts paused.program) (pauses_of paused.plan.now.pauses.items) (P.weight paused.program) (P.falls paused.program) state };
 }

@@ -5,3 +5,4 @@ pub mod Paused
 pub mod Plans
 pub mod Selects
 pub mod Views
+pub mod Weights

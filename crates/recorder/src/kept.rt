@@ -155,7 +155,7 @@ pub(crate) fn keep_from<B: BookName>(
         sites: Vec::new(alloc),
         end: None,
     };
-    'rounds: for _ in 0..u64::MAX {
+    'rounds: for _ in 0..u128::MAX {
         if kept.before >= skip && kept.events.len() >= most {
             return Ok(kept);
         }
@@ -191,7 +191,7 @@ pub(crate) fn keep_last<B: BookName>(
         events: VecDeque::new(alloc),
         sites: VecDeque::new(alloc),
     };
-    'rounds: for _ in 0..u64::MAX {
+    'rounds: for _ in 0..u128::MAX {
         match next(book)? {
             Settled::Committed(event) => {
                 let site = site_of(book, &event);

@@ -23,7 +23,7 @@ use verifier::Verified;
 ///
 /// # Errors
 ///
-/// `Memory`, also if 2^64 rounds of 65,536 steps come to no end.
+/// `Memory`, also if 2^128 rounds of up to 65,536 steps come to no end.
 pub fn record(
     alloc: Global,
     program: Arc<Verified>,

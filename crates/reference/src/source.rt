@@ -20,6 +20,7 @@ impl<'t> Interpreter for Source<'t> {
     ghost use Rattle.syntax.specs.View.{file_of};
     ghost use Rattle.type_table.specs.Visible.{types_of};
     ghost use Rattle.meaning.specs.Tasks.{Frames};
+    ghost use Rattle.meaning.proofs.Ends.{source_falls, weight as weight_of};
     ghost use Rattle.reference_task.specs.Tasks.{frames_of};
     ghost use Rattle.reference.specs.Kinds.{source_parts};
 
@@ -30,6 +31,8 @@ impl<'t> Interpreter for Source<'t> {
     ghost parts = { λ source. source_parts (file_of source.program.file.now) };
 
     ghost held = { λ source frames. frames_of (types_of source.program.table) frames.items };
+
+    ghost weight = { λ source frames. weight_of frames };
 
     fn step(&self, alloc: Global, state: &mut Self::State) -> Result<Step, Memory> {
         step(alloc, &self.program, state)
@@ -52,4 +55,6 @@ impl<'t> Interpreter for Source<'t> {
     fn main(&self) -> u32 {
         main_number(&self.program)
     }
+
+    ghost falls = { λ source frames. source_falls (file_of source.program.file.now) frames };
 }

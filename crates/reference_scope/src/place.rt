@@ -186,7 +186,7 @@ fn as_kind(
     ensures words { IfOk result (λ v. v.items ≡ as_kind (globals_in table.now).structs (kind_of (types_of table.now) kind.entry) words.now) }
     ensures short { IfOk result (λ v. length v.items ≤ MAX_WORDS) }
 {
-    let zeros = zero(alloc, table, kind)?;
+    let zeros = zero(alloc, table, kind);
     words_like(alloc, zeros.words(), words)
 }
 

@@ -34,7 +34,7 @@ pub fn zero_of(
 ) -> Result<Vec<Word>, AllocError>
     ensures { IfOk result (λ v. v.items ≡ zero_words (globals_in table.now).structs (kind_of (types_of table.now) kind.entry)) }
 {
-    let item = zero(alloc, table, kind)?;
+    let item = zero(alloc, table, kind);
     Vec::from_slice(alloc, item.words())
 }
 
@@ -138,7 +138,7 @@ pub(crate) fn made<'g>(
     ensures ok { IfOk result (λ r. Comes (made (globals_in table.now) (type_of kind.now) size) given.now r.0.items r.1.now) }
     ensures err { IfErr result (Stops (made (globals_in table.now) (type_of kind.now) size) given.now) }
 {
-    let item = zero(alloc, table, made_kind(table, kind))?;
+    let item = zero(alloc, table, made_kind(table, kind));
     let need = Need::Asking(Request::Make(size, item));
     told_one(alloc, &[Word::Chan(None)], need, given)
 }

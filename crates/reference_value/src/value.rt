@@ -144,7 +144,7 @@ fn zeros<'t>(
 ) -> Result<Vec<Word>, AllocError>
     ensures { IfOk result (λ v. v.items ≡ zero_words (globals_in table.now).structs (type_of (globals_in table.now) (blocks_of (types_of table.now) scope.now) (expression_of expression.now))) }
 {
-    let item = zero(alloc, table, kind_in(table, scope, expression))?;
+    let item = zero(alloc, table, kind_in(table, scope, expression));
     Vec::from_slice(alloc, item.words())
 }
 

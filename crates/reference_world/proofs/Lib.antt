@@ -3,3 +3,4 @@ pub mod Lists
 pub mod Performing
 pub mod Requests
 pub mod Serving
+pub mod Events

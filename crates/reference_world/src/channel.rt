@@ -11,11 +11,11 @@ use word::value::Item;
 
 /// A channel: how many items its buffer holds at most, what is in it, whether it is closed, and the zero item.
 #[derive(Drop)]
-pub(crate) struct Channel {
-    pub(crate) capacity: u32,
-    pub(crate) items: VecDeque<Item>,
-    pub(crate) closed: bool,
-    pub(crate) zero: Item,
+pub struct Channel {
+    pub capacity: u32,
+    pub items: VecDeque<Item>,
+    pub closed: bool,
+    pub zero: Item,
 }
 
 impl Model for Channel {

@@ -62,6 +62,20 @@ impl Meeting {
         })
     }
 
+    /// The goroutines that are asleep, in the order in which they fell asleep.
+    pub(crate) fn sleepers(&self) -> &[Sleeper]
+        ensures { result.now ≡ self.now.asleep }
+    {
+        self.asleep.as_slice()
+    }
+
+    /// The channels: channel c is at place c, and place 0 is no channel's.
+    pub(crate) fn all_channels(&self) -> &[Channel]
+        ensures { result.now ≡ self.now.channels }
+    {
+        self.channels.as_slice()
+    }
+
     /// A new channel (Go: Making slices, maps and channels). It panics where the size is negative or over 65,536, and
     /// where 65,536 channels were made.
     pub(crate) fn make(&mut self, size: i64, zero: Item) -> Result<Deed, Memory>

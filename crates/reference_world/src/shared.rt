@@ -1,13 +1,15 @@
 //! What all goroutines share.
 
-ghost use Rattle.std.specs.Prelude.{◌≡◌, ℕ, ◌-◌, ◌<◌, ◌≤◌, ◌^◌, IfOk, None, OnOk};
+ghost use Rattle.std.specs.Prelude.{◌≡◌, ◌==◌, ℕ, ◌+◌, ◌-◌, ◌<◌, ◌≤◌, ◌^◌, IfOk, None, OnOk};
 ghost use Rattle.word.specs.Requests.{asked};
 ghost use Rattle.word.specs.Views.{request_of};
 ghost use Rattle.word.specs.Values.{Go};
 ghost use Rattle.reference_world.specs.Deeds.{Acts, IsTold, Performs, ending_of, opened};
 
+use crate::channel::Channel;
 use crate::deed::Deed;
 use crate::meeting::Meeting;
+use crate::sleeper::Sleeper;
 use go_text::Memory;
 use logical_clock::limits::MAX_GOROUTINES;
 use logical_clock::{Key, LAST};
@@ -20,7 +22,7 @@ use word::value::Word;
 
 /// What all goroutines share: the channels and who sleeps at them, counts, and how the run ended.
 pub struct Shared {
-    alloc: Global,
+    pub(crate) alloc: Global,
     meeting: Meeting,
     /// How many goroutines are awake or asleep.
     live: u64,
@@ -77,11 +79,49 @@ impl Shared {
         self.ending
     }
 
+    /// How many requests were performed.
+    pub fn events(&self) -> u64
+        ensures { result ≡ self.now.events }
+    {
+        self.events
+    }
+
+    /// Whether the next request is number 2^62, which ends the run.
+    pub(crate) fn is_next_last(&self) -> bool
+        requires { self.now.ending ≡ None }
+        ensures { result ≡ (self.now.events + 1 == 2 ^ 62) }
+    {
+        self.events + 1 == LAST
+    }
+
+    /// How many goroutines were made; they have the numbers from 1 to this one.
+    pub(crate) fn made(&self) -> u64
+        ensures { result ≡ self.now.made }
+    {
+        self.made
+    }
+
+    /// The goroutines that are asleep, in the order in which they fell asleep.
+    pub fn sleepers(&self) -> &[Sleeper]
+        ensures { result.now ≡ self.now.meeting.asleep }
+    {
+        self.meeting.sleepers()
+    }
+
+    /// The channels: channel c is at place c, and place 0 is no channel's.
+    pub fn channels(&self) -> &[Channel]
+        ensures { result.now ≡ self.now.meeting.channels }
+    {
+        self.meeting.all_channels()
+    }
+
     /// Performs a request of the awake goroutine of this number, at this clock. A return of goroutine 1 ends the run, and so
     /// does request number 2^62, whatever it is. After an error the run can't go on, and nothing is said of what is shared.
     pub fn perform(&mut self, actor: Key, request: Request) -> Result<Deed, Memory>
         requires { self.old.ending ≡ None }
-        ensures { IfOk result (λ deed. Performs self.old actor.number actor.clock (request_of request) deed self.new) }
+        ensures performs { IfOk result (λ deed. Performs self.old actor.number actor.clock (request_of request) deed self.new) }
+        ensures counted { OnOk result (self.new.events ≡ self.old.events + 1) }
+        ensures room { OnOk result (self.new.ending ≡ None → self.new.events < 2 ^ 62) }
     {
         self.events += 1;
         if self.events == LAST {
@@ -153,7 +193,7 @@ impl Shared {
 }
 
 /// What goroutine `number`'s request means: a return of goroutine 1 ends the run.
-fn asked(number: u64, request: Request) -> Request
+pub(crate) fn asked(number: u64, request: Request) -> Request
     ensures { request_of result ≡ asked number (request_of request) }
 {
     match request {

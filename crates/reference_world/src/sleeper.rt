@@ -15,9 +15,9 @@ use word::value::Item;
 
 /// A goroutine that is asleep, and what it asked.
 #[derive(Drop)]
-pub(crate) struct Sleeper {
-    pub(crate) number: u64,
-    pub(crate) request: Request,
+pub struct Sleeper {
+    pub number: u64,
+    pub request: Request,
 }
 
 impl Model for Sleeper {

@@ -54,13 +54,18 @@ fn told(alloc: Global, asked: &Invocation<'_, '_>) -> Result<String, AllocError>
         files,
         trace,
         pauses,
+        against,
+        strict,
         out,
         from,
         last,
+        event,
+        at,
         ends,
         unordered,
         leaks,
         whole,
+        orders,
         explains,
         subcommand,
     } = *asked;
@@ -71,17 +76,19 @@ fn told(alloc: Global, asked: &Invocation<'_, '_>) -> Result<String, AllocError>
         more.push_str(other.as_str())?;
     }
     let events = events(alloc, from, last)?;
+    let moment = moment(alloc, event, at)?;
     let plan = plan(alloc, pauses)?;
-    let scope = scope(alloc, [ends, unordered, leaks, whole])?;
+    let compared = compared(alloc, against, strict)?;
+    let scope = scope(alloc, [ends, unordered, leaks, whole, orders])?;
     format!(in alloc;
-        "file {file:?} {more}trace {trace:?} {plan}out {out:?} {events}{scope}explains {explains}: {done}"
+        "file {file:?} {more}trace {trace:?} {plan}{compared}out {out:?} {events}{moment}{scope}explains {explains}: {done}"
     )
 }
 
-/// What counts in an exploration, if anything is chosen.
-fn scope(alloc: Global, chosen: [bool; 4]) -> Result<String, AllocError> {
+/// What counts in an exploration, and whether other orders are tested, if anything is chosen.
+fn scope(alloc: Global, chosen: [bool; 5]) -> Result<String, AllocError> {
     let mut text = String::new(alloc);
-    for (name, is_chosen) in ["ends ", "unordered ", "leaks ", "whole "]
+    for (name, is_chosen) in ["ends ", "unordered ", "leaks ", "whole ", "orders "]
         .iter()
         .zip(chosen.iter())
     {
@@ -100,11 +107,28 @@ fn plan(alloc: Global, pauses: Option<&str>) -> Result<String, AllocError> {
     }
 }
 
+/// The file of the trace that a run is compared with, if one is named, and whether byte by byte.
+fn compared(alloc: Global, against: Option<&str>, strict: bool) -> Result<String, AllocError> {
+    let how = if strict { "strict " } else { "" };
+    match against {
+        None => how.to_string(alloc),
+        Some(path) => format!(in alloc; "against {path:?} {how}"),
+    }
+}
+
 /// The events that a picture shows, if they are chosen.
 fn events(alloc: Global, from: Option<u64>, last: Option<u64>) -> Result<String, AllocError> {
     match (from, last) {
         (None, None) => Ok(String::new(alloc)),
         (from, last) => format!(in alloc; "from {from:?} last {last:?} "),
+    }
+}
+
+/// The moment that is shown, if one is chosen.
+fn moment(alloc: Global, event: Option<u64>, at: Option<u64>) -> Result<String, AllocError> {
+    match (event, at) {
+        (None, None) => Ok(String::new(alloc)),
+        (event, at) => format!(in alloc; "event {event:?} at {at:?} "),
     }
 }
 
@@ -121,6 +145,12 @@ fn done(alloc: Global, subcommand: Subcommand) -> Result<String, AllocError> {
             tries,
             states,
         } => format!(in alloc; "explore to {limit} by {tries} walks and {states} states"),
+        Subcommand::Test {
+            limit,
+            tries,
+            states,
+        } => format!(in alloc; "test to {limit} by {tries} walks and {states} states"),
+        Subcommand::Inspect { limit } => format!(in alloc; "inspect to {limit}"),
         Subcommand::Run { workers, limit } => format!(in alloc; "run by {workers} to {limit}"),
     }
 }

@@ -80,6 +80,7 @@ pub fn scan(alloc: Global, source: &Source) -> Result<Vec<Token>, Fault>
     ensures placed { IfErr result (LiesWithin (length (bytes_of source.now))) }
     ensures in_order { IfOk result (λ v. IsInOrder 0 (length (bytes_of source.now)) v.items) }
     ensures within { IfOk result (λ v. All (λ t. (t.span.from ≤ t.span.to) × (t.span.to ≤ length (bytes_of source.now))) v.items) }
+    ensures few { IfOk result (λ v. length v.items ≤ length (bytes_of source.now) + 1) }
 {
     scan_bytes(alloc, source.as_bytes())
 }

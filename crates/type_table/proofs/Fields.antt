@@ -1,7 +1,7 @@
 -- Fields of structs, one behind the other.
-use Rattle.std.proofs.Common.{◌≡◌, ℕ, zero, suc, ◌+◌, ◌<◌, ◌≤◌, ◌-◌, List, [], ◌∷◌, Option, Some, None, false, option_map, bytes_eq, length, slice_get, refl, sym, ap, arith}
+use Rattle.std.proofs.Common.{◌≡◌, ℕ, zero, suc, ◌+◌, ◌<◌, ◌≤◌, ◌-◌, List, [], ◌∷◌, ◌++◌, map, Option, Some, None, false, option_map, bytes_eq, length, slice_get, refl, sym, ap, arith}
 use Rattle.std.proofs.lemmas.Option.{same_Some}
-use Rattle.std.proofs.lemmas.List.{length-append}
+use Rattle.std.proofs.lemmas.List.{length-append, length-map}
 use Rattle.type_table.specs.declared.entry.StructEntry.{StructEntry}
 use Rattle.type_table.specs.Types.{ValueType, IntType, BoolType, StructType, ChannelType}
 use Rattle.type_table.specs.Containment.{Field, Structs, Selected, words_of, kind_width, fields_width, width_within, width, variable_words, behind, field_among, fields_of, kind_parts, fields_parts, parts_within, parts}
@@ -72,3 +72,14 @@ parts-there structs (suc depth) number h =
 pub parts-none : (structs : Structs) (depth number : ℕ) → fields_of structs number ≡ [] → parts_within structs depth number ≡ []
 parts-none structs zero number h = refl
 parts-none structs (suc depth) number h = rw h refl
+
+-- ---- parts: room for them
+
+-- the first field has room where all fields have
+pub room-first : (p : ℕ → List ValueType) (field : Field) (rest : List Field) (count : ℕ) → count + length (fields_parts p (field ∷ rest)) ≤ 16 → count + length (kind_parts p field.kind) ≤ 16
+room-first p field rest count room = omega (arith, length-append (kind_parts p field.kind) (fields_parts p rest), room)
+
+-- what is left has room where all had
+pub room-left : {A B : Type 0} (f : A → B) (now before : List A) (left all : List B) → map f now ++ left ≡ map f before ++ all → length before + length all ≤ 16 → length now + length left ≤ 16
+room-left f now before left all same room =
+    omega (arith, ap length same, length-append (map f now) left, length-append (map f before) all, length-map now f, length-map before f, room)

@@ -1,11 +1,11 @@
 -- What a table keeps is what is declared.
-use Rattle.std.proofs.Common.{◌≡◌, ℕ, zero, suc, ◌≤◌, min, inl, inr, List, [], ◌∷◌, Some, slice_get, get_or, length, map, refl, arith}
+use Rattle.std.proofs.Common.{◌≡◌, ℕ, zero, suc, ◌+◌, ◌≤◌, min, subst, sym, inl, inr, List, [], ◌∷◌, Some, slice_get, get_or, length, map, refl, arith}
 use Rattle.std.specs.List.{All}
 use Rattle.std.proofs.lemmas.List.Elements.{All-get_or}
 use Rattle.std.proofs.lemmas.Option.{same_Some, slice_get_within}
 use Rattle.type_table.specs.declared.entry.FunctionEntry.{FunctionEntry}
 use Rattle.type_table.specs.Types.{ValueType, IntType, BoolType, StructType, ChannelType}
-use Rattle.type_table.specs.Containment.{Structs, parts}
+use Rattle.type_table.specs.Containment.{Structs, kind_parts, parts, parts_within}
 use Rattle.type_table.specs.Scopes.{number_of, function_number}
 use Rattle.type_table.specs.Views.{signature_of, function_names, AreWidths}
 use Rattle.type_table.specs.Marks.{IsWide}
@@ -55,3 +55,10 @@ few-parts structs widths sized narrow IntType = omega arith
 few-parts structs widths sized narrow BoolType = omega arith
 few-parts structs widths sized narrow (StructType s) = rw (parts-count structs (StructType s) (get_or widths s 0) (sized s)) (narrow_at widths narrow s)
 few-parts structs widths sized narrow (ChannelType d e) = omega arith
+
+-- there is room for them where there is nothing yet
+pub room-for-parts : (structs : Structs) (widths : List ℕ) → AreWidths structs widths → All (λ w. w ≤ 16) widths → (kind : ValueType) (depth count : ℕ) → depth ≡ suc (length structs) → count ≡ 0
+    → count + length (kind_parts (parts_within structs depth) (Some kind)) ≤ 16
+room-for-parts structs widths sized narrow kind depth count deep none =
+    let few = subst (λ (d : ℕ). length (kind_parts (parts_within structs d) (Some kind)) ≤ 16) (sym deep) (few-parts structs widths sized narrow kind) in
+    omega (arith, none, few)

@@ -24,6 +24,15 @@ pub enum ValueType<'a> {
     Channel(Direction, &'a TypeNode),
 }
 
+impl Default for ValueType<'_> {
+    /// The type `int`.
+    fn default() -> Self
+        ensures { result ≡ ValueType.Int }
+    {
+        ValueType::Int
+    }
+}
+
 /// The type of this name, if it is one's and no variable hides it.
 fn type_named<'a>(types: &NameList<'_>, name: &[u8]) -> Option<ValueType<'a>>
     ensures { option_map (kind_of types.now) result ≡ type_named types.now nothing_declared name.now }

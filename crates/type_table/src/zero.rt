@@ -1,6 +1,7 @@
 //! The words of values, and zero values.
 
-ghost use Rattle.std.specs.Prelude.{◌≡◌, ◌++◌, Some, IfOk, OnOk, map};
+ghost use Rattle.std.specs.Prelude.{◌≡◌, ◌++◌, ◌+◌, ◌≤◌, Some, IfOk, length, map};
+ghost use Rattle.arrayvec.specs.ArrayVec.{array_vec_len};
 ghost use Rattle.type_table.specs.Containment.{fields_parts, kind_parts, parts, parts_within};
 ghost use Rattle.type_table.specs.Views.{field_in, kind_of};
 ghost use Rattle.type_table.specs.Visible.{globals_in, types_of};
@@ -10,43 +11,55 @@ use crate::entry::FieldEntry;
 use crate::layout::entry_at;
 use crate::table::TypeTable;
 use crate::value_type::ValueType;
+use arrayvec::ArrayVec;
 use std::alloc::{AllocError, Global};
+use word::limits::MAX_WORDS;
 use word::value::{Item, Word};
 
-/// Puts the types of the words of a value behind others. Structs lie within one another less than `depth` deep.
+/// Appends the types of the words of a value to `parts`. Structs contain one another less than `depth` deep.
 #[cycle(put_parts)]
 fn put_parts<'t, 'a, 'p>(
     table: &'t TypeTable<'a>,
     kind: ValueType<'a>,
     depth: usize,
-    parts: &'p mut Vec<ValueType<'a>>,
-) -> Result<(), AllocError>
-    ensures { OnOk result (map (kind_of (types_of table.now)) parts.new.items ≡ map (kind_of (types_of table.now)) parts.old.items ++ kind_parts (parts_within (globals_in table.now).structs depth) (Some (kind_of (types_of table.now) kind.entry))) }
+    parts: &'p mut ArrayVec<ValueType<'a>, MAX_WORDS>,
+)
+    requires { array_vec_len parts.old + length (kind_parts (parts_within (globals_in table.now).structs depth) (Some (kind_of (types_of table.now) kind))) ≤ MAX_WORDS }
+    ensures { map (kind_of (types_of table.now)) parts.new.items ≡ map (kind_of (types_of table.now)) parts.old.items ++ kind_parts (parts_within (globals_in table.now).structs depth) (Some (kind_of (types_of table.now) kind.entry)) }
 {
     match kind {
         ValueType::Struct(number) if 0 < depth => match entry_at(table, number) {
             Some(entry) => put_fields(table, entry.fields.as_slice(), depth - 1, parts),
-            None => Ok(()),
+            None => {}
         },
-        ValueType::Struct(_) => Ok(()),
-        _ => Ok(parts.push(kind)?),
+        ValueType::Struct(_) => {}
+        _ => parts.push(kind),
     }
 }
 
-/// The same for the values of fields, one behind the other.
+/// Appends the types of the words of the values of fields, one after the other.
 #[cycle(put_parts)]
 fn put_fields<'t, 'f, 'a, 'p>(
     table: &'t TypeTable<'a>,
     fields: &'f [FieldEntry<'a>],
     depth: usize,
-    parts: &'p mut Vec<ValueType<'a>>,
-) -> Result<(), AllocError>
-    ensures { OnOk result (map (kind_of (types_of table.now)) parts.new.items ≡ map (kind_of (types_of table.now)) parts.old.items ++ fields_parts (parts_within (globals_in table.now).structs depth) (map (field_in (types_of table.now)) fields.now)) }
+    parts: &'p mut ArrayVec<ValueType<'a>, MAX_WORDS>,
+)
+    requires { array_vec_len parts.old + length (fields_parts (parts_within (globals_in table.now).structs depth) (map (field_in (types_of table.now)) fields.now)) ≤ MAX_WORDS }
+    ensures { map (kind_of (types_of table.now)) parts.new.items ≡ map (kind_of (types_of table.now)) parts.old.items ++ fields_parts (parts_within (globals_in table.now).structs depth) (map (field_in (types_of table.now)) fields.now) }
 {
     for field in fields {
-        put_parts(table, field.kind, depth, parts)?;
+        put_parts(table, field.kind, depth, parts);
     }
-    Ok(())
+}
+
+/// The types of the words of a value, in order: `int`, `bool` and channels.
+fn parts_in<'a>(table: &TypeTable<'a>, kind: ValueType<'a>) -> ArrayVec<ValueType<'a>, MAX_WORDS>
+    ensures { map (kind_of (types_of table.now)) result.items ≡ parts (globals_in table.now).structs (kind_of (types_of table.now) kind.entry) }
+{
+    let mut all = ArrayVec::new();
+    put_parts(table, kind, table.structs.len() + 1, &mut all);
+    all
 }
 
 /// The types of the words of a value, in order: `int`, `bool` and channels, at most 16.
@@ -57,9 +70,8 @@ pub fn parts<'a>(
 ) -> Result<Vec<ValueType<'a>>, AllocError>
     ensures { IfOk result (λ all. map (kind_of (types_of table.now)) all.items ≡ parts (globals_in table.now).structs (kind_of (types_of table.now) kind.entry)) }
 {
-    let mut all = Vec::new(alloc);
-    put_parts(table, kind, table.structs.len() + 1, &mut all)?;
-    Ok(all)
+    let all = parts_in(table, kind);
+    Vec::from_slice(alloc, all.as_slice())
 }
 
 /// The zero value of a type that takes one word.
@@ -74,13 +86,13 @@ fn zero_word(kind: ValueType<'_>) -> Word
 }
 
 /// The zero value of a type ("The zero value").
-pub fn zero(alloc: Global, table: &TypeTable<'_>, kind: ValueType<'_>) -> Result<Item, AllocError>
-    ensures { IfOk result (λ item. item ≡ zero_words (globals_in table.now).structs (kind_of (types_of table.now) kind.entry)) }
+pub fn zero(alloc: Global, table: &TypeTable<'_>, kind: ValueType<'_>) -> Item
+    ensures { result ≡ zero_words (globals_in table.now).structs (kind_of (types_of table.now) kind.entry) }
 {
-    let mut words = Vec::new(alloc);
-    let all = parts(alloc, table, kind)?;
+    let all = parts_in(table, kind);
+    let mut words = ArrayVec::<Word, MAX_WORDS>::new();
     for part in all.as_slice() {
-        words.push(zero_word(*part))?;
+        words.push(zero_word(*part));
     }
-    Ok(Item::new(alloc, words.as_slice()))
+    Item::new(alloc, words.as_slice())
 }

@@ -1,5 +1,5 @@
 -- What is wrong with the right side of an assignment, and with the places on its left.
-use Rattle.std.specs.Prelude.{◌≡◌, ℕ, ◌+◌, ◌==◌, ◌⊎◌, Bool, true, false, not, ◌&&◌, if◌then◌else◌, List, [], ◌∷◌, ◌++◌, Option, Some, None, option_map, option_and_then}
+use Rattle.std.specs.Prelude.{◌≡◌, ℕ, ◌+◌, ◌==◌, ◌⊎◌, Bool, true, false, not, ◌&&◌, ◌||◌, if◌then◌else◌, List, [], ◌∷◌, ◌++◌, Option, Some, None, option_map, option_and_then}
 use Rattle.std.specs.Option.{is_none}
 use Rattle.go_text.specs.declared.rule.Rule.TheVariants as rules
 use Rattle.syntax.specs.Tree.{Expression, Receive, expressions, Arguments, Place}
@@ -88,11 +88,15 @@ selected globals scope place = followed globals.structs (option_map variable_at 
 abbrev pub has_fields : Place → Bool
 has_fields place = elim place.fields as (λ _. Bool) [ [] ↦ false | field ∷ more ↦ true ]
 
--- the place is no variable and no field of one, nor `_`
+-- the name of the place is not a variable's, nor `_`
+abbrev pub names_no_variable : Scope → Place → Bool
+names_no_variable scope place = not (is_blank place.name) && is_none (variable_named scope place.name)
+
+-- The place is no variable and no field of one, nor `_`. If its name is not a variable's, it is also not visible as one.
 abbrev pub PlaceHas : Globals → Scope → ℕ → Place → Flaw → Type 0
 PlaceHas globals scope first place flaw =
-    (((not (is_blank place.name) && is_none (variable_named scope place.name)) ≡ true) × IsBroken rules.Visible (first + 1) flaw)
-    ⊎ ((((is_blank place.name && has_fields place) ≡ true) × IsBroken rules.Assigned (first + 1) flaw)
+    ((names_no_variable scope place ≡ true) × IsBroken rules.Visible (first + 1) flaw)
+    ⊎ ((((names_no_variable scope place || (is_blank place.name && has_fields place)) ≡ true) × IsBroken rules.Assigned (first + 1) flaw)
     ⊎ PathHas globals.structs (kind_of (variable_named scope place.name)) place.fields (first + 1) flaw)
 
 -- the same where the place is read too, as `_` can't be

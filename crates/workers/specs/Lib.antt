@@ -1,2 +1,3 @@
 pub mod Paces
 pub mod Queues
+pub mod Views

@@ -1,6 +1,7 @@
 //! What the workers of a pool have that knows of no book.
 #![tactic(auto)]
 
+mod ends;
 mod gate;
 mod pace;
 mod signals;

@@ -15,6 +15,9 @@ returns-in-Reference g c = subst (λ (s : Subcommand). Finds s c.args.bytes.item
 pub returns-in-Timeline : goal.returns-in-Timeline
 returns-in-Timeline g c = subst (λ (s : Subcommand). Finds s c.args.bytes.items c.picture.result) (sym c.in-Timeline.is) c.picture.ensures
 
+pub returns-in-Inspect : goal.returns-in-Inspect
+returns-in-Inspect g c = subst (λ (s : Subcommand). Finds s c.args.bytes.items c.inspect.result) (sym c.in-Inspect.is) c.inspect.ensures
+
 pub returns-in-Paused : goal.returns-in-Paused
 returns-in-Paused g c = subst (λ (s : Subcommand). Finds s c.args.bytes.items c.pause.result) (sym c.in-Paused.is) c.pause.ensures
 

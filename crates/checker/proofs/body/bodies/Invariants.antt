@@ -5,13 +5,14 @@ use Rattle.type_table.specs.Visible.{types_of, globals_in}
 use Rattle.typing_rules.specs.declared.flaw.Flaw.{Flaw}
 use Rattle.checker_declaration.specs.Heads.{HeadsHave}
 use Rattle.typing_rules.specs.Files.{BodiesHave}
+use Rattle.checker.specs.Firsts.{FirstBodyHas}
 use Rattle.checker.proofs.body.bodies.Given as goal
 
 -- what is left shows what all show
 abbrev pub invariant-loop-top : goal.invariant-loop-top
 invariant-loop-top l = record {
   end : l.end + sum_by top_size (map top_of (drop l.top-index l.tops)) ≡ sum_by top_size (map top_of l.tops);
-  found : (flaw : Flaw) → BodiesHave (globals_in l.table) l.end (map top_of (drop l.top-index l.tops)) flaw → BodiesHave (globals_in l.table) 0 (map top_of l.tops) flaw;
+  found : (flaw : Flaw) → FirstBodyHas (globals_in l.table) l.end (map top_of (drop l.top-index l.tops)) flaw → FirstBodyHas (globals_in l.table) 0 (map top_of l.tops) flaw;
   heads : (flaw : Flaw) → HeadsHave (types_of l.table) l.end (map top_of (drop l.top-index l.tops)) flaw → HeadsHave (types_of l.table) 0 (map top_of l.tops) flaw;
   passed : (flaw : Flaw) → BodiesHave (globals_in l.table) 0 (map top_of l.tops) flaw → BodiesHave (globals_in l.table) l.end (map top_of (drop l.top-index l.tops)) flaw;
 }

@@ -3,6 +3,7 @@ use Rattle.syntax.specs.Spans.{tree_of}
 use Rattle.syntax.specs.Tree.{File}
 use Rattle.typing_rules.specs.declared.flaw.Flaw.{Flaw}
 use Rattle.typing_rules.specs.Files.{FileHas}
+use Rattle.checker.specs.Firsts.{ComesFirst}
 use Rattle.checker.proofs.Bodies.{typed_of_none}
 use Rattle.checker.proofs.Nodes.{file_within}
 use Rattle.checker.proofs.tree.check.Goals as goal
@@ -14,3 +15,8 @@ pub fault_of-requires-clause-node : goal.fault_of-requires-clause-node
 fault_of-requires-clause-node c =
     let has = rw c.in-Err-Flawed.field-0-is at c.in-Err-Flawed.ensures.one in
     file_within (tree_of c.args.tree) c.in-Err-Flawed.flaw (subst (λ (file : File). FileHas file c.in-Err-Flawed.flaw) c.file.ensures.file has)
+
+pub fault_of-requires-clause-first : goal.fault_of-requires-clause-first
+fault_of-requires-clause-first c =
+    let first = rw c.in-Err-Flawed.field-0-is at c.in-Err-Flawed.ensures.first in
+    subst (λ (file : File). ComesFirst file c.in-Err-Flawed.flaw) c.file.ensures.file first

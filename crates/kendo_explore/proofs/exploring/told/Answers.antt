@@ -1,9 +1,8 @@
-use Rattle.std.proofs.Common.{All, subst, sym}
-use Rattle.exploration.specs.Shown.{IsEnd}
+use Rattle.std.proofs.Common.{map, refl, ap, ◌∙◌}
+use Rattle.exploration.specs.Shown.{seen}
+use Rattle.kendo_explore.proofs.Plans.{all_shown}
 use Rattle.kendo_explore.proofs.exploring.told.Goals as goal
 
 pub returns : goal.returns
-returns c file limit found = record {
-  ordinary = found.ordinary;
-  plans = c.in_ok-plans.ensures file limit (subst (All (IsEnd file limit)) (sym c.as_slice-2.ensures.value) found.shown);
-}
+returns c file limit found =
+    all_shown file limit _ _ refl (c.in_ok-plans.ensures ∙ ap (map seen) c.as_slice-2.ensures.value) c.verdict-verdict.ensures.other c.verdict-verdict.ensures.same found

@@ -81,3 +81,8 @@ returns-in_err-tokens-clause-why c =
     let utf8 : IsUtf8 (bytes_of c.in_ok-source.source) = subst IsUtf8 c.as_str-text.ensures.bytes c.as_str-text.ensures.utf8 in
     let short : length (bytes_of c.in_ok-source.source) ≤ MAX_LENGTH = subst (λ (bs : List ℕ). length bs ≤ MAX_LENGTH) c.as_str-text.ensures.bytes c.as_str-text.ensures.short in
     rw (p.1, p.2) (unscanned _ _ c.in_ok-source.ensures.text short utf8 c.in_err-tokens.ensures.why)
+
+pub tree-requires : goal.tree-requires
+tree-requires c =
+    let text = c.as_str-text.ensures in
+    omega (arith, ap length c.as_slice.ensures.value, c.in_ok-tokens.ensures.few, ap length text.bytes, text.short)

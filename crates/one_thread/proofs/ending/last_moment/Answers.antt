@@ -10,9 +10,9 @@ loop-init g c =
 
 pub loop-preserved : goal.loop-preserved
 loop-preserved g c = record {
-  going = c.in_ok-end.ensures.going c.in_default-2.is;
-  within = c.in_ok-end.ensures.within;
-  stands = rw c.in_default-2.is at (c.in_ok-end.ensures.goes (g.W.Write.contents c.args.output.now) c.loop.invariant.stands);
+  going = c.in_ok-made.ensures.going (sym c.ending.ensures ∙ c.in_default-ending.is);
+  within = c.in_ok-made.ensures.within;
+  stands = rw (sym c.ending.ensures ∙ c.in_default-ending.is) at (c.in_ok-made.ensures.goes (g.W.Write.contents c.args.output.now) c.loop.invariant.stands);
 }
 
 pub returns-in_default-clause-whole : goal.returns-in_default-clause-whole
@@ -25,7 +25,7 @@ returns-in_default-clause-last g c =
     rw (c.deserted.ensures.turn, c.deserted.ensures.goroutines, c.into_all.ensures)
     (deadlock_last (kind_of (g.P.Interpreter.parts c.args.program.now)) (g.P.Interpreter.held c.args.program.now) c.args.limit (g.W.Write.contents c.args.output.now) (g.W.Write.contents c.loop.output) c.loop.goroutines c.loop.shared c.loop.invariant.stands (sym c.least.ensures ∙ c.in_default.is))
 
-pub returns-in-Some-2-clause-whole : goal.returns-in-Some-2-clause-whole
-returns-in-Some-2-clause-whole g c =
+pub returns-in-Some-ending-clause-whole : goal.returns-in-Some-ending-clause-whole
+returns-in-Some-ending-clause-whole g c =
     rw c.stopped.ensures.end
-    (rw c.in-Some-2.is at (c.in_ok-end.ensures.goes (g.W.Write.contents c.args.output.now) c.loop.invariant.stands))
+    (rw (sym c.ending.ensures ∙ c.in-Some-ending.is) at (c.in_ok-made.ensures.goes (g.W.Write.contents c.args.output.now) c.loop.invariant.stands))

@@ -22,14 +22,14 @@ returns-in_err-next c =
     let p = err_from_is_err_and c.from_residual-in_err-next.result c.from_residual-in_err-next.ensures.1 in
     let turns = length (ahead c.args.cursor) in
     let lt : c.loop.counter < turns = omega (arith, c.len-end.ensures) in
-    rw (p.1, p.2) (next_fails c.in_err-next.field-0.0 (top MAX_ENTRIES STATEMENT_ROOM) top_next Syntax turns c.loop.counter _ (ahead c.loop.rest) (top_of c.in_ok-one.one) (ahead c.in_ok-one.behind) _ lt c.in_ok-one.ensures c.in_err-next.ensures c.loop.invariant.total)
+    rw (p.1, p.2) (next_fails c.in_err-next.field-0.0 (top MAX_ENTRIES STATEMENT_ROOM) top_next Syntax turns c.loop.counter _ (ahead c.loop.rest) (top_of c.in_ok-one.one) (ahead c.in_ok-one.behind) _ lt c.in_ok-one.ensures c.in_err-next.ensures.gives c.loop.invariant.total)
 
 pub returns-in-End : goal.returns-in-End
 returns-in-End c =
     let pushed = chosen _ _ _ _ c.push.ensures.items (ap is_ok c.in_ok-push.was) in
     let turns = length (ahead c.args.cursor) in
     let lt : c.loop.counter < turns = omega (arith, c.len-end.ensures) in
-    rw pushed (ends top_of (top MAX_ENTRIES STATEMENT_ROOM) top_next Syntax turns c.loop.counter c.loop.entries.items (ahead c.loop.rest) c.in_ok-one.one c.in-End.trailing (ahead c.in_ok-one.behind) (ahead c.in_ok-next.after) _ lt c.in_ok-one.ensures (rw c.in-End.is at c.in_ok-next.ensures) c.loop.invariant.total)
+    rw pushed (ends top_of (top MAX_ENTRIES STATEMENT_ROOM) top_next Syntax turns c.loop.counter c.loop.entries.items (ahead c.loop.rest) c.in_ok-one.one c.in-End.trailing (ahead c.in_ok-one.behind) (ahead c.in_ok-next.after) _ lt c.in_ok-one.ensures (rw c.in-End.is at c.in_ok-next.ensures.gives) c.loop.invariant.total)
 
 pub loop-preserved : goal.loop-preserved
 loop-preserved c =
@@ -37,7 +37,7 @@ loop-preserved c =
     let turns = length (ahead c.args.cursor) in
     let lt : c.loop.counter < turns = omega (arith, c.len-end.ensures) in
     record {
-      total = rw pushed (more top_of (top MAX_ENTRIES STATEMENT_ROOM) top_next Syntax turns c.loop.counter c.loop.entries.items (ahead c.loop.rest) c.in_ok-one.one (ahead c.in_ok-one.behind) (ahead c.in_ok-next.after) _ lt c.in_ok-one.ensures (rw c.in-More.is at c.in_ok-next.ensures) c.loop.invariant.total);
+      total = rw pushed (more top_of (top MAX_ENTRIES STATEMENT_ROOM) top_next Syntax turns c.loop.counter c.loop.entries.items (ahead c.loop.rest) c.in_ok-one.one (ahead c.in_ok-one.behind) (ahead c.in_ok-next.after) _ lt c.in_ok-one.ensures (rw c.in-More.is at c.in_ok-next.ensures.gives) c.loop.invariant.total);
     }
 
 pub returns : goal.returns

@@ -81,12 +81,12 @@ expression_list-returns-in_err-found-clause-values t c =
 pub expression_list-returns-in_err-next-clause-values : goal.expression_list-returns-in_err-next-clause-values
 expression_list-returns-in_err-next-clause-values t c =
     let p = err_from_is_err_and c.from_residual-in_err-next.result c.from_residual-in_err-next.ensures.1 in
-    rw (p.1, p.2) (next_fails c.in_err-next.field-0.0 (expression c.args.literals 64 c.args.room 0) (value_next c.args.close) (TooMany Entries) 64 c.loop.counter _ (ahead c.loop.rest) (expression_of c.in_ok-found.found.node) (ahead c.in_ok-found.found.rest) _ c.loop-test.true c.in_ok-found.ensures.tree c.in_err-next.ensures c.loop.invariant.total)
+    rw (p.1, p.2) (next_fails c.in_err-next.field-0.0 (expression c.args.literals 64 c.args.room 0) (value_next c.args.close) (TooMany Entries) 64 c.loop.counter _ (ahead c.loop.rest) (expression_of c.in_ok-found.found.node) (ahead c.in_ok-found.found.rest) _ c.loop-test.true c.in_ok-found.ensures.tree c.in_err-next.ensures.gives c.loop.invariant.total)
 
 pub expression_list-returns-in-End-clause-values : goal.expression_list-returns-in-End-clause-values
 expression_list-returns-in-End-clause-values t c =
     let pushed = chosen _ _ _ _ c.push.ensures.items (ap is_ok c.in_ok-push.was) in
-    rw pushed (ends expression_of (expression c.args.literals 64 c.args.room 0) (value_next c.args.close) (TooMany Entries) 64 c.loop.counter c.loop.entries.items (ahead c.loop.rest) c.in_ok-found.found.node c.in-End.trailing (ahead c.in_ok-found.found.rest) (ahead c.in_ok-next.after) _ c.loop-test.true c.in_ok-found.ensures.tree (rw c.in-End.is at c.in_ok-next.ensures) c.loop.invariant.total)
+    rw pushed (ends expression_of (expression c.args.literals 64 c.args.room 0) (value_next c.args.close) (TooMany Entries) 64 c.loop.counter c.loop.entries.items (ahead c.loop.rest) c.in_ok-found.found.node c.in-End.trailing (ahead c.in_ok-found.found.rest) (ahead c.in_ok-next.after) _ c.loop-test.true c.in_ok-found.ensures.tree (rw c.in-End.is at c.in_ok-next.ensures.gives) c.loop.invariant.total)
 
 pub expression_list-returns-in-End-clause-height : goal.expression_list-returns-in-End-clause-height
 expression_list-returns-in-End-clause-height t c =
@@ -97,7 +97,7 @@ pub expression_list-loop-preserved : goal.expression_list-loop-preserved
 expression_list-loop-preserved t c =
     let pushed = chosen _ _ _ _ c.push.ensures.items (ap is_ok c.in_ok-push.was) in
     record {
-      total = rw pushed (more expression_of (expression c.args.literals 64 c.args.room 0) (value_next c.args.close) (TooMany Entries) 64 c.loop.counter c.loop.entries.items (ahead c.loop.rest) c.in_ok-found.found.node (ahead c.in_ok-found.found.rest) (ahead c.in_ok-next.after) _ c.loop-test.true c.in_ok-found.ensures.tree (rw c.in-More.is at c.in_ok-next.ensures) c.loop.invariant.total);
+      total = rw pushed (more expression_of (expression c.args.literals 64 c.args.room 0) (value_next c.args.close) (TooMany Entries) 64 c.loop.counter c.loop.entries.items (ahead c.loop.rest) c.in_ok-found.found.node (ahead c.in_ok-found.found.rest) (ahead c.in_ok-next.after) _ c.loop-test.true c.in_ok-found.ensures.tree (rw c.in-More.is at c.in_ok-next.ensures.gives) c.loop.invariant.total);
       height = rw pushed (omega (arith, highest-pushed expression_of expression_height c.loop.entries.items c.in_ok-found.found.node, c.loop.invariant.height, c.in_ok-found.ensures.height.0, c.max-height.ensures));
       within = omega (arith, c.loop.invariant.within, c.in_ok-found.ensures.height.1, c.max-height.ensures);
     }

@@ -14,7 +14,7 @@ pub parenthesized_type-returns-in_err-rest : goal.parenthesized_type-returns-in_
 unfolding parenthesized_type
 parenthesized_type-returns-in_err-rest t c =
     let p = err_from_is_err_and c.from_residual-in_err-rest.result c.from_residual-in_err-rest.ensures.1 in
-    rw (p.1, p.2, c.in_ok-inner.ensures) (step_fails c.in_err-rest.field-0.0 _ _ c.in_err-rest.ensures)
+    rw (p.1, p.2, c.in_ok-inner.ensures) (step_fails c.in_err-rest.field-0.0 _ _ c.in_err-rest.ensures.gives)
 
 pub parenthesized_type-returns-in_err-node : goal.parenthesized_type-returns-in_err-node
 parenthesized_type-returns-in_err-node t c =
@@ -23,7 +23,7 @@ parenthesized_type-returns-in_err-node t c =
 
 pub parenthesized_type-returns : goal.parenthesized_type-returns
 unfolding parenthesized_type
-parenthesized_type-returns t c = rw (c.in_ok-node.ensures.ok, c.in_ok-inner.ensures, c.in_ok-rest.ensures) refl
+parenthesized_type-returns t c = rw (c.in_ok-node.ensures.ok, c.in_ok-inner.ensures, c.in_ok-rest.ensures.gives) refl
 
 pub channel_type-returns-in_err-element : goal.channel_type-returns-in_err-element
 channel_type-returns-in_err-element t c =
@@ -42,8 +42,8 @@ pub behind_arrow-returns-in_err-rest : goal.behind_arrow-returns-in_err-rest
 unfolding behind_arrow
 behind_arrow-returns-in_err-rest t c =
     let p = err_from_is_err_and c.from_residual.result c.from_residual.ensures.1 in
-    rw (p.1, p.2) (step_fails c.in_err-rest.field-0.0 _ _ c.in_err-rest.ensures)
+    rw (p.1, p.2) (step_fails c.in_err-rest.field-0.0 _ _ c.in_err-rest.ensures.gives)
 
 pub behind_arrow-returns : goal.behind_arrow-returns
 unfolding behind_arrow
-behind_arrow-returns t c = rw c.in_ok-rest.ensures c.channel_type.ensures
+behind_arrow-returns t c = rw c.in_ok-rest.ensures.gives c.channel_type.ensures

@@ -23,11 +23,11 @@ comm_clause-returns t c = rw (clause_begins MAX_ENTRIES c.args.room (ahead c.arg
 pub block-returns-in_err-all : goal.block-returns-in_err-all
 block-returns-in_err-all t c =
     let p = err_from_is_err_and c.from_residual-in_err-all.result c.from_residual-in_err-all.ensures.1 in
-    rw (p.1, p.2) (block_fails c.in_err-all.field-0.0 MAX_ENTRIES c.args.room (ahead c.args.cursor) (ahead c.in_ok-rest.rest) (omega arith) c.in_ok-rest.ensures c.in_err-all.ensures)
+    rw (p.1, p.2) (block_fails c.in_err-all.field-0.0 MAX_ENTRIES c.args.room (ahead c.args.cursor) (ahead c.in_ok-rest.rest) (omega arith) c.in_ok-rest.ensures.gives c.in_err-all.ensures)
 
 pub block-returns : goal.block-returns
 block-returns t c =
-    block_done MAX_ENTRIES c.args.room (ahead c.args.cursor) (ahead c.in_ok-rest.rest) (map statement_of c.in_ok-all.all.entries.items) c.in_ok-all.all.trailing (ahead c.in_ok-all.all.rest) (omega arith) c.in_ok-rest.ensures c.in_ok-all.ensures
+    block_done MAX_ENTRIES c.args.room (ahead c.args.cursor) (ahead c.in_ok-rest.rest) (map statement_of c.in_ok-all.all.entries.items) c.in_ok-all.all.trailing (ahead c.in_ok-all.all.rest) (omega arith) c.in_ok-rest.ensures.gives c.in_ok-all.ensures
 
 pub statements_to_end-returns-in_err-one : goal.statements_to_end-returns-in_err-one
 statements_to_end-returns-in_err-one t c =
@@ -41,14 +41,14 @@ statements_to_end-returns-in_err-next t c =
     let p = err_from_is_err_and c.from_residual-in_err-next.result c.from_residual-in_err-next.ensures.1 in
     let turns = length (ahead c.args.cursor) in
     let lt : c.loop.counter < turns = omega (arith, c.len-end.ensures) in
-    rw (p.1, p.2) (next_fails c.in_err-next.field-0.0 (statement MAX_ENTRIES c.args.room) (next_of c.args.clause) Syntax turns c.loop.counter _ (ahead c.loop.rest) (statement_of c.in_ok-one.one) (ahead c.in_ok-one.behind) _ lt c.in_ok-one.ensures c.in_err-next.ensures c.loop.invariant.total)
+    rw (p.1, p.2) (next_fails c.in_err-next.field-0.0 (statement MAX_ENTRIES c.args.room) (next_of c.args.clause) Syntax turns c.loop.counter _ (ahead c.loop.rest) (statement_of c.in_ok-one.one) (ahead c.in_ok-one.behind) _ lt c.in_ok-one.ensures c.in_err-next.ensures.gives c.loop.invariant.total)
 
 pub statements_to_end-returns-in-End : goal.statements_to_end-returns-in-End
 statements_to_end-returns-in-End t c =
     let pushed = chosen _ _ _ _ c.push.ensures.items (ap is_ok c.in_ok-push.was) in
     let turns = length (ahead c.args.cursor) in
     let lt : c.loop.counter < turns = omega (arith, c.len-end.ensures) in
-    rw pushed (ends statement_of (statement MAX_ENTRIES c.args.room) (next_of c.args.clause) Syntax turns c.loop.counter c.loop.entries.items (ahead c.loop.rest) c.in_ok-one.one c.in-End.trailing (ahead c.in_ok-one.behind) (ahead c.in_ok-next.after) _ lt c.in_ok-one.ensures (rw c.in-End.is at c.in_ok-next.ensures) c.loop.invariant.total)
+    rw pushed (ends statement_of (statement MAX_ENTRIES c.args.room) (next_of c.args.clause) Syntax turns c.loop.counter c.loop.entries.items (ahead c.loop.rest) c.in_ok-one.one c.in-End.trailing (ahead c.in_ok-one.behind) (ahead c.in_ok-next.after) _ lt c.in_ok-one.ensures (rw c.in-End.is at c.in_ok-next.ensures.gives) c.loop.invariant.total)
 
 pub statements_to_end-loop-preserved : goal.statements_to_end-loop-preserved
 statements_to_end-loop-preserved t c =
@@ -56,7 +56,7 @@ statements_to_end-loop-preserved t c =
     let turns = length (ahead c.args.cursor) in
     let lt : c.loop.counter < turns = omega (arith, c.len-end.ensures) in
     record {
-      total = rw pushed (more statement_of (statement MAX_ENTRIES c.args.room) (next_of c.args.clause) Syntax turns c.loop.counter c.loop.entries.items (ahead c.loop.rest) c.in_ok-one.one (ahead c.in_ok-one.behind) (ahead c.in_ok-next.after) _ lt c.in_ok-one.ensures (rw c.in-More.is at c.in_ok-next.ensures) c.loop.invariant.total);
+      total = rw pushed (more statement_of (statement MAX_ENTRIES c.args.room) (next_of c.args.clause) Syntax turns c.loop.counter c.loop.entries.items (ahead c.loop.rest) c.in_ok-one.one (ahead c.in_ok-one.behind) (ahead c.in_ok-next.after) _ lt c.in_ok-one.ensures (rw c.in-More.is at c.in_ok-next.ensures.gives) c.loop.invariant.total);
     }
 
 pub statements_to_end-returns : goal.statements_to_end-returns
@@ -73,18 +73,18 @@ comm_clauses-returns-in_err-one t c =
 pub comm_clauses-returns-in_err-next : goal.comm_clauses-returns-in_err-next
 comm_clauses-returns-in_err-next t c =
     let p = err_from_is_err_and c.from_residual-in_err-next.result c.from_residual-in_err-next.ensures.1 in
-    rw (p.1, p.2) (next_fails c.in_err-next.field-0.0 (clause MAX_ENTRIES c.args.room) clauses_next (TooMany SelectClauses) MAX_CLAUSES c.loop.counter _ (ahead c.loop.rest) (clause_of c.in_ok-one.one) (ahead c.in_ok-one.behind) _ c.loop-test.true c.in_ok-one.ensures c.in_err-next.ensures c.loop.invariant.total)
+    rw (p.1, p.2) (next_fails c.in_err-next.field-0.0 (clause MAX_ENTRIES c.args.room) clauses_next (TooMany SelectClauses) MAX_CLAUSES c.loop.counter _ (ahead c.loop.rest) (clause_of c.in_ok-one.one) (ahead c.in_ok-one.behind) _ c.loop-test.true c.in_ok-one.ensures c.in_err-next.ensures.gives c.loop.invariant.total)
 
 pub comm_clauses-returns-in-End : goal.comm_clauses-returns-in-End
 comm_clauses-returns-in-End t c =
     let pushed = chosen _ _ _ _ c.push.ensures.items (ap is_ok c.in_ok-push.was) in
-    rw pushed (ends clause_of (clause MAX_ENTRIES c.args.room) clauses_next (TooMany SelectClauses) MAX_CLAUSES c.loop.counter c.loop.entries.items (ahead c.loop.rest) c.in_ok-one.one c.in-End.trailing (ahead c.in_ok-one.behind) (ahead c.in_ok-next.after) _ c.loop-test.true c.in_ok-one.ensures (rw c.in-End.is at c.in_ok-next.ensures) c.loop.invariant.total)
+    rw pushed (ends clause_of (clause MAX_ENTRIES c.args.room) clauses_next (TooMany SelectClauses) MAX_CLAUSES c.loop.counter c.loop.entries.items (ahead c.loop.rest) c.in_ok-one.one c.in-End.trailing (ahead c.in_ok-one.behind) (ahead c.in_ok-next.after) _ c.loop-test.true c.in_ok-one.ensures (rw c.in-End.is at c.in_ok-next.ensures.gives) c.loop.invariant.total)
 
 pub comm_clauses-loop-preserved : goal.comm_clauses-loop-preserved
 comm_clauses-loop-preserved t c =
     let pushed = chosen _ _ _ _ c.push.ensures.items (ap is_ok c.in_ok-push.was) in
     record {
-      total = rw pushed (more clause_of (clause MAX_ENTRIES c.args.room) clauses_next (TooMany SelectClauses) MAX_CLAUSES c.loop.counter c.loop.entries.items (ahead c.loop.rest) c.in_ok-one.one (ahead c.in_ok-one.behind) (ahead c.in_ok-next.after) _ c.loop-test.true c.in_ok-one.ensures (rw c.in-More.is at c.in_ok-next.ensures) c.loop.invariant.total);
+      total = rw pushed (more clause_of (clause MAX_ENTRIES c.args.room) clauses_next (TooMany SelectClauses) MAX_CLAUSES c.loop.counter c.loop.entries.items (ahead c.loop.rest) c.in_ok-one.one (ahead c.in_ok-one.behind) (ahead c.in_ok-next.after) _ c.loop-test.true c.in_ok-one.ensures (rw c.in-More.is at c.in_ok-next.ensures.gives) c.loop.invariant.total);
     }
 
 pub comm_clauses-returns : goal.comm_clauses-returns
@@ -112,10 +112,10 @@ if_statement-returns t c =
 pub else_branch-returns-in_err-branch : goal.else_branch-returns-in_err-branch
 else_branch-returns-in_err-branch t c =
     let p = err_from_is_err_and c.from_residual-in_err-branch.result c.from_residual-in_err-branch.ensures.1 in
-    rw (p.1, p.2) (else_if_fails c.in_err-branch.field-0.0 MAX_ENTRIES c.args.room (ahead c.args.cursor) _ (omega arith) (sym c.begins_with.ensures ∙ c.if-begins_with.true) c.in_ok-rest.ensures c.in_err-branch.ensures)
+    rw (p.1, p.2) (else_if_fails c.in_err-branch.field-0.0 MAX_ENTRIES c.args.room (ahead c.args.cursor) _ (omega arith) (sym c.begins_with.ensures ∙ c.if-begins_with.true) c.in_ok-rest.ensures.gives c.in_err-branch.ensures)
 
 pub else_branch-returns-then-begins_with : goal.else_branch-returns-then-begins_with
-else_branch-returns-then-begins_with t c = rw c.in_ok-else_node.ensures.ok (else_if_done MAX_ENTRIES c.args.room (ahead c.args.cursor) _ _ (omega arith) (sym c.begins_with.ensures ∙ c.if-begins_with.true) c.in_ok-rest.ensures c.in_ok-branch.ensures)
+else_branch-returns-then-begins_with t c = rw c.in_ok-else_node.ensures.ok (else_if_done MAX_ENTRIES c.args.room (ahead c.args.cursor) _ _ (omega arith) (sym c.begins_with.ensures ∙ c.if-begins_with.true) c.in_ok-rest.ensures.gives c.in_ok-branch.ensures)
 
 pub else_branch-returns : goal.else_branch-returns
 else_branch-returns t c = else_block_done _ _ (ahead c.args.cursor) _ (sym c.begins_with.ensures ∙ c.if-begins_with.false) c.in_ok-body.ensures ∙ ap (λ made. Ok (made, ahead c.in_ok-body.rest)) (sym (else_block_is _ c.in_ok-body.body refl))
@@ -136,10 +136,10 @@ for_statement-returns t c = rw c.in_ok-header-2.ensures.ok.0 (for_done MAX_ENTRI
 pub clause_body-returns-in_err-waits-2 : goal.clause_body-returns-in_err-waits-2
 clause_body-returns-in_err-waits-2 t c =
     let p = err_from_is_err_and c.from_residual-in_err-waits-2.result c.from_residual-in_err-waits-2.ensures.1 in
-    rw (p.1, p.2) (clause_body_fails c.in_err-waits-2.field-0.0 _ _ (ahead c.args.cursor) _ (rw c.in_ok-waits.ensures.ok.1 at c.expect.ensures) (rw c.in_err-waits-2.ensures.err at c.statements_to_end.ensures))
+    rw (p.1, p.2) (clause_body_fails c.in_err-waits-2.field-0.0 _ _ (ahead c.args.cursor) _ (rw c.in_ok-waits.ensures.ok.1 at c.expect.ensures.gives) (rw c.in_err-waits-2.ensures.err at c.statements_to_end.ensures))
 
 pub clause_body-returns : goal.clause_body-returns
-clause_body-returns t c = rw (c.clause_node.ensures.comm, c.clause_node.ensures.body, c.in_ok-waits-2.ensures.ok.0, c.in_ok-waits.ensures.ok.0) (clause_body_done _ _ (ahead c.args.cursor) _ _ (rw c.in_ok-waits.ensures.ok.1 at c.expect.ensures) (rw c.in_ok-waits-2.ensures.ok.1 at c.statements_to_end.ensures))
+clause_body-returns t c = rw (c.clause_node.ensures.comm, c.clause_node.ensures.body, c.in_ok-waits-2.ensures.ok.0, c.in_ok-waits.ensures.ok.0) (clause_body_done _ _ (ahead c.args.cursor) _ _ (rw c.in_ok-waits.ensures.ok.1 at c.expect.ensures.gives) (rw c.in_ok-waits-2.ensures.ok.1 at c.statements_to_end.ensures))
 
 pub comm_clause_below-returns-in_err-waits-in-Some-Mark-Case-default : goal.comm_clause_below-returns-in_err-waits-in-Some-Mark-Case-default
 comm_clause_below-returns-in_err-waits-in-Some-Mark-Case-default t c =

@@ -1,21 +1,21 @@
-use Rattle.std.proofs.Common.{sym, ◌∙◌}
-use Rattle.workers.proofs.Queues.{if_none, if_some, none_of, taken_back, views_kept}
+use Rattle.std.proofs.Common.{inl, inr, refl, sym, ◌∙◌}
+use Rattle.workers.proofs.Queues.{if_none, if_some, none_more, none_of}
 use Rattle.workers.proofs.work_queues.WorkQueues.take.Goals as goal
 
-pub loop-place-preserved : goal.loop-place-preserved
-loop-place-preserved g c =
-    let found = none_of c.take-found.result (sym c.is_some.ensures ∙ c.if-is_some.false) in
-    record {
-      found = found;
-      views = views_kept c.loop-place.stealer-items c.loop-place.place c.stealer-item.result c.take-found.new.self (if_none c.take-found.result found c.take-found.ensures.none) ∙ c.loop-place.invariant.views;
-    }
-
 pub returns-then-is_some-clause-some : goal.returns-then-is_some-clause-some
-returns-then-is_some-clause-some g c =
-    let lent = c.deref_mut-stealer-items in
-    let at = c.loop-place in
-    if_some c.take-found.result
-    (λ item takes.
-    taken_back c.args.self.now.stealers.items lent.result.now at.stealer-items at.place c.args.self.now.stealers.len c.stealer-item.result
-    c.take-found.new.self item _ lent.ensures.value lent.ensures.len at.auto.stealer-items at.invariant.views c.loop-place-test.true takes)
-    c.take-found.ensures.some
+returns-then-is_some-clause-some g c = if_some c.take-found.result (λ item takes. inl (takes, refl)) c.take-found.ensures.some
+
+pub returns-clause-some : goal.returns-clause-some
+returns-clause-some g c =
+    let none = none_of c.take-found.result (sym c.is_some.ensures ∙ c.if-is_some.false) in
+    if_some c.take_of.result (λ item takes. inr (if_none c.take-found.result none c.take-found.ensures.none, takes)) c.take_of.ensures.some
+
+pub returns-clause-none : goal.returns-clause-none
+returns-clause-none g c =
+    let none = none_of c.take-found.result (sym c.is_some.ensures ∙ c.if-is_some.false) in
+    none_more c.take_of.result (λ same. (if_none c.take-found.result none c.take-found.ensures.none, same)) c.take_of.ensures.none
+
+pub returns-clause-empty : goal.returns-clause-empty
+returns-clause-empty g c =
+    let none = none_of c.take-found.result (sym c.is_some.ensures ∙ c.if-is_some.false) in
+    none_more c.take_of.result (λ all. (if_none c.take-found.result none c.take-found.ensures.empty, all)) c.take_of.ensures.empty

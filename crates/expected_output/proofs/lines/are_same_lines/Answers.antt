@@ -1,0 +1,7 @@
+use Rattle.std.proofs.Common.{sym, ◌∙◌}
+use Rattle.std.proofs.lemmas.Slice.Eq.{bytes_eq-Decides}
+use Rattle.expected_output.proofs.SameLines.{same_lines}
+use Rattle.expected_output.proofs.lines.are_same_lines.Goals as goal
+
+pub returns : goal.returns
+returns c = λ yes. same_lines _ (λ a b is. (bytes_eq-Decides a.now b.now).0 is) _ _ (sym c.eq.ensures ∙ yes)

@@ -1,0 +1,2 @@
+pub mod Meeting
+pub mod Printing

@@ -1,0 +1,7 @@
+use Rattle.std.proofs.Common.{sym, subst}
+use Rattle.kendo_shell.specs.Answers.{Finds}
+use Rattle.command_line.specs.declared.arguments.Subcommand.{Subcommand}
+use Rattle.kendo.proofs.comparing.find.Goals as goal
+
+pub returns-in-Run : goal.returns-in-Run
+returns-in-Run g c = subst (λ (s : Subcommand). Finds s c.args.bytes.items c.run_against.result) (sym c.in-Run.is) c.run_against.ensures.found

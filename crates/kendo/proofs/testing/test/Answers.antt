@@ -1,0 +1,18 @@
+use Rattle.std.proofs.Common.{refl}
+use Rattle.std.proofs.lemmas.Result.{err_from_is_err_and}
+use Rattle.kendo_shell.proofs.Findings.{limit_ended, test_lost, test_stops}
+use Rattle.kendo.proofs.testing.test.Goals as goal
+
+pub returns-in_err-tested : goal.returns-in_err-tested
+returns-in_err-tested g c =
+    let p = err_from_is_err_and c.from_residual.result c.from_residual.ensures.1 in
+    let e = c.in_err-tested.ensures in
+    rw (p.1, p.2) (test_stops c.args.limit c.args.search.tries c.args.search.states c.args.bytes.items _ e.limit e.only)
+
+pub returns-in_err-write : goal.returns-in_err-write
+returns-in_err-write g c =
+    let p = err_from_is_err_and c.from_residual-in_err-write.result c.from_residual-in_err-write.ensures.1 in
+    rw (p.1, p.2) (test_lost c.args.limit c.args.search.tries c.args.search.states c.args.bytes.items _ c.in_err-write.ensures)
+
+pub returns : goal.returns
+returns g c = (refl, limit_ended c.args.limit _ c.in_ok-tested.ensures.limit)

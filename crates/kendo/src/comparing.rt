@@ -1,0 +1,186 @@
+//! Runs that are compared with recorded traces.
+
+ghost use Rattle.std.specs.Prelude.{◌≡◌, ◌⊎◌, IfOk};
+ghost use Rattle.kendo_shell.specs.Answers.{Finds, IsVerdict, Tells};
+
+use crate::explaining::{explain, kept_text};
+use command_line::arguments::{Invocation, Subcommand};
+use go_text::{Fault, Memory};
+use kendo_compare::{
+    Program, Recorded, TraceError, Traced, check_trace, compare_traces, run_against,
+};
+use kendo_shell::USAGE;
+use kendo_shell::files::{all_bytes, opened};
+use kendo_shell::streams::{tell, told};
+use kendo_shell::tracing::{Outputs, Trace};
+use std::alloc::Global;
+use std::sync::Wait;
+use std::thread::Threads;
+use word::end::End;
+
+/// The exit status if a run is not the recorded one.
+const OTHER: u8 = 8;
+
+/// Runs the program of a file, and reports on standard error how its run compares with the trace in the file at `path`.
+#[tactic(auto, using(kendo_shell::proofs::Findings::explored))]
+pub(crate) fn compare_file(
+    rt: &HostRuntime,
+    threads: &(impl Threads + Wait + Sync),
+    alloc: Global,
+    invocation: &Invocation<'_, '_>,
+    path: &str,
+    file: &str,
+) -> Result<u8, Memory>
+    ensures { IfOk result (λ status. (status ≡ USAGE) ⊎ Tells invocation.now.subcommand status) }
+{
+    let Some(recorded) = recorded_trace(rt, alloc, path, invocation.explains)? else {
+        return Ok(USAGE);
+    };
+    let Some((bytes, _no_trace)) = opened(rt, alloc, invocation, file, None)? else {
+        return Ok(USAGE);
+    };
+    let text = bytes.clone()?;
+    let recorded = Recorded {
+        path,
+        bytes: recorded.as_slice(),
+        is_strict: invocation.strict,
+    };
+    let mut outputs = Outputs::new(rt, Trace::Dropped);
+    let mut traced = Traced::new(alloc);
+    let outcome = find(
+        threads,
+        alloc,
+        invocation,
+        bytes,
+        recorded.bytes,
+        &mut outputs,
+        &mut traced,
+    );
+    let status = told(rt, alloc, None, &outcome)?;
+    let kept = kept_text(alloc, invocation, text.as_slice());
+    explain(
+        rt,
+        alloc,
+        invocation,
+        file,
+        kept,
+        outcome,
+        outputs.refused(),
+    );
+    let program = Program {
+        path: file,
+        bytes: text.as_slice(),
+        limit: limit_of(invocation),
+    };
+    let is_same = compare(rt, alloc, &program, &recorded, &outcome, &traced)?;
+    let status = status_of(invocation, &outcome, is_same, status);
+    Ok(status)
+}
+
+/// The trace in a file. `None` if it can't be read or is no trace: standard error says so, and, if the command explains, why.
+///
+/// Errors: `Memory`.
+fn recorded_trace(
+    rt: &HostRuntime,
+    alloc: Global,
+    path: &str,
+    explains: bool,
+) -> Result<Option<Vec<u8>>, Memory> {
+    let Some(bytes) = all_bytes(rt, alloc, path, explains)? else {
+        return Ok(None);
+    };
+    match check_trace(alloc, bytes.as_slice()) {
+        Ok(()) => Ok(Some(bytes)),
+        Err(TraceError::Memory) => Err(Memory),
+        Err(TraceError::Broken(line)) => {
+            refuse(rt, alloc, path, line, explains)?;
+            Ok(None)
+        }
+    }
+}
+
+/// Reports that a trace is broken at a line, and, if that is to be explained, what a line of a trace is.
+fn refuse(
+    rt: &HostRuntime,
+    alloc: Global,
+    path: &str,
+    line: u64,
+    explains: bool,
+) -> Result<(), Memory> {
+    let told = format!(in alloc; "kendo: broken trace at {path}:{line}\n")?;
+    tell(rt, told.as_bytes());
+    if explains {
+        let why = format!(in alloc;
+            "{path}:{line}: a line is `CLOCK GOROUTINE REQUEST`, as `3 2 send 1 to 1`\n"
+        )?;
+        tell(rt, why.as_bytes());
+    }
+    Ok(())
+}
+
+/// The limit of a run.
+fn limit_of(invocation: &Invocation<'_, '_>) -> u64 {
+    match invocation.subcommand {
+        Subcommand::Run { limit, .. } => limit,
+        _ => 0,
+    }
+}
+
+/// What the command finds in the program if it runs it. The trace goes to `traced`.
+fn find(
+    threads: &(impl Threads + Wait + Sync),
+    alloc: Global,
+    invocation: &Invocation<'_, '_>,
+    bytes: Vec<u8>,
+    recorded: &[u8],
+    outputs: &mut Outputs,
+    traced: &mut Traced,
+) -> Result<End, Fault>
+    ensures { Finds invocation.now.subcommand bytes.items result }
+{
+    match invocation.subcommand {
+        Subcommand::Run { workers, limit } => run_against(
+            threads,
+            alloc,
+            bytes,
+            workers,
+            limit,
+            recorded,
+            &mut outputs.standard,
+            traced,
+        ),
+        _ => Err(Fault::Memory),
+    }
+}
+
+/// Reports how a run compares with a recorded trace, if it came to an end. Returns whether it is said to be the same.
+fn compare(
+    rt: &HostRuntime,
+    alloc: Global,
+    program: &Program<'_>,
+    recorded: &Recorded<'_>,
+    outcome: &Result<End, Fault>,
+    traced: &Traced,
+) -> Result<bool, Memory> {
+    if outcome.is_err() {
+        return Ok(true);
+    }
+    let compared = compare_traces(alloc, program, recorded, traced)?;
+    tell(rt, compared.lines.as_slice());
+    Ok(compared.is_same)
+}
+
+/// The exit status of a run that is compared: 8 if it came to an end and is not the recorded one, otherwise `status`.
+fn status_of(
+    invocation: &Invocation<'_, '_>,
+    outcome: &Result<End, Fault>,
+    is_same: bool,
+    status: u8,
+) -> u8
+    ensures { (result ≡ status) ⊎ IsVerdict invocation.now.subcommand outcome.now result }
+{
+    match (invocation.subcommand, outcome) {
+        (Subcommand::Run { .. }, Ok(_)) if !is_same => OTHER,
+        _ => status,
+    }
+}

@@ -1,0 +1,252 @@
+//! The tests of programs whose comments say what they print, or how they end.
+
+ghost use Rattle.std.specs.Prelude.{◌≡◌, ◌⊎◌, IfErr, IfOk};
+ghost use Rattle.command_line.specs.declared.arguments.Subcommand.TheVariants as subcommands;
+ghost use Rattle.kendo_shell.specs.Answers.{Finds, IsVerdict, Tells};
+
+use crate::explaining::{explain, kept_text};
+use crate::exploring::{Counter, Task};
+use command_line::arguments::{Invocation, Subcommand};
+use go_text::{Fault, Memory};
+use kendo_shell::files::opened;
+use kendo_shell::streams::told;
+use kendo_shell::tracing::{Outputs, Trace};
+use kendo_shell::words::first_failure;
+use kendo_shell::{USAGE, WRITE};
+use kendo_test::{OrderSearch, TestOptions, Tested, Verdict, test_bytes};
+use std::alloc::Global;
+use std::sync::Wait;
+use std::thread::Threads;
+use word::end::End;
+use word::write_all;
+
+/// The exit status if a test failed.
+const FAILED: u8 = 1;
+
+/// How many files passed their tests, and how many did not.
+#[derive(Clone, Copy)]
+struct Counts {
+    passed: u64,
+    failed: u64,
+}
+
+impl Counts {
+    /// No file yet.
+    fn new() -> Counts {
+        Counts {
+            passed: 0,
+            failed: 0,
+        }
+    }
+
+    /// With one more file, whose test has this exit status.
+    fn with(self, status: u8) -> Counts {
+        if status == 0 {
+            Counts {
+                passed: self.passed.saturating_add(1),
+                ..self
+            }
+        } else {
+            Counts {
+                failed: self.failed.saturating_add(1),
+                ..self
+            }
+        }
+    }
+}
+
+/// Tests the programs of the files, reports each on standard output, and then how many passed. The status is that of the first file
+/// whose status is not 0.
+pub(crate) fn test_files(
+    rt: &HostRuntime,
+    threads: &(impl Threads + Wait + Sync),
+    alloc: Global,
+    invocation: &Invocation<'_, '_>,
+) -> Result<u8, Memory>
+    ensures { IfOk result (λ status. (status ≡ USAGE) ⊎ Tells invocation.now.subcommand status) }
+{
+    let Subcommand::Test { limit, .. } = invocation.subcommand else {
+        return Ok(USAGE);
+    };
+    if limit < 1 || limit > 1 << 62 {
+        return bad_limit(rt, alloc);
+    }
+    let first = test_file(rt, threads, alloc, invocation, invocation.file)?;
+    let mut counts = Counts::new().with(first);
+    let mut status = first;
+    for file in invocation.files.iter().skip(1) {
+        let next = test_file(rt, threads, alloc, invocation, file)?;
+        counts = counts.with(next);
+        status = first_failure(status, next);
+    }
+    let all = write_counts(rt, alloc, counts, status)?;
+    Ok(all)
+}
+
+/// Reports that the limit is out of its bounds.
+fn bad_limit(rt: &HostRuntime, alloc: Global) -> Result<u8, Memory>
+    ensures { IfOk result (λ status. status ≡ USAGE) }
+{
+    told(rt, alloc, None, &Err(Fault::BadLimit))
+}
+
+/// Writes how many files passed, and returns `status`, or, if standard output refuses that line, the exit status that says so.
+fn write_counts(rt: &HostRuntime, alloc: Global, counts: Counts, status: u8) -> Result<u8, Memory>
+    ensures { IfOk result (λ all. (all ≡ status) ⊎ (all ≡ WRITE)) }
+{
+    let Counts { passed, failed } = counts;
+    let line = format!(in alloc; "{passed} passed, {failed} failed\n")?;
+    let mut outputs = Outputs::new(rt, Trace::Dropped);
+    match write_all(&mut outputs.standard, line.as_bytes()) {
+        Ok(()) => Ok(status),
+        Err(_) => told(rt, alloc, None, &Err(Fault::Write)),
+    }
+}
+
+/// Tests the program of a file, and reports it on standard output. The plans that show its ends in other orders go to files.
+#[tactic(auto, using(kendo_shell::proofs::Findings::explored))]
+fn test_file(
+    rt: &HostRuntime,
+    threads: &(impl Threads + Wait + Sync),
+    alloc: Global,
+    invocation: &Invocation<'_, '_>,
+    file: &str,
+) -> Result<u8, Memory>
+    ensures { IfOk result (λ status. (status ≡ USAGE) ⊎ Tells invocation.now.subcommand status) }
+{
+    let source = Invocation {
+        out: None,
+        trace: None,
+        ..*invocation
+    };
+    let Some((bytes, _no_trace)) = opened(rt, alloc, &source, file, None)? else {
+        return Ok(USAGE);
+    };
+    let mut outputs = Outputs::new(rt, Trace::Dropped);
+    let mut passes = false;
+    let task = Task {
+        rt,
+        alloc,
+        invocation,
+        file,
+    };
+    let outcome = find(task, threads, invocation, bytes, &mut outputs, &mut passes);
+    let status = told(rt, alloc, None, &outcome)?;
+    let status = status_of(invocation, &outcome, passes, status);
+    Ok(status)
+}
+
+/// The exit status of a test: 1 if it was made and failed, otherwise `status`.
+fn status_of(
+    invocation: &Invocation<'_, '_>,
+    outcome: &Result<End, Fault>,
+    passes: bool,
+    status: u8,
+) -> u8
+    ensures { (result ≡ status) ⊎ IsVerdict invocation.now.subcommand outcome.now result }
+{
+    match (invocation.subcommand, outcome) {
+        (Subcommand::Test { .. }, Ok(_)) if !passes => FAILED,
+        _ => status,
+    }
+}
+
+/// What the command finds in the program if it tests it; whether it passes goes to `passes`.
+fn find(
+    task: Task<'_, '_, '_>,
+    threads: &(impl Threads + Wait + Sync),
+    invocation: &Invocation<'_, '_>,
+    bytes: Vec<u8>,
+    outputs: &mut Outputs,
+    passes: &mut bool,
+) -> Result<End, Fault>
+    ensures { Finds invocation.now.subcommand bytes.items result }
+{
+    match invocation.subcommand {
+        Subcommand::Test {
+            limit,
+            tries,
+            states,
+        } => {
+            let search = OrderSearch { tries, states };
+            test(task, threads, bytes, limit, search, outputs, passes)
+        }
+        _ => Err(Fault::Memory),
+    }
+}
+
+/// Tests the program, and writes what comes of it; whether it passes goes to `passes`.
+fn test(
+    task: Task<'_, '_, '_>,
+    threads: &(impl Threads + Wait + Sync),
+    bytes: Vec<u8>,
+    limit: u64,
+    search: OrderSearch,
+    outputs: &mut Outputs,
+    passes: &mut bool,
+) -> Result<End, Fault>
+    ensures { Finds (subcommands.Test limit search.tries search.states) bytes.items result }
+{
+    let Task {
+        rt,
+        alloc,
+        invocation,
+        file,
+    } = task;
+    let options = TestOptions {
+        limit,
+        orders: if invocation.orders {
+            Some(search)
+        } else {
+            None
+        },
+    };
+    let mut counter = Counter { rt, alloc };
+    let tested = test_bytes(
+        threads,
+        alloc,
+        file,
+        bytes.as_slice(),
+        options,
+        &mut counter,
+    )?;
+    write(task, &tested, outputs)?;
+    *passes = is_passed(&tested.verdict);
+    explain_test(task, bytes.as_slice(), &tested);
+    Ok(End::Finished)
+}
+
+/// Whether a program passes its test.
+fn is_passed(verdict: &Verdict) -> bool {
+    matches!(verdict, Verdict::Passed(_))
+}
+
+/// Writes the lines that report a test to standard output, and its plans to their files.
+fn write(task: Task<'_, '_, '_>, tested: &Tested, outputs: &mut Outputs) -> Result<(), Fault>
+    ensures { IfErr result (λ fault. (fault ≡ Fault.Memory) ⊎ (fault ≡ Fault.Write)) }
+{
+    for plan in tested.plans.iter() {
+        task.write_plan(plan)?;
+    }
+    match write_all(&mut outputs.standard, tested.lines.as_slice()) {
+        Ok(()) => Ok(()),
+        Err(_) => Err(Fault::Write),
+    }
+}
+
+/// Explains on standard error, if the command explains, why the program is refused, or how its run ended that is not as expected.
+fn explain_test(task: Task<'_, '_, '_>, bytes: &[u8], tested: &Tested) {
+    if is_passed(&tested.verdict) || matches!(tested.outcome, Err(Fault::Write)) {
+        return;
+    }
+    let kept = kept_text(task.alloc, task.invocation, bytes);
+    explain(
+        task.rt,
+        task.alloc,
+        task.invocation,
+        task.file,
+        kept,
+        tested.outcome,
+        None,
+    );
+}

@@ -1,0 +1,11 @@
+//! A run that is compared with a recorded trace.
+#![tactic(auto)]
+
+mod comparing;
+mod lines;
+mod place;
+mod report;
+
+pub use comparing::{Traced, run_against};
+pub use lines::{Compared, Program, Recorded, check_trace, compare_traces};
+pub use trace_comparison::TraceError;

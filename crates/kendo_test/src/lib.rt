@@ -1,0 +1,12 @@
+//! The test of a program: whether its run prints what its comments say, and ends so, and whether its other orders do.
+#![tactic(auto)]
+
+mod differences;
+mod lines;
+mod ordering;
+mod running;
+mod testing;
+
+pub use kendo_explore::{PlanFile, Progress};
+pub use ordering::OrderSearch;
+pub use testing::{TestOptions, Tested, Verdict, test_bytes};

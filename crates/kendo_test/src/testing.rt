@@ -1,0 +1,260 @@
+//! The test of a program.
+
+ghost use Rattle.std.specs.Prelude.{◌≡◌, ◌⊎◌, ◌↔◌, IfErr, IfOk, IsErrOf};
+ghost use Rattle.kendo_test.specs.Passing.{IsRight, Passes};
+ghost use Rattle.whole_run.specs.Runs.{IsLimit};
+
+use crate::differences::push_differences;
+use crate::lines::Failure;
+use crate::ordering::{Found, OrderSearch, push_failing};
+use crate::running::{MOST_BYTES, Ran, run_expected};
+use diagnostic_words::words::Words;
+use expected_output::{Expectation, ExpectationError};
+use go_text::{Fault, Memory, Source};
+use kendo_explore::{PlanFile, Progress};
+use kendo_reading::read;
+use std::alloc::Global;
+use std::sync::Wait;
+use std::thread::Threads;
+use word::end::End;
+
+/// How a program is tested.
+#[derive(Clone, Copy)]
+pub struct TestOptions {
+    /// The clock limit, 1 to 2^62.
+    pub limit: u64,
+    /// How long other orders are searched, if they are.
+    pub orders: Option<OrderSearch>,
+}
+
+/// Whether a program passes its test.
+#[derive(Drop)]
+pub enum Verdict {
+    /// It does what is expected: in its run, and in each other order that was searched.
+    Passed(Expectation),
+    /// It does something else: in its run, or in another order.
+    Failed(Expectation),
+    /// It can't be tested: it is no program, a comment names no end that there is, or it prints too much to be compared.
+    Untested,
+}
+
+/// What came of a test.
+#[derive(Drop)]
+pub struct Tested {
+    pub verdict: Verdict,
+    /// The lines that report it.
+    pub lines: Vec<u8>,
+    /// The plans of ends in other orders that are not expected.
+    pub plans: Vec<PlanFile>,
+    /// If the run is why it fails, how that ended or why there was none; otherwise `Finished`.
+    pub outcome: Result<End, Fault>,
+}
+
+/// Tests the program that a text is: runs it up to the clock limit, on 4 workers, and compares its output and its end with what its
+/// comments say; if `options` ask for it, searches its other orders for ends that they don't say. FILE in the lines is the path as
+/// it was typed.
+///
+/// Errors: `Memory`; `BadLimit`.
+pub fn test_bytes<R: Threads + Wait + Sync, P: Progress>(
+    rt: &R,
+    alloc: Global,
+    path: &str,
+    bytes: &[u8],
+    options: TestOptions,
+    progress: &mut P,
+) -> Result<Tested, Fault>
+    ensures limit { IsErrOf result Fault.BadLimit ↔ (IsLimit options.limit → ⊥) }
+    ensures only { IfErr result (λ fault. (fault ≡ Fault.Memory) ⊎ (fault ≡ Fault.BadLimit)) }
+    ensures right { IfOk result (λ tested. IsRight tested.verdict bytes.now options.limit) }
+{
+    if options.limit < 1 || options.limit > 1 << 62 {
+        return Err(Fault::BadLimit);
+    }
+    let tested = test(rt, alloc, path, bytes, options, progress)?;
+    Ok(tested)
+}
+
+/// Like `test_bytes`, up to a limit within its bounds.
+#[tactic(auto, using(crate::proofs::Verdicts::failed_is_right))]
+fn test<R: Threads + Wait + Sync, P: Progress>(
+    rt: &R,
+    alloc: Global,
+    path: &str,
+    bytes: &[u8],
+    options: TestOptions,
+    progress: &mut P,
+) -> Result<Tested, Memory>
+    ensures { IfOk result (λ tested. IsRight tested.verdict bytes.now options.limit) }
+{
+    match expectation_in(alloc, bytes) {
+        Ok(expectation) => compare(rt, alloc, path, bytes, options, expectation, progress),
+        Err(ExpectationError::Fault(fault)) => refused(alloc, path, fault),
+        Err(ExpectationError::UnknownEnd(words)) => unknown_end(alloc, path, words.as_str()),
+    }
+}
+
+/// What the comments of a program say.
+fn expectation_in(alloc: Global, bytes: &[u8]) -> Result<Expectation, ExpectationError> {
+    let source = source_of(alloc, bytes)?;
+    Expectation::of(alloc, &source)
+}
+
+/// The source that a program is.
+fn source_of(alloc: Global, bytes: &[u8]) -> Result<Source, Fault> {
+    let (source, _typed) = read(alloc, Vec::from_slice(alloc, bytes)?)?;
+    Ok(source)
+}
+
+/// Compares the run of a program with what is expected, and then, if that is asked for, its other orders.
+#[tactic(auto, using(crate::proofs::Verdicts::failed_is_right))]
+fn compare<R: Threads + Wait + Sync, P: Progress>(
+    rt: &R,
+    alloc: Global,
+    path: &str,
+    bytes: &[u8],
+    options: TestOptions,
+    expectation: Expectation,
+    progress: &mut P,
+) -> Result<Tested, Memory>
+    ensures { IfOk result (λ tested. IsRight tested.verdict bytes.now options.limit) }
+{
+    let text = Vec::from_slice(alloc, bytes)?;
+    match run_expected(rt, alloc, text, options.limit, &expectation) {
+        Ok(ran) => {
+            if ran.is_met {
+                search_others(alloc, path, bytes, options, expectation, progress)
+            } else {
+                differs(alloc, path, expectation, &ran)
+            }
+        }
+        Err(fault) => refused(alloc, path, fault),
+    }
+}
+
+/// Searches the other orders of a program whose run is as expected, if that is asked for.
+#[tactic(auto, using(crate::proofs::Verdicts::failed_is_right))]
+fn search_others<P: Progress>(
+    alloc: Global,
+    path: &str,
+    bytes: &[u8],
+    options: TestOptions,
+    expectation: Expectation,
+    progress: &mut P,
+) -> Result<Tested, Memory>
+    requires { Passes expectation bytes.now options.limit }
+    ensures { IfOk result (λ tested. IsRight tested.verdict bytes.now options.limit) }
+{
+    let mut said = Words::new(alloc);
+    said.text("ok    ");
+    said.text(path);
+    if let Some(orders) = options.orders {
+        let found = orders.find(alloc, path, bytes, options.limit, &expectation, progress)?;
+        if !found.failing.is_empty() {
+            return fails_elsewhere(alloc, path, expectation, found);
+        }
+        said.text("    ");
+        orders.push_extent(&mut said, &found);
+    }
+    said.text(if expectation.is_said {
+        "\n"
+    } else {
+        "    [no output comment]\n"
+    });
+    let lines = said.into_bytes()?;
+    Ok(Tested {
+        verdict: Verdict::Passed(expectation),
+        lines,
+        plans: Vec::new(alloc),
+        outcome: Ok(End::Finished),
+    })
+}
+
+/// The program fails in other orders.
+fn fails_elsewhere(
+    alloc: Global,
+    path: &str,
+    expectation: Expectation,
+    found: Found,
+) -> Result<Tested, Memory>
+    ensures { IfOk result (λ tested. tested.verdict ≡ Verdict.Failed expectation) }
+{
+    let Found {
+        failing,
+        states: _,
+        is_whole: _,
+    } = found;
+    let mut failure = Failure::new(alloc, path);
+    push_failing(&mut failure, alloc, &expectation, failing.as_slice())?;
+    let lines = failure.lines()?;
+    Ok(Tested {
+        verdict: Verdict::Failed(expectation),
+        lines,
+        plans: failing,
+        outcome: Ok(End::Finished),
+    })
+}
+
+/// The run of the program is not as expected.
+fn differs(alloc: Global, path: &str, expectation: Expectation, ran: &Ran) -> Result<Tested, Memory>
+    ensures { IfOk result (λ tested. tested.verdict ≡ Verdict.Failed expectation) }
+{
+    let mut failure = Failure::new(alloc, path);
+    push_differences(
+        &mut failure,
+        alloc,
+        &expectation,
+        ran.end,
+        ran.output.as_slice(),
+    )?;
+    told(alloc, failure, Verdict::Failed(expectation), Ok(ran.end))
+}
+
+/// The text is no program, or its run can't be compared.
+fn refused(alloc: Global, path: &str, fault: Fault) -> Result<Tested, Memory>
+    ensures { IfOk result (λ tested. tested.verdict ≡ Verdict.Untested) }
+{
+    let mut failure = Failure::new(alloc, path);
+    match fault {
+        Fault::Memory => return Err(Memory),
+        Fault::Write => {
+            failure.reason();
+            failure.said.text("prints more than ");
+            failure.said.number(MOST_BYTES as i128);
+            failure.said.text(" bytes");
+        }
+        _ => failure.push_outcome(Err(fault)),
+    }
+    told(alloc, failure, Verdict::Untested, Err(fault))
+}
+
+/// A comment names no end.
+fn unknown_end(alloc: Global, path: &str, words: &str) -> Result<Tested, Memory>
+    ensures { IfOk result (λ tested. tested.verdict ≡ Verdict.Untested) }
+{
+    let mut failure = Failure::new(alloc, path);
+    failure.reason();
+    failure.said.text("no end is called \"");
+    failure.said.text(words);
+    failure
+        .said
+        .text("\": finished, deadlock, exhausted, panic P1 to P9");
+    told(alloc, failure, Verdict::Untested, Ok(End::Finished))
+}
+
+/// What came of a test for these reasons, after a run with this outcome.
+fn told(
+    alloc: Global,
+    failure: Failure,
+    verdict: Verdict,
+    outcome: Result<End, Fault>,
+) -> Result<Tested, Memory>
+    ensures { IfOk result (λ tested. tested.verdict ≡ verdict) }
+{
+    let lines = failure.lines()?;
+    Ok(Tested {
+        verdict,
+        lines,
+        plans: Vec::new(alloc),
+        outcome,
+    })
+}

@@ -1,0 +1,96 @@
+-- How near its end a run is: each move leaves less of something.
+use Rattle.std.specs.Prelude.{◌≡◌, ℕ, ◌-◌, ◌<◌, ◌^◌, Bool, true, false, List, Option, Some, None, sum_by}
+use Rattle.reference_world.specs.Deeds.{SharedValue}
+use Rattle.word.specs.declared.end.End.{End as Ending}
+use Rattle.one_thread.specs.declared.goroutine.Goroutine.{Goroutine}
+use Rattle.one_thread.specs.declared.goroutine.Turn.{Turn}
+use Rattle.one_thread.specs.declared.goroutine.Turn.TheVariants as turns
+use Rattle.one_thread.specs.declared.move_kind.Move.{Move}
+use Rattle.one_thread.specs.declared.move_kind.Move.TheVariants as moves
+
+-- ---- what a move was
+
+abbrev pub is_slide : Move → Bool
+is_slide moves.Slide = true
+is_slide moves.Tick = false
+is_slide moves.Event = false
+is_slide (moves.Last end) = false
+
+abbrev pub is_tick : Move → Bool
+is_tick moves.Slide = false
+is_tick moves.Tick = true
+is_tick moves.Event = false
+is_tick (moves.Last end) = false
+
+-- the end of the run, if it has ended
+abbrev pub ending_in : Move → Option Ending
+ending_in moves.Slide = None
+ending_in moves.Tick = None
+ending_in moves.Event = None
+ending_in (moves.Last end) = Some end
+
+-- a request was performed, after which the run goes on or has ended so
+abbrev pub performed : Option Ending → Move
+performed None = moves.Event
+performed (Some end) = moves.Last end
+
+-- ---- what is left
+
+-- the ticks that a goroutine has left up to the limit
+abbrev pub ticks_of : {S : Type 0} → (limit : ℕ) → Option (Goroutine S) → ℕ
+ticks_of limit None = 0
+ticks_of limit (Some g) = limit - g.clock
+
+-- those of all goroutines
+abbrev pub ticks_left : {S : Type 0} → (limit : ℕ) → List (Option (Goroutine S)) → ℕ
+ticks_left limit places = sum_by (ticks_of limit) places
+
+-- what a goroutine's state weighs
+abbrev pub weight_of : {S : Type 0} → (S → ℕ) → Option (Goroutine S) → ℕ
+weight_of weight None = 0
+weight_of weight (Some g) = weight g.state
+
+-- what the states of all goroutines weigh
+abbrev pub weight_left : {S : Type 0} → (S → ℕ) → List (Option (Goroutine S)) → ℕ
+weight_left weight places = sum_by (weight_of weight) places
+
+-- the events that a run has left
+abbrev pub events_left : SharedValue → ℕ
+events_left v = 2 ^ 62 - v.events
+
+-- ---- what falls
+
+-- a goroutine that slides weighs less, and one that ticks has fewer ticks left
+abbrev pub FallsInTurn : {S : Type 0} → (S → ℕ) → (limit : ℕ) → Turn → (old new : Goroutine S) → Type 0
+FallsInTurn weight limit turns.Slid old new = (weight new.state < weight old.state) × (new.clock ≡ old.clock)
+FallsInTurn weight limit turns.Ticked old new = limit - new.clock < limit - old.clock
+FallsInTurn weight limit (turns.Asks request clock) old new = Unit {0}
+FallsInTurn weight limit turns.Exhausted old new = Unit {0}
+
+-- so do all goroutines together
+abbrev pub TurnFalls : {S : Type 0} → (S → ℕ) → (limit : ℕ) → Turn → (old new : List (Option (Goroutine S))) → Type 0
+TurnFalls weight limit turns.Slid old new = (weight_left weight new < weight_left weight old) × (ticks_left limit new ≡ ticks_left limit old)
+TurnFalls weight limit turns.Ticked old new = ticks_left limit new < ticks_left limit old
+TurnFalls weight limit (turns.Asks request clock) old new = Unit {0}
+TurnFalls weight limit turns.Exhausted old new = Unit {0}
+
+-- a slide leaves less weight, a tick fewer ticks, and an event fewer events
+abbrev pub MoveFalls : {S : Type 0} → (S → ℕ) → (limit : ℕ) → Move → (old : List (Option (Goroutine S))) (v : SharedValue) (new : List (Option (Goroutine S))) (v' : SharedValue) → Type 0
+MoveFalls weight limit moves.Slide old v new v' = (weight_left weight new < weight_left weight old) × (ticks_left limit new ≡ ticks_left limit old) × (v' ≡ v)
+MoveFalls weight limit moves.Tick old v new v' = (ticks_left limit new < ticks_left limit old) × (v' ≡ v)
+MoveFalls weight limit moves.Event old v new v' = events_left v' < events_left v
+MoveFalls weight limit (moves.Last end) old v new v' = Unit {0}
+
+-- like `MoveFalls`, of moves of which the last alone is no slide
+abbrev pub TickFalls : {S : Type 0} → (limit : ℕ) → Move → (old : List (Option (Goroutine S))) (v : SharedValue) (new : List (Option (Goroutine S))) (v' : SharedValue) → Type 0
+TickFalls limit moves.Slide old v new v' = ⊥
+TickFalls limit moves.Tick old v new v' = (ticks_left limit new < ticks_left limit old) × (v' ≡ v)
+TickFalls limit moves.Event old v new v' = events_left v' < events_left v
+TickFalls limit (moves.Last end) old v new v' = Unit {0}
+
+-- a request was performed
+abbrev pub EventFalls : Move → (v v' : SharedValue) → Type 0
+EventFalls moves.Slide v v' = ⊥
+EventFalls moves.Tick v v' = ⊥
+EventFalls moves.Event v v' = events_left v' < events_left v
+EventFalls (moves.Last end) v v' = Unit {0}

@@ -1,0 +1,11 @@
+package main
+// passes
+
+func main() {
+	println(1)
+	println(2)
+}
+
+// Output:
+// 1
+// 2

@@ -1,0 +1,7 @@
+package main
+// fails, line 1 is missing
+
+func main() {
+}
+
+// Output: 1

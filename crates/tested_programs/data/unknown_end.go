@@ -1,0 +1,7 @@
+package main
+// fails: no end is called so
+
+func main() {
+}
+
+// Ends: deadlok

@@ -1,0 +1,77 @@
+//! Tests each program of `data`, first by its run alone and then in other orders, and prints the lines that report it, and the plans
+//! that show other ends again.
+//!
+//! Line 2 of a program, where it is not empty, says what is to be found: that it passes, or why it fails.
+#![tactic(auto)]
+
+use kendo_test::{OrderSearch, Progress, TestOptions, Tested, Verdict, test_bytes};
+use row_format::folder::names;
+use std::io::Write;
+use std::sync::Wait;
+use std::thread::Threads;
+use std::{fs, io};
+
+fn main(rt: HostRuntime) -> io::Result<()> {
+    for name in names(&rt, ".")?.iter() {
+        if name.as_str().ends_with(".go") {
+            test(&rt, &rt, name.as_str())?;
+        }
+    }
+    Ok(())
+}
+
+/// Nothing is told while a test goes on.
+#[derive(Drop)]
+struct Silent;
+
+impl Progress for Silent {
+    fn visited(&mut self, _states: usize) {}
+}
+
+/// Tests the program of a file, without and with its other orders; these of a program that ends.
+fn test(rt: &HostRuntime, threads: &(impl Threads + Wait + Sync), name: &str) -> io::Result<()> {
+    let bytes = fs::read(rt, name)?;
+    test_by(rt, threads, name, bytes.as_slice(), None)?;
+    if name.contains("exhausted") {
+        return Ok(());
+    }
+    let orders = OrderSearch {
+        tries: 200,
+        states: 100_000,
+    };
+    test_by(rt, threads, name, bytes.as_slice(), Some(orders))
+}
+
+/// Tests a program in this way, and prints what is told of it.
+fn test_by(
+    rt: &HostRuntime,
+    threads: &(impl Threads + Wait + Sync),
+    name: &str,
+    bytes: &[u8],
+    orders: Option<OrderSearch>,
+) -> io::Result<()> {
+    let options = TestOptions {
+        limit: 100_000,
+        orders,
+    };
+    match test_bytes(threads, rt.alloc(), name, bytes, options, &mut Silent) {
+        Ok(tested) => print(rt, &tested),
+        Err(fault) => println!(rt; "{name}: {fault}"),
+    }
+}
+
+/// Prints what is told of a test, and whether it passed.
+fn print(rt: &HostRuntime, tested: &Tested) -> io::Result<()> {
+    let mut out = rt.stdout();
+    out.write_all(tested.lines.as_slice())?;
+    for plan in tested.plans.iter() {
+        let name = plan.name.as_str();
+        println!(rt; "{name}:")?;
+        out.write_all(plan.bytes.as_slice())?;
+    }
+    match &tested.verdict {
+        Verdict::Passed(_) => println!(rt; "passed"),
+        Verdict::Failed(_) => println!(rt; "failed"),
+        Verdict::Untested => println!(rt; "not tested"),
+    }
+}

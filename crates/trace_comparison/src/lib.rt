@@ -1,0 +1,11 @@
+//! Traces as files have them, and how the trace of a run compares with a recorded one.
+#![tactic(auto)]
+
+mod comparison;
+mod line;
+mod numbered;
+mod trace;
+
+pub use comparison::{Comparison, Difference, compare};
+pub use line::TraceLine;
+pub use trace::{Trace, TraceError};
