@@ -22,7 +22,7 @@ _kendo() {
         check) options='--explain' ;;
         list) options='--explain' ;;
         reference) options='--limit --pauses --explain' ;;
-        timeline) options='--limit --from --last --out --explain' ;;
+        timeline) options='--limit --from --last --pauses --out --explain' ;;
         explore) options='--limit --tries --states --ends --unordered --leaks --whole --out --explain' ;;
         test) options='--limit --orders --tries --states --out --explain' ;;
         inspect) options='--event --at --limit --pauses --explain' ;;

@@ -118,9 +118,9 @@ last = whole (codes "last")
 abbrev pub chosen_timeline : App
 chosen_timeline = with_rule (with_rule (with_rule (with_rule (new_app (codes "timeline")) file) limit) from) last
 
--- kendo timeline FILE [--limit L] [--from EVENT] [--last N] [--out OUT] [--explain]
+-- kendo timeline FILE [--limit L] [--from EVENT] [--last N] [--pauses PLAN] [--out OUT] [--explain]
 abbrev pub timeline : App
-timeline = with_rule (with_rule chosen_timeline out) explain
+timeline = with_rule (with_rule (with_rule chosen_timeline pauses) out) explain
 
 -- kendo explore FILE [--limit L] [--tries N] [--states N]
 abbrev pub long_explore : App

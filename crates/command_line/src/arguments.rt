@@ -214,6 +214,7 @@ const TEXT_COMMANDS: [TextCommand; 8] = [
             Argument::Limit,
             Argument::From,
             Argument::Last,
+            Argument::Pauses,
             Argument::Out,
             Argument::Explain,
         ],

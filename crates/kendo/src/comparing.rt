@@ -3,7 +3,7 @@
 ghost use Rattle.std.specs.Prelude.{◌≡◌, ◌⊎◌, IfOk};
 ghost use Rattle.kendo_shell.specs.Answers.{Finds, IsVerdict, Tells};
 
-use crate::explaining::{explain, kept_text};
+use crate::explaining::{explain, kept_program};
 use command_line::arguments::{Invocation, Subcommand};
 use go_text::{Fault, Memory};
 use kendo_compare::{
@@ -57,16 +57,8 @@ pub(crate) fn compare_file(
         &mut traced,
     );
     let status = told(rt, alloc, None, &outcome)?;
-    let kept = kept_text(alloc, invocation, text.as_slice());
-    explain(
-        rt,
-        alloc,
-        invocation,
-        file,
-        kept,
-        outcome,
-        outputs.refused(),
-    );
+    let kept = kept_program(alloc, invocation, file, None, text.as_slice());
+    explain(rt, alloc, invocation, kept, outcome, outputs.refused());
     let program = Program {
         path: file,
         bytes: text.as_slice(),

@@ -4,21 +4,36 @@ use command_line::arguments::{Invocation, Subcommand};
 use diagnostic::{explanation, explanations};
 use go_text::Fault;
 use kendo_front::explain_end;
+use kendo_inspect::{Until, inspect_paused_bytes};
 use kendo_shell::streams::tell;
 use kendo_shell::tracing::Refused;
+use pauses::Plan;
 use std::alloc::Global;
 use word::end::End;
 
+/// A program that is explained.
+#[derive(Drop)]
+pub(crate) struct Kept<'a> {
+    /// The path as it was typed.
+    file: &'a str,
+    /// The plan by which it is run, if its run has one.
+    plan: Option<&'a Plan>,
+    text: Vec<u8>,
+}
+
 /// A copy of the program, if the command explains.
-pub(crate) fn kept_text(
+pub(crate) fn kept_program<'a>(
     alloc: Global,
     invocation: &Invocation<'_, '_>,
+    file: &'a str,
+    plan: Option<&'a Plan>,
     bytes: &[u8],
-) -> Option<Vec<u8>> {
+) -> Option<Kept<'a>> {
     if !invocation.explains {
         return None;
     }
-    bytes.to_vec(alloc).ok()
+    let text = bytes.to_vec(alloc).ok()?;
+    Some(Kept { file, plan, text })
 }
 
 /// Explains on standard error the errors in the program that was kept, how its run ended, or why an output refused bytes. If memory
@@ -27,18 +42,17 @@ pub(crate) fn explain(
     rt: &HostRuntime,
     alloc: Global,
     invocation: &Invocation<'_, '_>,
-    file: &str,
-    kept: Option<Vec<u8>>,
+    kept: Option<Kept<'_>>,
     outcome: Result<End, Fault>,
     refused: Option<Refused>,
 ) {
-    let Some(bytes) = kept else {
+    let Some(kept) = kept else {
         return;
     };
     let explained = match (outcome, refused) {
-        (Ok(end), _) => end_explained(alloc, invocation, file, bytes, end),
+        (Ok(end), _) => end_explained(alloc, invocation, kept, end),
         (Err(Fault::Write), Some(refused)) => refusal_explained(alloc, invocation, refused),
-        (Err(fault), _) => fault_explained(alloc, invocation, file, bytes, &fault),
+        (Err(fault), _) => fault_explained(alloc, invocation, kept, &fault),
     };
     if let Ok(explained) = explained {
         tell(rt, explained.as_slice());
@@ -49,22 +63,40 @@ pub(crate) fn explain(
 fn end_explained(
     alloc: Global,
     invocation: &Invocation<'_, '_>,
-    file: &str,
-    bytes: Vec<u8>,
+    kept: Kept<'_>,
     end: End,
 ) -> Result<Vec<u8>, Fault> {
+    let Kept { file, plan, text } = kept;
     match invocation.subcommand {
+        Subcommand::Paused { .. } | Subcommand::Test { .. } if end == End::Finished => {
+            Ok(Vec::new(alloc))
+        }
+        Subcommand::Paused { limit } => last_moment(alloc, file, text, plan, limit),
         Subcommand::Check
         | Subcommand::List
-        | Subcommand::Paused { .. }
         | Subcommand::Timeline { .. }
         | Subcommand::Inspect { .. }
         | Subcommand::Explore { .. } => Ok(Vec::new(alloc)),
-        Subcommand::Test { .. } if end == End::Finished => Ok(Vec::new(alloc)),
         Subcommand::Reference { limit }
         | Subcommand::Test { limit, .. }
-        | Subcommand::Run { limit, .. } => explain_end(alloc, file, bytes, limit, end),
+        | Subcommand::Run { limit, .. } => explain_end(alloc, file, text, limit, end),
     }
+}
+
+/// Where the goroutines stand at the end of the run by a plan.
+fn last_moment(
+    alloc: Global,
+    file: &str,
+    text: Vec<u8>,
+    plan: Option<&Plan>,
+    limit: u64,
+) -> Result<Vec<u8>, Fault> {
+    let Some(plan) = plan else {
+        return Ok(Vec::new(alloc));
+    };
+    let last = Until::Event(u64::MAX);
+    let seen = inspect_paused_bytes(alloc, file, text, plan, limit, last)?;
+    Ok(seen.text)
 }
 
 /// Explains which output refused bytes, and why.
@@ -90,11 +122,11 @@ fn refusal_explained(
 fn fault_explained(
     alloc: Global,
     invocation: &Invocation<'_, '_>,
-    file: &str,
-    bytes: Vec<u8>,
+    kept: Kept<'_>,
     fault: &Fault,
 ) -> Result<Vec<u8>, Fault> {
-    let text = match String::from_utf8(bytes) {
+    let file = kept.file;
+    let text = match String::from_utf8(kept.text) {
         Ok(text) => text,
         Err(_) => String::new(alloc),
     };

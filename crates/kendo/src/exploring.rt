@@ -4,7 +4,7 @@ ghost use Rattle.std.specs.Prelude.{◌≡◌, ◌⊎◌, IfErr, IfOk};
 ghost use Rattle.command_line.specs.declared.arguments.Subcommand.TheVariants as subcommands;
 ghost use Rattle.kendo_shell.specs.Answers.{Finds, IsStatusOf, IsVerdict, Tells};
 
-use crate::explaining::{explain, kept_text};
+use crate::explaining::{explain, kept_program};
 use command_line::arguments::{Invocation, Subcommand};
 use go_text::{Fault, Memory};
 use kendo_explore::{Explored, Options, PlanFile, Progress, Scope, Verdict, explore_bytes};
@@ -78,7 +78,7 @@ fn explore(
 ) -> Result<u8, Memory>
     ensures { IfOk result (IsStatusOf invocation.now.subcommand bytes.items) }
 {
-    let kept = kept_text(alloc, invocation, bytes.as_slice());
+    let kept = kept_program(alloc, invocation, file, None, bytes.as_slice());
     let mut outputs = Outputs::new(rt, Trace::Dropped);
     let mut verdict = None;
     let task = Task {
@@ -91,7 +91,7 @@ fn explore(
     let status = told(rt, alloc, None, &outcome)?;
     let status = status_of(invocation, &outcome, verdict, status);
     let refused = outputs.refused();
-    explain(rt, alloc, invocation, file, kept, outcome, refused);
+    explain(rt, alloc, invocation, kept, outcome, refused);
     Ok(status)
 }
 

@@ -14,23 +14,25 @@ mod testing;
 
 use command_line::arguments::{Invocation, Subcommand, command, invocation_of};
 use comparing::compare_file;
-use explaining::{explain, kept_text};
+use explaining::{explain, kept_program};
 use exploring::explore_file;
 use go_text::{Fault, Memory};
 use inspecting::{inspect, moment_conflict};
 use kendo_base::run_text;
 use kendo_code::list_bytes;
-use kendo_front::{paused_bytes, reference_bytes};
+use kendo_front::{paused_bytes, reference_bytes, traced_bytes};
 use kendo_shell::USAGE;
 use kendo_shell::checking::check;
 use kendo_shell::files::opened;
-use kendo_shell::streams::{exit, tell, told};
+use kendo_shell::streams::{Stream, exit, tell, told};
 use kendo_shell::tracing::{Outputs, Trace};
 use kendo_shell::words::{first_failure, name_of, show, with_environment, words_in};
 use pauses::Plan;
 use pictures::picture;
 use plans::plan_of;
 use std::alloc::Global;
+use std::fs::File;
+use std::io::Stdout;
 use std::process::ExitCode;
 use std::sync::Wait;
 use std::thread::Threads;
@@ -100,9 +102,6 @@ fn perform(
 fn conflict(invocation: &Invocation<'_, '_>) -> Option<&'static [u8]> {
     if invocation.from.is_some() && invocation.last.is_some() {
         return Some(b"kendo: --from and --last can't be used together\n");
-    }
-    if invocation.trace.is_some() && invocation.pauses.is_some() {
-        return Some(b"kendo: --trace and --pauses can't be used together\n");
     }
     if invocation.against.is_some() && invocation.pauses.is_some() {
         return Some(b"kendo: --against and --pauses can't be used together\n");
@@ -174,19 +173,11 @@ fn answer(
 ) -> Result<u8, Memory>
     ensures { IfOk result (IsStatusOf invocation.now.subcommand bytes.items) }
 {
-    let kept = kept_text(alloc, invocation, bytes.as_slice());
+    let kept = kept_program(alloc, invocation, file, Some(plan), bytes.as_slice());
     let mut outputs = Outputs::new(rt, trace);
     let outcome = find(threads, alloc, invocation, plan, bytes, &mut outputs);
     let status = told(rt, alloc, name_of(invocation, file), &outcome)?;
-    explain(
-        rt,
-        alloc,
-        invocation,
-        file,
-        kept,
-        outcome,
-        outputs.refused(),
-    );
+    explain(rt, alloc, invocation, kept, outcome, outputs.refused());
     Ok(status)
 }
 
@@ -206,7 +197,7 @@ fn find(
         Subcommand::List => list(alloc, bytes, outputs),
         Subcommand::Reference { limit } => interpret(alloc, bytes, limit, outputs),
         Subcommand::Paused { limit } => pause(alloc, bytes, plan, limit, outputs),
-        Subcommand::Timeline { limit } => picture(alloc, bytes, limit, invocation, outputs),
+        Subcommand::Timeline { limit } => picture(alloc, bytes, plan, limit, invocation, outputs),
         Subcommand::Explore { .. } | Subcommand::Test { .. } => Err(Fault::Memory),
         Subcommand::Inspect { limit } => inspect(alloc, bytes, plan, limit, invocation, outputs),
         Subcommand::Run { workers, limit } => {
@@ -231,7 +222,7 @@ fn interpret(alloc: Global, bytes: Vec<u8>, limit: u64, outputs: &mut Outputs) -
     Ok(end)
 }
 
-/// Interprets the source of the program by the plan. It prints to standard output.
+/// Interprets the source of the program by the plan. It prints to standard output, and its trace goes to its file, if it has one.
 fn pause(
     alloc: Global,
     bytes: Vec<u8>,
@@ -241,6 +232,25 @@ fn pause(
 ) -> Result<End, Fault>
     ensures { Finds (Subcommand.Paused limit) bytes.items result }
 {
-    let end = paused_bytes(alloc, bytes, plan, limit, &mut outputs.standard)?;
+    let Outputs { standard, file } = outputs;
+    if let Trace::Kept(trace) = file {
+        return pause_traced(alloc, bytes, plan, limit, standard, trace);
+    }
+    let end = paused_bytes(alloc, bytes, plan, limit, standard)?;
+    Ok(end)
+}
+
+/// Like `pause`, with this file for the trace.
+fn pause_traced(
+    alloc: Global,
+    bytes: Vec<u8>,
+    plan: &Plan,
+    limit: u64,
+    standard: &mut Stream<Stdout>,
+    trace: &mut Stream<File>,
+) -> Result<End, Fault>
+    ensures { Finds (Subcommand.Paused limit) bytes.items result }
+{
+    let end = traced_bytes(alloc, bytes, plan, limit, standard, trace)?;
     Ok(end)
 }

@@ -4,7 +4,7 @@ ghost use Rattle.std.specs.Prelude.{◌≡◌, ◌⊎◌, IfErr, IfOk};
 ghost use Rattle.command_line.specs.declared.arguments.Subcommand.TheVariants as subcommands;
 ghost use Rattle.kendo_shell.specs.Answers.{Finds, IsVerdict, Tells};
 
-use crate::explaining::{explain, kept_text};
+use crate::explaining::{explain, kept_program};
 use crate::exploring::{Counter, Task};
 use command_line::arguments::{Invocation, Subcommand};
 use go_text::{Fault, Memory};
@@ -239,14 +239,7 @@ fn explain_test(task: Task<'_, '_, '_>, bytes: &[u8], tested: &Tested) {
     if is_passed(&tested.verdict) || matches!(tested.outcome, Err(Fault::Write)) {
         return;
     }
-    let kept = kept_text(task.alloc, task.invocation, bytes);
-    explain(
-        task.rt,
-        task.alloc,
-        task.invocation,
-        task.file,
-        kept,
-        tested.outcome,
-        None,
-    );
+    let (alloc, invocation) = (task.alloc, task.invocation);
+    let kept = kept_program(alloc, invocation, task.file, None, bytes);
+    explain(task.rt, alloc, invocation, kept, tested.outcome, None);
 }

@@ -4,7 +4,7 @@ use Rattle.bytecode.specs.Code.{Code}
 use Rattle.bytecode.specs.Machine.{code_kind}
 use Rattle.meaning.specs.Source.{source_kind}
 use Rattle.kendo_reading.specs.Reading.{Reads}
-use Rattle.recorder.specs.Recorded.{AreAll, AreFirst, AreNext, AreRest, Shows}
+use Rattle.event_window.specs.Windows.{AreAll, AreFirst, AreNext, AreRest, IsWindow, Shows}
 use Rattle.syntax.specs.Tree.{File}
 use Rattle.word.specs.declared.end.End.{End as Ending}
 use Rattle.word.specs.Kinds.{GoroutineKind}
@@ -13,7 +13,7 @@ use Rattle.word.specs.Views.{event_of}
 use Rattle.word.specs.Worlds.{Equal}
 use Rattle.timeline.specs.declared.recording.Recording.{Recording}
 use Rattle.timeline.specs.declared.window.Window.TheVariants.{First}
-use Rattle.kendo_code.specs.Recorded.{IsRecorded, IsWindow}
+use Rattle.kendo_code.specs.Recorded.{IsRecorded}
 
 first_also : (K M : GoroutineKind) (limit : ℕ) (events : List Event) → Equal K M → AreFirst M limit events → AreFirst K limit events
 first_also K M limit events e a =

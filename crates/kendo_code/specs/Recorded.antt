@@ -1,6 +1,6 @@
 -- The events of a run that a picture shows.
 use Rattle.std.specs.Prelude.{ℕ, IfSome, List, Option}
-use Rattle.recorder.specs.Recorded.{AreAll, AreFirst, AreNext, AreRest}
+use Rattle.event_window.specs.Windows.{AreAll, AreFirst}
 use Rattle.word.specs.declared.end.End.{End as Ending}
 use Rattle.word.specs.Kinds.{GoroutineKind}
 use Rattle.word.specs.Values.{Event}
@@ -9,8 +9,3 @@ use Rattle.word.specs.Values.{Event}
 pub record IsRecorded (K : GoroutineKind) (limit : ℕ) (events : List Event) (end : Option Ending) : Type 0 where
   pub first : AreFirst K limit events
   pub all : IfSome end (AreAll K limit events)
-
--- these are the events of the one-thread run that come after `before` others, and all that come if its end is there
-pub record IsWindow (K : GoroutineKind) (limit before : ℕ) (events : List Event) (end : Option Ending) : Type 0 where
-  pub next : AreNext K limit before events
-  pub rest : IfSome end (AreRest K limit before events)

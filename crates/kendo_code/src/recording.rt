@@ -3,8 +3,8 @@
 ghost use Rattle.std.specs.Prelude.{◌≡◌, ◌≤◌, ◌⊎◌, ◌↔◌, IfErr, IfNone, IfOk, IfSome, IsErrOf, length, map};
 ghost use Rattle.meaning.specs.Source.{source_kind};
 ghost use Rattle.kendo_reading.specs.Reading.{HasNoReading, IsRefusal, IsWhy, Reads};
-ghost use Rattle.kendo_code.specs.Recorded.{IsRecorded, IsWindow};
-ghost use Rattle.recorder.specs.Recorded.{Shows};
+ghost use Rattle.event_window.specs.Windows.{IsWindow, Shows};
+ghost use Rattle.kendo_code.specs.Recorded.{IsRecorded};
 ghost use Rattle.whole_run.specs.Runs.{IsLimit};
 ghost use Rattle.syntax.specs.Tree.{File};
 ghost use Rattle.word.specs.Views.{event_of};
@@ -59,6 +59,7 @@ pub fn timeline_window(
     ensures refused { IfErr result (λ fault. IsRefusal fault → HasNoReading bytes.items) }
     ensures why { IfErr result (λ fault. IsRefusal fault → IsWhy bytes.items fault) }
     ensures only { IfErr result (λ fault. IsRefusal fault ⊎ ((fault ≡ Fault.Memory) ⊎ (fault ≡ Fault.BadLimit))) }
+    ensures reads { IfOk result (λ _. (file : File) × Reads bytes.items file) }
     ensures recorded { IfOk result (λ made. (file : File) × Reads bytes.items file × IsWindow (source_kind file) limit made.before (map event_of made.events.items) made.end) }
     ensures shows { IfOk result (λ made. Shows window most made.before (length made.events.items) made.end) }
     ensures few { IfOk result (λ made. length made.events.items ≤ most) }

@@ -9,4 +9,4 @@ mod pausing;
 pub use agreement::runs_agree;
 pub use explanation::explain_end;
 pub use interpretation::reference_bytes;
-pub use pausing::paused_bytes;
+pub use pausing::{paused_bytes, traced_bytes};

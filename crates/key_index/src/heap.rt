@@ -1,322 +1,234 @@
-//! A heap of slots by their keys.
+//! A heap of entries by their keys.
 
-ghost use Rattle.std.specs.Prelude.{◌≡◌, ℕ, ◌+◌, ◌-◌, ◌*◌, ◌<◌, ◌≤◌, ◌^◌, Option, length, slice_index, slice_index_or, slice_set, None, Some, false, IfNone, IfSome, IsSome, MatchOption};
-ghost use Rattle.key_index.specs.Heap.{AreTaken, Exchanged, IsAboveChildren, IsBelowParent, IsHeap, IsHeapBut, IsIndex, IsInverse, SameTaken, key_at, key_or};
+ghost use Rattle.std.specs.Prelude.{◌≡◌, ℕ, ◌+◌, ◌*◌, ◌<◌, ◌≤◌, ◌^◌, length, slice_set, false, IfNone, IfSome};
+ghost use Rattle.key_index.specs.Heap.{IsAboveChildren, IsBelowParent, IsFilled, IsHeap, IsHole, entry_at, key_at, keys_with};
 ghost use Rattle.logical_clock.specs.Order.{is_before};
 
-use logical_clock::{Clock, Key};
+use logical_clock::Key;
 use std::sync::ledger::Ledger;
 use steps::Steps;
 
-/// A slot's key; the least of all where it has none.
-pub(crate) fn key_or(key: Option<Key>) -> Key
-    ensures { result ≡ key_or key }
-{
-    match key {
-        Some(key) => key,
-        None => Key {
-            clock: Clock::START,
-            number: 0,
-        },
-    }
+/// A slot that is taken, with its key.
+#[derive(Clone, Copy)]
+pub(crate) struct Entry {
+    pub key: Key,
+    pub slot: usize,
 }
 
-/// The key of the slot at a place, which has one.
+/// The key as one number, whose order is that of the keys.
 #[inline(always)]
-pub(crate) fn key_in(keys: &[Option<Key>], order: &[usize], place: usize) -> Key
-    requires place { place < length order.now }
-    requires slot { slice_index order.now place < length keys.now }
-    requires taken { IsSome (slice_index_or keys.now (slice_index order.now place) None) }
-    ensures { result ≡ key_at keys.now order.now place }
+fn rank(key: Key) -> u128
+    ensures rank { result ≡ key.clock * 2 ^ 64 + key.number }
+    ensures number { key.number < 2 ^ 64 }
 {
-    match keys[order[place]] {
-        Some(key) => key,
-        None => unreachable!(),
-    }
+    (u128::from(key.clock.time()) << 64) + u128::from(key.number)
+}
+
+/// Whether the first key is before the second one, told without a branch: which of two keys of a heap is first can't be foreseen.
+#[inline(always)]
+fn is_before(a: &Key, b: &Key) -> bool
+    ensures { result ≡ is_before a.now b.now }
+{
+    rank(*a) < rank(*b)
 }
 
 /// Whether the key at place `a` is before that at place `b`.
-fn compare<L: Ledger>(
-    keys: &[Option<Key>],
-    order: &[usize],
-    a: usize,
-    b: usize,
-    steps: &mut Steps<L>,
-) -> bool
-    requires a_in { a < length order.now }
-    requires b_in { b < length order.now }
-    requires a_slot { slice_index order.now a < length keys.now }
-    requires b_slot { slice_index order.now b < length keys.now }
-    requires a_taken { IsSome (slice_index_or keys.now (slice_index order.now a) None) }
-    requires b_taken { IsSome (slice_index_or keys.now (slice_index order.now b) None) }
-    ensures value { result ≡ is_before (key_at keys.now order.now a) (key_at keys.now order.now b) }
+#[inline(always)]
+fn compare<L: Ledger>(heap: &[Entry], a: usize, b: usize, steps: &mut Steps<L>) -> bool
+    requires a_in { a < length heap.now }
+    requires b_in { b < length heap.now }
+    ensures value { result ≡ is_before (key_at heap.now a) (key_at heap.now b) }
     ensures steps { steps.new ≡ steps.old + 1 }
 {
     steps.add();
-    key_in(keys, order, a).is_before(&key_in(keys, order, b))
+    is_before(&heap[a].key, &heap[b].key)
 }
 
-/// Exchanges the slots at two places.
-fn exchange(order: &mut [usize], places: &mut [usize], a: usize, b: usize)
-    requires inverse { IsInverse order.old places.old }
-    requires a_in { a < length places.old }
-    requires b_in { b < length places.old }
-    ensures inverse { IsInverse order.new places.new }
-    ensures order { Exchanged order.old order.new a b }
-    ensures places { Exchanged places.old places.new (slice_index order.old a) (slice_index order.old b) }
+/// Whether the key at `place` is before that of an entry.
+#[inline(always)]
+fn precedes<L: Ledger>(heap: &[Entry], place: usize, entry: &Entry, steps: &mut Steps<L>) -> bool
+    requires { place < length heap.now }
+    ensures value { result ≡ is_before (key_at heap.now place) entry.now.key }
+    ensures steps { steps.new ≡ steps.old + 1 }
 {
-    let x = order[a];
-    let y = order[b];
-    order[a] = y;
-    order[b] = x;
-    places[y] = a;
-    places[x] = b;
+    steps.add();
+    is_before(&heap[place].key, &entry.key)
 }
 
-/// The same where the places may be one.
-fn bring(order: &mut [usize], places: &mut [usize], a: usize, b: usize)
-    requires inverse { IsInverse order.old places.old }
-    requires a_in { a < length places.old }
-    requires b_in { b < length places.old }
-    ensures inverse { IsInverse order.new places.new }
-    ensures order { Exchanged order.old order.new a b }
-    ensures places { Exchanged places.old places.new (slice_index order.old a) (slice_index order.old b) }
+/// Whether the key at `place` is after that of an entry.
+#[inline(always)]
+fn follows<L: Ledger>(heap: &[Entry], place: usize, entry: &Entry, steps: &mut Steps<L>) -> bool
+    requires { place < length heap.now }
+    ensures value { result ≡ is_before entry.now.key (key_at heap.now place) }
+    ensures steps { steps.new ≡ steps.old + 1 }
 {
-    if a != b {
-        exchange(order, places, a, b);
-    }
+    steps.add();
+    is_before(&entry.key, &heap[place].key)
 }
 
-/// The key at `place` may be before its parents'.
-fn sift_up<L: Ledger>(
-    keys: &[Option<Key>],
-    order: &mut [usize],
+/// Puts an entry at a place.
+#[inline(always)]
+fn put(heap: &mut [Entry], places: &mut [usize], place: usize, entry: Entry)
+    requires place { place < length heap.old }
+    requires slot { entry.slot < length places.old }
+    ensures heap { heap.new ≡ slice_set heap.old place entry }
+    ensures places { places.new ≡ slice_set places.old entry.slot place }
+{
+    let slot = entry.slot;
+    heap[place] = entry;
+    places[slot] = place;
+}
+
+/// Puts an entry at a hole or, where its key is before theirs, above those that stand there.
+pub(crate) fn sift_up<L: Ledger>(
+    heap: &mut [Entry],
     places: &mut [usize],
-    len: usize,
-    place: usize,
+    hole: usize,
+    entry: &Entry,
     steps: &mut Steps<L>,
 )
-    requires inverse { IsInverse order.old places.old }
-    requires slots { length keys.now ≡ length places.old }
-    requires bound { len ≤ length places.old }
-    requires place { place < len }
-    requires but { IsHeapBut (key_at keys.now order.old) len place }
-    requires above { IsAboveChildren (key_at keys.now order.old) len place }
-    requires taken { AreTaken keys.now order.old len }
-    ensures inverse { IsInverse order.new places.new }
-    ensures taken { SameTaken places.old places.new len }
-    ensures heap { IsHeap (key_at keys.now order.new) len }
-    ensures steps { (d : ℕ) → place + 1 < 2 ^ d → steps.new + 1 ≤ steps.old + d }
+    requires hole { IsHole heap.old places.old hole entry.now }
+    requires above { IsAboveChildren (keys_with heap.old hole entry.now) (length heap.old) hole }
+    ensures filled { IsFilled heap.old heap.new places.old places.new hole entry.now }
+    ensures steps { (d : ℕ) → hole + 1 < 2 ^ d → steps.new + 1 ≤ steps.old + d }
 {
-    if place == 0 {
-        return;
+    if hole == 0 {
+        return put(heap, places, hole, *entry);
     }
-    let parent = (place - 1) / 2;
-    if !compare(keys, order, place, parent, steps) {
-        return;
+    let parent = (hole - 1) / 2;
+    if !follows(heap, parent, entry, steps) {
+        return put(heap, places, hole, *entry);
     }
-    exchange(order, places, place, parent);
-    sift_up(keys, order, places, len, parent, steps)
+    let moved = heap[parent];
+    put(heap, places, hole, moved);
+    sift_up(heap, places, parent, entry, steps)
 }
 
-/// The child of `place` whose key is less, or its only child.
-fn lesser_child<L: Ledger>(
-    keys: &[Option<Key>],
-    order: &[usize],
-    len: usize,
-    place: usize,
+/// Puts an entry at a hole with one child at most or, where its key is after the child's, below it.
+#[inline(always)]
+fn sift_last<L: Ledger>(
+    heap: &mut [Entry],
+    places: &mut [usize],
+    hole: usize,
+    entry: &Entry,
     steps: &mut Steps<L>,
-) -> usize
-    requires len { len ≤ length order.now }
-    requires slots { (i : ℕ) → i < len → slice_index order.now i < length keys.now }
-    requires place { 2 * place + 2 ≤ len }
-    requires taken { AreTaken keys.now order.now len }
+)
+    requires hole { IsHole heap.old places.old hole entry.now }
+    requires below { IsBelowParent (keys_with heap.old hole entry.now) hole }
+    requires last { length heap.old ≤ 2 * hole + 2 }
+    ensures filled { IsFilled heap.old heap.new places.old places.new hole entry.now }
+    ensures steps { (d : ℕ) → length heap.old < (hole + 1) * 2 ^ d → steps.new + 2 ≤ steps.old + 2 * d }
+{
+    let left = 2 * hole + 1;
+    if left >= heap.len() {
+        return put(heap, places, hole, *entry);
+    }
+    if !precedes(heap, left, entry, steps) {
+        return put(heap, places, hole, *entry);
+    }
+    let moved = heap[left];
+    put(heap, places, hole, moved);
+    put(heap, places, left, *entry);
+}
+
+/// The child of `place`, which has two, whose key is less.
+#[inline(always)]
+fn lesser_child<L: Ledger>(heap: &[Entry], place: usize, steps: &mut Steps<L>) -> usize
+    requires { 2 * place + 2 < length heap.now }
     ensures low { 2 * place + 1 ≤ result }
     ensures high { result ≤ 2 * place + 2 }
-    ensures within { result < len }
-    ensures least { (i : ℕ) → i < len → 2 * place + 1 ≤ i → i ≤ 2 * place + 2 → is_before (key_at keys.now order.now i) (key_at keys.now order.now result) ≡ false }
-    ensures steps { steps.new ≤ steps.old + 1 }
+    ensures least { (i : ℕ) → i < length heap.now → 2 * place + 1 ≤ i → i ≤ 2 * place + 2 → is_before (key_at heap.now i) (key_at heap.now result) ≡ false }
+    ensures steps { steps.new ≡ steps.old + 1 }
 {
-    let left = 2 * place + 1;
-    if left + 1 < len && compare(keys, order, left + 1, left, steps) {
-        left + 1
-    } else {
-        left
-    }
+    let right = 2 * place + 2;
+    right - usize::from(compare(heap, right - 1, right, steps))
 }
 
-/// The key at `place` may be after its children's.
-fn sift_down<L: Ledger>(
-    keys: &[Option<Key>],
-    order: &mut [usize],
+/// Puts an entry at a hole or, where its key is after theirs, below those that stand there.
+pub(crate) fn sift_down<L: Ledger>(
+    heap: &mut [Entry],
     places: &mut [usize],
-    len: usize,
+    hole: usize,
+    entry: &Entry,
+    steps: &mut Steps<L>,
+)
+    requires hole { IsHole heap.old places.old hole entry.now }
+    requires below { IsBelowParent (keys_with heap.old hole entry.now) hole }
+    ensures filled { IsFilled heap.old heap.new places.old places.new hole entry.now }
+    ensures steps { (d : ℕ) → length heap.old < (hole + 1) * 2 ^ d → steps.new + 2 ≤ steps.old + 2 * d }
+{
+    if 2 * hole + 2 >= heap.len() {
+        return sift_last(heap, places, hole, entry, steps);
+    }
+    let child = lesser_child(heap, hole, steps);
+    if !precedes(heap, child, entry, steps) {
+        return put(heap, places, hole, *entry);
+    }
+    let moved = heap[child];
+    put(heap, places, hole, moved);
+    sift_down(heap, places, child, entry, steps)
+}
+
+/// Puts an entry at a hole, or above or below those that stand there, by its key.
+pub(crate) fn sift<L: Ledger>(
+    heap: &mut [Entry],
+    places: &mut [usize],
+    hole: usize,
+    entry: &Entry,
+    steps: &mut Steps<L>,
+)
+    requires { IsHole heap.old places.old hole entry.now }
+    ensures filled { IsFilled heap.old heap.new places.old places.new hole entry.now }
+    ensures steps { (d : ℕ) → length heap.old < 2 ^ d → steps.new ≤ steps.old + 2 * d }
+{
+    if hole == 0 {
+        return sift_down(heap, places, hole, entry, steps);
+    }
+    let parent = (hole - 1) / 2;
+    if !follows(heap, parent, entry, steps) {
+        return sift_down(heap, places, hole, entry, steps);
+    }
+    let moved = heap[parent];
+    put(heap, places, hole, moved);
+    sift_up(heap, places, parent, entry, steps)
+}
+
+/// Puts an entry that stood last at the place of one that left, unless that was its own place.
+#[inline(always)]
+pub(crate) fn refill<L: Ledger>(
+    heap: &mut [Entry],
+    places: &mut [usize],
     place: usize,
+    last: &Entry,
     steps: &mut Steps<L>,
 )
-    requires inverse { IsInverse order.old places.old }
-    requires slots { length keys.now ≡ length places.old }
-    requires bound { len ≤ length places.old }
-    requires place { place < len }
-    requires but { IsHeapBut (key_at keys.now order.old) len place }
-    requires below { IsBelowParent (key_at keys.now order.old) place }
-    requires taken { AreTaken keys.now order.old len }
-    ensures inverse { IsInverse order.new places.new }
-    ensures taken { SameTaken places.old places.new len }
-    ensures heap { IsHeap (key_at keys.now order.new) len }
-    ensures steps { (d : ℕ) → len < (place + 1) * 2 ^ d → steps.new + 2 ≤ steps.old + 2 * d }
+    requires { place < length heap.old → IsHole heap.old places.old place last.now }
+    ensures filled { place < length heap.old → IsFilled heap.old heap.new places.old places.new place last.now }
+    ensures heap { length heap.old ≤ place → heap.new ≡ heap.old }
+    ensures places { length heap.old ≤ place → places.new ≡ places.old }
+    ensures steps { (d : ℕ) → length heap.old < 2 ^ d → steps.new ≤ steps.old + 2 * d }
 {
-    if place >= len / 2 {
-        return;
+    if place < heap.len() {
+        sift(heap, places, place, last, steps);
     }
-    let child = lesser_child(keys, order, len, place, steps);
-    if !compare(keys, order, child, place, steps) {
-        return;
-    }
-    exchange(order, places, place, child);
-    sift_down(keys, order, places, len, child, steps)
-}
-
-/// The key at `place` may be out of order with its parent's or its children's.
-fn sift<L: Ledger>(
-    keys: &[Option<Key>],
-    order: &mut [usize],
-    places: &mut [usize],
-    len: usize,
-    place: usize,
-    steps: &mut Steps<L>,
-)
-    requires inverse { IsInverse order.old places.old }
-    requires slots { length keys.now ≡ length places.old }
-    requires bound { len ≤ length places.old }
-    requires place { place < len }
-    requires but { IsHeapBut (key_at keys.now order.old) len place }
-    requires taken { AreTaken keys.now order.old len }
-    ensures inverse { IsInverse order.new places.new }
-    ensures taken { SameTaken places.old places.new len }
-    ensures heap { IsHeap (key_at keys.now order.new) len }
-    ensures steps { (d : ℕ) → len < 2 ^ d → steps.new ≤ steps.old + 2 * d }
-{
-    if place == 0 {
-        return sift_down(keys, order, places, len, place, steps);
-    }
-    let parent = (place - 1) / 2;
-    if !compare(keys, order, place, parent, steps) {
-        return sift_down(keys, order, places, len, place, steps);
-    }
-    exchange(order, places, place, parent);
-    sift_up(keys, order, places, len, parent, steps)
-}
-
-/// Gives a free slot a key.
-pub(crate) fn put<L: Ledger>(
-    keys: &mut [Option<Key>],
-    order: &mut [usize],
-    places: &mut [usize],
-    len: usize,
-    slot: usize,
-    key: Key,
-    steps: &mut Steps<L>,
-)
-    requires index { IsIndex keys.old order.old places.old len }
-    requires slot { slot < length keys.old }
-    requires free { slice_index_or keys.old slot None ≡ None }
-    ensures index { IsIndex keys.new order.new places.new (len + 1) }
-    ensures keys { keys.new ≡ slice_set keys.old slot (Some key) }
-    ensures steps { (d : ℕ) → length keys.old < 2 ^ d → steps.new ≤ steps.old + 2 * d }
-{
-    let place = places[slot];
-    bring(order, places, len, place);
-    keys[slot] = Some(key);
-    sift_up(keys, order, places, len + 1, len, steps);
-}
-
-/// Gives a taken slot a key that is not before its own.
-pub(crate) fn lift<L: Ledger>(
-    keys: &mut [Option<Key>],
-    order: &mut [usize],
-    places: &mut [usize],
-    len: usize,
-    slot: usize,
-    key: Key,
-    steps: &mut Steps<L>,
-)
-    requires index { IsIndex keys.old order.old places.old len }
-    requires later { MatchOption (slice_index_or keys.old slot None) ⊥ (λ old. is_before key old ≡ false) }
-    ensures index { IsIndex keys.new order.new places.new len }
-    ensures keys { keys.new ≡ slice_set keys.old slot (Some key) }
-    ensures steps { (d : ℕ) → length keys.old < 2 ^ d → steps.new ≤ steps.old + 2 * d }
-{
-    let place = places[slot];
-    keys[slot] = Some(key);
-    sift_down(keys, order, places, len, place, steps);
-}
-
-/// Gives a taken slot another key.
-pub(crate) fn change<L: Ledger>(
-    keys: &mut [Option<Key>],
-    order: &mut [usize],
-    places: &mut [usize],
-    len: usize,
-    slot: usize,
-    key: Key,
-    steps: &mut Steps<L>,
-)
-    requires index { IsIndex keys.old order.old places.old len }
-    requires taken { IsSome (slice_index_or keys.old slot None) }
-    ensures index { IsIndex keys.new order.new places.new len }
-    ensures keys { keys.new ≡ slice_set keys.old slot (Some key) }
-    ensures steps { (d : ℕ) → length keys.old < 2 ^ d → steps.new ≤ steps.old + 2 * d }
-{
-    let place = places[slot];
-    keys[slot] = Some(key);
-    sift(keys, order, places, len, place, steps);
-}
-
-/// Frees a taken slot.
-pub(crate) fn free<L: Ledger>(
-    keys: &mut [Option<Key>],
-    order: &mut [usize],
-    places: &mut [usize],
-    len: usize,
-    slot: usize,
-    steps: &mut Steps<L>,
-)
-    requires index { IsIndex keys.old order.old places.old len }
-    requires taken { IsSome (slice_index_or keys.old slot None) }
-    ensures len { 0 < len }
-    ensures index { IsIndex keys.new order.new places.new (len - 1) }
-    ensures keys { keys.new ≡ slice_set keys.old slot None }
-    ensures steps { (d : ℕ) → length keys.old < 2 ^ d → steps.new ≤ steps.old + 2 * d }
-{
-    let place = places[slot];
-    let last = len - 1;
-    bring(order, places, place, last);
-    if place < last {
-        sift(keys, order, places, last, place, steps);
-    }
-    keys[slot] = None;
 }
 
 /// The least key behind the first place; none where nothing stands there.
-pub(crate) fn second(keys: &[Option<Key>], order: &[usize], len: usize) -> Option<Key>
-    requires len { len ≤ length order.now }
-    requires slots { (i : ℕ) → i < len → slice_index order.now i < length keys.now }
-    requires heap { IsHeap (key_at keys.now order.now) len }
-    requires taken { AreTaken keys.now order.now len }
-    ensures none { IfNone result (len ≤ 1) }
-    ensures there { IfSome result (λ key. (i : ℕ) × (0 < i) × (i < len) × (key_at keys.now order.now i ≡ key)) }
-    ensures least { IfSome result (λ key. (i : ℕ) → 0 < i → i < len → is_before (key_at keys.now order.now i) key ≡ false) }
+pub(crate) fn second(heap: &[Entry]) -> Option<Key>
+    requires { IsHeap (key_at heap.now) (length heap.now) }
+    ensures none { IfNone result (length heap.now ≤ 1) }
+    ensures there { IfSome result (λ key. (i : ℕ) × (0 < i) × (i < length heap.now) × (key_at heap.now i ≡ key)) }
+    ensures least { IfSome result (λ key. (i : ℕ) → 0 < i → i < length heap.now → is_before (key_at heap.now i) key ≡ false) }
 {
-    if len < 2 {
+    if heap.len() < 2 {
         return None;
     }
-    let left = key_in(keys, order, 1);
-    if len < 3 {
+    let left = heap[1].key;
+    if heap.len() < 3 {
         return Some(left);
     }
-    let right = key_in(keys, order, 2);
-    if right.is_before(&left) {
+    let right = heap[2].key;
+    if is_before(&right, &left) {
         Some(right)
     } else {
         Some(left)

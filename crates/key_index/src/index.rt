@@ -4,7 +4,7 @@ ghost use Rattle.std.specs.Prelude.{◌≡◌, ◌≢◌, ℕ, ◌+◌, ◌*◌,
 ghost use Rattle.logical_clock.specs.Order.{is_before};
 ghost use Rattle.logical_clock.specs.declared.key.Key.{Key};
 
-use crate::heap::{change, free, key_in, key_or, lift, put, second};
+use crate::heap::{Entry, refill, second, sift, sift_down, sift_up};
 use go_text::Memory;
 use logical_clock::Key;
 use std::alloc::{AllocError, Global};
@@ -17,24 +17,22 @@ use steps::Steps;
 pub struct KeyIndex {
     /// The key of each slot that is taken.
     keys: Vec<Option<Key>>,
-    /// The slot at each place. The taken ones stand first, as a heap: none has a key before that of its parent.
-    order: Vec<usize>,
-    /// The place of each slot.
+    /// The slots that are taken, as a heap: none has a key before that of its parent.
+    heap: Vec<Entry>,
+    /// The place in the heap of each slot that is taken.
     places: Vec<usize>,
-    /// How many slots are taken.
-    len: usize,
 }
 
 impl Model for KeyIndex {
-    ghost use Rattle.std.specs.Prelude.{List, Option};
+    ghost use Rattle.std.specs.Prelude.{List, Option, vec_capacity};
     ghost use Rattle.logical_clock.specs.declared.key.Key.{Key as AnyKey};
-    ghost use Rattle.key_index.specs.Heap.{IsIndex};
+    ghost use Rattle.key_index.specs.Heap.{IsOrdered};
 
     ghost Value = { List (Option AnyKey) };
 
     ghost view = { λ x. x.keys.items };
 
-    ghost invariant = { λ x. IsIndex x.keys.items x.order.items x.places.items x.len };
+    ghost invariant = { λ x. IsOrdered x.keys.items x.heap.items x.places.items (vec_capacity x.heap) };
 }
 
 impl KeyIndex {
@@ -44,9 +42,8 @@ impl KeyIndex {
     {
         KeyIndex {
             keys: Vec::new(alloc),
-            order: Vec::new(alloc),
+            heap: Vec::new(alloc),
             places: Vec::new(alloc),
-            len: 0,
         }
     }
 
@@ -55,19 +52,13 @@ impl KeyIndex {
         ensures { IfOk result (λ x. x ≡ replicate slots None) }
     {
         let mut keys = Vec::with_capacity(alloc, slots)?;
-        let mut order = Vec::with_capacity(alloc, slots)?;
+        let heap = Vec::with_capacity(alloc, slots)?;
         let mut places = Vec::with_capacity(alloc, slots)?;
-        for slot in 0..slots {
+        for _slot in 0..slots {
             keys.push(None)?;
-            order.push(slot)?;
-            places.push(slot)?;
+            places.push(0)?;
         }
-        Ok(KeyIndex {
-            keys,
-            order,
-            places,
-            len: 0,
-        })
+        Ok(KeyIndex { keys, heap, places })
     }
 
     /// One slot more, which is free.
@@ -76,12 +67,10 @@ impl KeyIndex {
         ensures memory { OnErr result (self.new ≡ self.old) }
     {
         self.keys.reserve(1)?;
-        self.order.reserve(1)?;
+        self.heap.reserve(self.keys.len() + 1 - self.heap.len())?;
         self.places.reserve(1)?;
-        let slot = self.keys.len();
         self.keys.push_reserved(None);
-        self.order.push_reserved(slot);
-        self.places.push_reserved(slot);
+        self.places.push_reserved(0);
         Ok(())
     }
 
@@ -102,7 +91,7 @@ impl KeyIndex {
 
     /// Gives a slot that is there this key, which it may have already.
     #[inline(always)]
-    #[tactic(auto, using(crate::proofs::Places::kept))]
+    #[tactic(auto, using(crate::proofs::Slots::kept))]
     fn give<L: Ledger>(&mut self, slot: usize, key: Key, steps: &mut Steps<L>)
         requires { slot < length self.old }
         ensures contents { self.new ≡ slice_set self.old slot (Some key) }
@@ -120,7 +109,7 @@ impl KeyIndex {
 
     /// Frees a slot that is there, and may be free already.
     #[inline(always)]
-    #[tactic(auto, using(crate::proofs::Places::kept))]
+    #[tactic(auto, using(crate::proofs::Slots::kept))]
     fn clear<L: Ledger>(&mut self, slot: usize, steps: &mut Steps<L>)
         requires { slot < length self.old }
         ensures contents { self.new ≡ slice_set self.old slot None }
@@ -137,15 +126,10 @@ impl KeyIndex {
         ensures contents { self.new ≡ slice_set self.old slot (Some key) }
         ensures steps { (d : ℕ) → length self.old < 2 ^ d → steps.new ≤ steps.old + 2 * d }
     {
-        change(
-            &mut self.keys,
-            &mut self.order,
-            &mut self.places,
-            self.len,
-            slot,
-            key,
-            steps,
-        );
+        let entry = Entry { key, slot };
+        let place = self.places[slot];
+        self.keys[slot] = Some(entry.key);
+        sift(&mut self.heap, &mut self.places, place, &entry, steps);
     }
 
     /// Gives a free slot a key. It takes at most twice as many comparisons of keys as the number of slots has binary digits.
@@ -155,16 +139,11 @@ impl KeyIndex {
         ensures contents { self.new ≡ slice_set self.old slot (Some key) }
         ensures steps { (d : ℕ) → length self.old < 2 ^ d → steps.new ≤ steps.old + 2 * d }
     {
-        put(
-            &mut self.keys,
-            &mut self.order,
-            &mut self.places,
-            self.len,
-            slot,
-            key,
-            steps,
-        );
-        self.len += 1;
+        let entry = Entry { key, slot };
+        let last = self.heap.len();
+        self.keys[slot] = Some(entry.key);
+        self.heap.push_reserved(entry);
+        sift_up(&mut self.heap, &mut self.places, last, &entry, steps);
     }
 
     /// Gives a taken slot a key that is not before its own, with no more comparisons.
@@ -173,15 +152,10 @@ impl KeyIndex {
         ensures contents { self.new ≡ slice_set self.old slot (Some key) }
         ensures steps { (d : ℕ) → length self.old < 2 ^ d → steps.new ≤ steps.old + 2 * d }
     {
-        lift(
-            &mut self.keys,
-            &mut self.order,
-            &mut self.places,
-            self.len,
-            slot,
-            key,
-            steps,
-        );
+        let entry = Entry { key, slot };
+        let place = self.places[slot];
+        self.keys[slot] = Some(entry.key);
+        sift_down(&mut self.heap, &mut self.places, place, &entry, steps);
     }
 
     /// Frees a taken slot, with no more comparisons.
@@ -190,15 +164,10 @@ impl KeyIndex {
         ensures contents { self.new ≡ slice_set self.old slot None }
         ensures steps { (d : ℕ) → length self.old < 2 ^ d → steps.new ≤ steps.old + 2 * d }
     {
-        free(
-            &mut self.keys,
-            &mut self.order,
-            &mut self.places,
-            self.len,
-            slot,
-            steps,
-        );
-        self.len -= 1;
+        let place = self.places[slot];
+        let last = self.heap.take_last();
+        refill(&mut self.heap, &mut self.places, place, &last, steps);
+        self.keys[slot] = None;
     }
 
     /// A taken slot of least key, and that key; none where all are free. It compares nothing.
@@ -206,26 +175,26 @@ impl KeyIndex {
         ensures none { IfNone result ((s : ℕ) → slice_index_or self.now s None ≡ None) }
         ensures least { IfSome result (λ r. (slice_index_or self.now r.0 None ≡ Some r.1) × ((s : ℕ) (k : Key) → slice_index_or self.now s None ≡ Some k → is_before k r.1 ≡ false)) }
     {
-        if self.len == 0 {
+        if self.heap.is_empty() {
             return None;
         }
-        let slot = self.order[0];
-        Some((slot, key_or(self.keys[slot])))
+        let first = &self.heap[0];
+        Some((first.slot, first.key))
     }
 
     /// The least key of the slots but this one; none where all others are free. It compares at most two keys.
-    #[tactic(auto, using(crate::proofs::Places::index_taken))]
     pub fn least_but(&self, slot: usize) -> Option<Key>
         ensures none { IfNone result ((s : ℕ) → s ≢ slot → slice_index_or self.now s None ≡ None) }
         ensures there { IfSome result (λ key. (s : ℕ) × (s ≢ slot) × (slice_index_or self.now s None ≡ Some key)) }
         ensures least { IfSome result (λ key. (s : ℕ) (k : Key) → s ≢ slot → slice_index_or self.now s None ≡ Some k → is_before k key ≡ false) }
     {
-        if self.len == 0 {
+        if self.heap.is_empty() {
             return None;
         }
-        if self.order[0] != slot {
-            return Some(key_in(&self.keys, &self.order, 0));
+        let first = &self.heap[0];
+        if first.slot != slot {
+            return Some(first.key);
         }
-        second(&self.keys, &self.order, self.len)
+        second(&self.heap)
     }
 }

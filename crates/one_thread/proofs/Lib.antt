@@ -1,5 +1,7 @@
 pub mod After
+pub mod Histories
 pub mod Moves
+pub mod Printed
 pub mod Orderly
 pub mod Standing
 pub mod Within

@@ -28,9 +28,11 @@ use Rattle.whole_run.specs.Runs.{BeginsOutput, IsWhole}
 use Rattle.one_thread.proofs.After.{Known, after, applied, known, one_after}
 use Rattle.word.specs.declared.request.Request.{Request as Asked}
 use Rattle.word.proofs.Laws.{laws}
+use Rattle.one_thread.proofs.Printed.{act_prints}
 use Rattle.one_thread.proofs.Standing.{awake_is, here_is}
+use Rattle.one_thread.specs.Histories.{printed_by}
 
-appends_more : (old mid new : Option (List ℕ)) (xs ys : List ℕ) → Appends old mid xs → Appends mid new ys → Appends old new (xs ++ ys)
+pub appends_more : (old mid new : Option (List ℕ)) (xs ys : List ℕ) → Appends old mid xs → Appends mid new ys → Appends old new (xs ++ ys)
 appends_more None mid new xs ys a b = tt
 appends_more (Some os) None new xs ys a b = absurd a
 appends_more (Some os) (Some ms) None xs ys a b = absurd b
@@ -40,7 +42,7 @@ pub appends_none : (old : Option (List ℕ)) → Appends old old []
 appends_none None = tt
 appends_none (Some xs) = sym (append-nil xs)
 
-take_past : (xs ys : List ℕ) (k : ℕ) → take (length xs + k) (xs ++ ys) ≡ xs ++ take k ys
+pub take_past : (xs ys : List ℕ) (k : ℕ) → take (length xs + k) (xs ++ ys) ≡ xs ++ take k ys
 take_past [] ys k = ap (λ n. take n ys) (zero-add k)
 take_past (x ∷ xs) ys k = rw suc-add (ap (λ zs. x ∷ zs) (take_past xs ys k))
 
@@ -272,6 +274,18 @@ module _ {S : Type 0} (K : GoroutineKind) (held : S → K.State) (limit : ℕ) w
           ap (λ (x : World (Clocked K.State) (Rest K.State)). x.shared.shared.events) next_moment
           ∙ ap (λ (x : Deed). x.shared.events) is
           ∙ deed_events (history_of w.shared.shared) place ask.state.clock (meant w.shared.shared place q) deed v' v'.meeting
+
+      -- the output then
+      pub output_after : (moment K limit (st.moves + 1)).shared.shared.output ≡ w.shared.shared.output ++ printed_by (meant w.shared.shared place q)
+      output_after =
+          ap (λ (x : World (Clocked K.State) (Rest K.State)). x.shared.shared.output) next_moment
+          ∙ act_prints w.shared.shared place ask.state.clock (meant w.shared.shared place q) (meant w.shared.shared place q)
+
+      -- at the clock limit it ends the run
+      pub ends_exhausted : q ≡ Exhausted → v'.ending ≡ Some RanOut
+      ends_exhausted is_last =
+          (done w.shared.shared st.world.shared).1.ending
+          ∙ ap (λ (p : Request). (act w.shared.shared place ask.state.clock p p).shared.ending) (ap (meant w.shared.shared place) is_last ∙ still_exhausted w.shared.shared place)
 
       -- how the run has ended then
       pub ends_after : (e : Ending) → v'.ending ≡ Some e → end_of (moment K limit (st.moves + 1)) ≡ Some e

@@ -1,30 +1,26 @@
 -- A run that is stopped at a moment.
-use Rattle.std.proofs.Common.{◌≡◌, inl, inr, ℕ, ◌+◌, Bool, true, false, cond, List, [], ◌∷◌, ◌++◌, Option, Some, None, refl, sym, ap, ◌∙◌, subst, arith}
-use Rattle.std.specs.Prelude.{option_map, slice_index_or}
+use Rattle.std.proofs.Common.{◌≡◌, inl, inr, ℕ, List, [], ◌∷◌, ◌++◌, Option, Some, None, refl, sym, ap, ◌∙◌, subst, arith}
+use Rattle.std.specs.Prelude.{option_map}
+use Rattle.std.specs.Option.{option_or}
 use Rattle.std.proofs.lemmas.Bool.{cases_lt}
 use Rattle.std.proofs.lemmas.Option.{same_Some}
 use Rattle.logical_clock.specs.declared.key.Key.{Key}
 use Rattle.logical_clock.specs.Order.{keys, least}
-use Rattle.logical_clock.proofs.Keys.{IsNext, next_is}
-use Rattle.reference_world.specs.Deeds.{Performs, SharedValue, opened}
-use Rattle.reference_world.specs.Events.{event_by, meant_after}
-use Rattle.reference_world.specs.declared.deed.Deed.{Deed as Did}
-use Rattle.turn_rule.specs.Turns.{World}
+use Rattle.reference_world.specs.Deeds.{SharedValue, opened}
 use Rattle.word.specs.declared.end.End.{End as Ending}
 use Rattle.word.specs.declared.end.End.TheVariants.{Finished, Panicked, Deadlock, Exhausted}
-use Rattle.word.specs.declared.request.Request.{Request as Asked}
-use Rattle.word.specs.Values.{Event, Request}
-use Rattle.word.specs.Kinds.{Clocked, GoroutineKind}
-use Rattle.word.specs.Views.{request_of}
-use Rattle.word.specs.Worlds.{Rest, moment}
+use Rattle.word.specs.declared.request.Event.{Event as Recorded}
+use Rattle.word.specs.Values.{Event}
+use Rattle.word.specs.Kinds.{GoroutineKind}
+use Rattle.word.specs.Views.{event_of}
 use Rattle.one_thread.specs.declared.goroutine.Goroutine.{Goroutine}
-use Rattle.one_thread.specs.declared.goroutine.Turn.TheVariants as turns
 use Rattle.one_thread.specs.declared.snapshot.Until.{Until}
 use Rattle.one_thread.specs.declared.snapshot.Until.TheVariants as untils
-use Rattle.one_thread.specs.Places.{AdvancesAt, StepsAt, awake_of, clock_of, clocked, here}
-use Rattle.one_thread.specs.Snapshots.{Counts, IsFar, IsMoment, IsNotPast, IsReached, IsSeen, Leads, newest}
-use Rattle.one_thread.specs.Worlds.{Applies, IsAsked, IsOpen, Stands}
-use Rattle.one_thread.proofs.Moves.{asked_world, asks_on, ends, ends_after, events_after, exhausted, opened_world, runs_on, stepped_to, stepped_world, went}
+use Rattle.one_thread.specs.Histories.{Adds, Counts, HasEnded, HasHistory, HasHad, HasHadTo, IsReady, OpenValue}
+use Rattle.one_thread.specs.Places.{clock_of}
+use Rattle.one_thread.specs.Snapshots.{IsFar, IsNotPast, IsReached, IsSeen, newest}
+use Rattle.one_thread.proofs.Histories.{deserted_history, going_on}
+use Rattle.one_thread.proofs.Moves.{runs_on}
 
 -- the newest of events with one more
 newest_more : (es : List Event) (e : Event) → newest (es ++ e ∷ []) ≡ Some e
@@ -32,74 +28,47 @@ newest_more [] e = refl
 newest_more (x ∷ []) e = refl
 newest_more (x ∷ (y ∷ es)) e = newest_more (y ∷ es) e
 
-module _ {S : Type 0} (K : GoroutineKind) (held : S → K.State) (limit : ℕ) where
-  abbrev Places : Type 0
-  Places = List (Option (Goroutine S))
+module _ {S : Type 0} (K : GoroutineKind) (held : S → K.State) where
+  -- the run has had some events, of which this is the last one
+  abbrev pub HasLast : OpenValue S → Option Recorded → Type 0
+  HasLast run last = (events : List Event) × (output : List ℕ) × HasHad K held run events output × (newest events ≡ option_map event_of last)
 
-  -- whatever was written
-  abbrev standing : (places : Places) (v : SharedValue) (last : Option Event) (m : IsMoment K held limit places v last) → v.ending ≡ None → Stands K held limit None None places v
-  standing places v last m going = record { moves = m.moves; world = m.world; written = tt; goes_on = going }
+  pub last_more : (old new : OpenValue S) (found last : Option Recorded) → Adds K held old found new → HasLast old last → HasLast new (option_or found last)
+  last_more old new None last adds has = (has.0, has.1, adds has.0 has.1 has.2, has.3)
+  last_more old new (Some e) last adds has = (_, _, adds has.0 has.1 has.2, newest_more has.0 (event_of e))
 
-  pub opened_moment : (places : Places) (v : SharedValue) → IsOpen K held places → v ≡ opened → IsMoment K held limit places v None
-  opened_moment places v start is =
-      subst (λ (x : SharedValue). IsMoment K held limit places x None) (sym is) (record { moves = 0; world = opened_world K held limit places start; event = refl })
-
-  module _ (old : Places) (v : SharedValue) (last : Option Event) (m : IsMoment K held limit old v last) (going : v.ending ≡ None) where
-    abbrev st : Stands K held limit None None old v
-    st = standing old v last m going
-
-    -- nobody is awake
-    pub deserted_moment : least (keys clock_of 0 old) ≡ None → IsSeen K held limit old v last (Some Deadlock)
-    deserted_moment none = (m, ends K held limit None None old v st none)
-
-    -- it is this one's turn
-    pub going_moment : (turn : Key) → least (keys clock_of 0 old) ≡ Some turn → IsSeen K held limit old v last None
-    going_moment turn is = (m, runs_on K held limit None None old v st turn is)
-
-    pub stepped_moment : (turn : Key) (new : Places) → least (keys clock_of 0 old) ≡ Some turn → StepsAt K held limit old turn.number new → IsMoment K held limit new v last
-    stepped_moment turn new is h = record {
-      moves = m.moves + 1;
-      world = stepped_world K held limit None None old v st turn turn.number new is refl h;
-      event = ap (λ (x : World (Clocked K.State) (Rest K.State)). newest x.shared.shared.events) (stepped_to K held limit None None old v st turn turn.number new is refl h) ∙ m.event;
-    }
-
-    pub exhausted_moment : (turn : Key) (new : Places) → least (keys clock_of 0 old) ≡ Some turn → AdvancesAt K held limit turns.Exhausted old turn.number new → IsSeen K held limit new v last (Some Exhausted)
-    exhausted_moment turn new is h = let e = exhausted K held limit None None old v st turn turn.number new is refl h in (e.0, e.2)
-
-    pub asked_moment : (turn : Key) (clock : ℕ) (request : Asked) (new : Places) → least (keys clock_of 0 old) ≡ Some turn → AdvancesAt K held limit (turns.Asks request clock) old turn.number new
-        → IsMoment K held limit new v last × IsAsked K held limit new turn.number clock (request_of request)
-    asked_moment turn clock request new is h = (
-      record { moves = m.moves; world = asked_world K held limit None None old v st new h.4 h.5; event = m.event },
-      (asks_on K held limit None None old v st turn turn.number clock request new is refl h).1,
+  module _ (limit : ℕ) (places : List (Option (Goroutine S))) (v : SharedValue) (events : List Event) (output : List ℕ) (last : Option Event) (is : newest events ≡ last) where
+    -- a run that goes on
+    pub going_seen : HasHistory K held limit places v events output → v.ending ≡ None → (turn : Key) → least (keys clock_of 0 places) ≡ Some turn → IsSeen K held limit places v last None
+    going_seen h going turn first = (
+      record { moves = h.moves; world = h.world; event = ap newest h.events ∙ is },
+      runs_on K held limit None None places v (record { moves = h.moves; world = h.world; written = tt; goes_on = going }) turn first,
     )
 
-    -- a request is performed
-    pub performed_moment : (place clock : ℕ) (q : Request) (deed : Did) (v' : SharedValue) → IsAsked K held limit old place clock q → Performs v place clock q deed v'
-        → (new : Places) (later : ℕ) → later ≡ clock + 1 → ((s : Clocked K.State) → here (awake_of held) old place ≡ Some s → Applies K held later place s deed old new)
-        → (e : Event) → e ≡ event_by place clock (meant_after v.events place q) v'.made deed → (ending : Option Ending) → ending ≡ v'.ending → Leads K held limit new v' (Some e) ending
-    performed_moment place clock q deed v' ask does new later one applies e event ending is = go ending is
-      where
-        seen : newest (moment K limit (m.moves + 1)).shared.shared.events ≡ Some e
-        seen =
-            ap newest (events_after K held limit None None old v st place clock q deed v' ask does)
-            ∙ newest_more (moment K limit m.moves).shared.shared.events _
-            ∙ ap (λ (c : ℕ). Some (event_by place c (meant_after _ place q) v'.made deed)) (sym ask.at_clock)
-            ∙ ap (λ (k : ℕ). Some (event_by place clock (meant_after k place q) v'.made deed)) (sym m.world.shared.events)
-            ∙ ap Some (sym event)
+    -- one that has ended
+    pub ended_seen : (end : Ending) → HasEnded K held limit places v events output end → IsSeen K held limit places v last (Some end)
+    ended_seen Exhausted h = (h.moves, h.end)
+    ended_seen Finished h = (record { moves = h.moves; world = h.world; event = ap newest h.events ∙ is }, h.end)
+    ended_seen Deadlock h = (record { moves = h.moves; world = h.world; event = ap newest h.events ∙ is }, h.end)
+    ended_seen (Panicked cause) h = (record { moves = h.moves; world = h.world; event = ap newest h.events ∙ is }, h.end)
 
-        then_moment : IsMoment K held limit new v' (Some e)
-        then_moment = record {
-          moves = m.moves + 1;
-          world = went K held limit None None old v st place clock q deed v' ask does new later one (applies ask.state ask.at.here);
-          event = seen;
-        }
+  module _ (run : OpenValue S) (limit : ℕ) (same : run.limit ≡ limit) (last : Option Recorded) (has : HasLast run last) where
+    going_history : run.end ≡ None → HasHistory K held limit run.places run.shared has.0 has.1
+    going_history goes = subst (λ (k : ℕ). HasHistory K held k run.places run.shared has.0 has.1) same (going_on K held run has.0 has.1 goes has.2)
 
-        go : (o : Option Ending) → o ≡ v'.ending → Leads K held limit new v' (Some e) o
-        go None h = then_moment
-        go (Some Finished) h = (then_moment, ends_after K held limit None None old v st place clock q deed v' ask does Finished (sym h))
-        go (Some (Panicked cause)) h = (then_moment, ends_after K held limit None None old v st place clock q deed v' ask does (Panicked cause) (sym h))
-        go (Some Deadlock) h = (then_moment, ends_after K held limit None None old v st place clock q deed v' ask does Deadlock (sym h))
-        go (Some Exhausted) h = (m.moves + 1, ends_after K held limit None None old v st place clock q deed v' ask does Exhausted (sym h))
+    -- nobody is awake
+    pub deserted_seen : run.end ≡ None → IsReady run → least (keys clock_of 0 run.places) ≡ None → IsSeen K held limit run.places run.shared (option_map event_of last) (Some Deadlock)
+    deserted_seen goes ready none =
+        ended_seen limit run.places run.shared has.0 has.1 (option_map event_of last) has.3 Deadlock (deserted_history K held limit run.places run.shared has.0 has.1 (going_history goes) (ready.going goes) none)
+
+    -- it is somebody's turn
+    pub stopped_seen : run.end ≡ None → IsReady run → (turn : Key) → least (keys clock_of 0 run.places) ≡ Some turn → IsSeen K held limit run.places run.shared (option_map event_of last) None
+    stopped_seen goes ready turn first = going_seen limit run.places run.shared has.0 has.1 (option_map event_of last) has.3 (going_history goes) (ready.going goes) turn first
+
+    pub over_seen : (end : Ending) → run.end ≡ Some end → IsSeen K held limit run.places run.shared (option_map event_of last) (Some end)
+    over_seen end over =
+        ended_seen limit run.places run.shared has.0 has.1 (option_map event_of last) has.3 end
+        (subst (λ (k : ℕ). HasEnded K held k run.places run.shared has.0 has.1 end) same (subst (λ (o : Option Ending). HasHadTo K held o run has.0 has.1) over has.2))
 
 module _ {S : Type 0} (K : GoroutineKind) (held : S → K.State) (limit : ℕ) where
   -- what is equal is seen too
@@ -112,26 +81,6 @@ module _ {S : Type 0} (K : GoroutineKind) (held : S → K.State) (limit : ℕ) w
 
 -- ---- how far a run has come
 
-module _ {S H : Type 0} (held : S → H) where
-  awake_clock : (x : Option (Goroutine S)) (s : Clocked H) → awake_of held x ≡ Some s → clock_of x ≡ Some s.clock
-  awake_clock None s e = cc
-  awake_clock (Some g) s e = go g.asleep e
-    where
-      go : (b : Bool) → cond b None (Some (clocked held g)) ≡ Some s → cond b None (Some g.clock) ≡ Some s.clock
-      go true e' = cc
-      go false e' = ap (option_map (λ (t : Clocked H). t.clock)) e'
-
-  -- the clock of whoever moves next
-  turn_clock : (places : List (Option (Goroutine S))) (turn : Key) (s : Clocked H) → least (keys clock_of 0 places) ≡ Some turn → here (awake_of held) places turn.number ≡ Some s → s.clock ≡ turn.clock
-  turn_clock places turn s is up =
-      let first : IsNext clock_of None places (Some turn) = rw is at (next_is clock_of None refl places) in
-      same_Some s.clock turn.clock (sym (awake_clock (slice_index_or places turn.number None) s up) ∙ first.0)
-
-module _ {S : Type 0} (K : GoroutineKind) (held : S → K.State) (limit : ℕ) where
-  -- the clock of its request
-  pub asked_clock : (old new : List (Option (Goroutine S))) (turn : Key) (clock : ℕ) (request : Asked) → least (keys clock_of 0 old) ≡ Some turn → AdvancesAt K held limit (turns.Asks request clock) old turn.number new → clock ≡ turn.clock
-  asked_clock old new turn clock request is h = h.3 ∙ turn_clock held old turn h.0 is h.1.here
-
 -- nothing has happened yet
 pub not_past_first : (until : Until) (v : SharedValue) → v ≡ opened → IsNotPast until v None
 not_past_first (untils.Event n) v is = rw is (omega arith)
@@ -142,19 +91,17 @@ whichever c old new None h = tt
 whichever c old new (Some e) h = h
 
 -- one move more, before which the run had not come so far
-pub not_past_more : (until : Until) (turn : Key) (old new : SharedValue) (before last : Option Event) → (IsFar until old.events turn → ⊥) → IsNotPast until old before → Counts turn.clock old before new last → IsNotPast until new last
-not_past_more (untils.Event n) turn old new before last far h (inl same) = rw same.0 h
-not_past_more (untils.Event n) turn old new before last far h (inr more) = elim (cases_lt old.events n) [
+pub not_past_more : (until : Until) (turn : Key) (old new : SharedValue) (last found : Option Recorded) → (IsFar until old.events turn → ⊥) → IsNotPast until old (option_map event_of last) → Counts turn.clock old found new → IsNotPast until new (option_map event_of (option_or found last))
+not_past_more (untils.Event n) turn old new last None far h same = rw same h
+not_past_more (untils.Event n) turn old new last (Some e) far h more = elim (cases_lt old.events n) [
   | inl lt ↦ rw more.0 (omega (arith, lt))
   | inr le ↦ absurd (far le)
 ]
-not_past_more (untils.Clock c) turn old new before last far h (inl same) = subst (λ (o : Option Event). IsNotPast (untils.Clock c) new o) (sym same.1) (whichever c old new before h)
-not_past_more (untils.Clock c) turn old new before last far h (inr more) =
-    subst (λ (o : Option Event). IsNotPast (untils.Clock c) new o) (sym more.1.1)
-    (elim (cases_lt c turn.clock) [
-      | inl lt ↦ absurd (far lt)
-      | inr le ↦ rw more.1.2 le
-    ])
+not_past_more (untils.Clock c) turn old new last None far h same = whichever c old new (option_map event_of last) h
+not_past_more (untils.Clock c) turn old new last (Some e) far h more = elim (cases_lt c turn.clock) [
+  | inl lt ↦ absurd (far lt)
+  | inr le ↦ rw more.1 le
+]
 
 -- it has come so far
 pub reached : {S : Type 0} (until : Until) (turn : Key) (places : List (Option (Goroutine S))) (v : SharedValue) (last : Option Event) → IsFar until v.events turn → IsNotPast until v last → least (keys clock_of 0 places) ≡ Some turn → IsReached until places v

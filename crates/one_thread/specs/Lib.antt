@@ -1,3 +1,4 @@
+pub mod Histories
 pub mod Places
 pub mod Snapshots
 pub mod Steps

@@ -1,5 +1,5 @@
 -- A run that was stopped at a moment.
-use Rattle.std.specs.Prelude.{◌≡◌, ◌⊎◌, ℕ, ◌+◌, ◌<◌, ◌≤◌, List, [], ◌∷◌, Option, Some, None}
+use Rattle.std.specs.Prelude.{◌≡◌, ℕ, ◌<◌, ◌≤◌, List, [], ◌∷◌, Option, Some, None}
 use Rattle.logical_clock.specs.declared.key.Key.{Key}
 use Rattle.logical_clock.specs.Order.{keys, least}
 use Rattle.reference_world.specs.Deeds.{SharedValue}
@@ -39,11 +39,6 @@ module _ {S : Type 0} (K : GoroutineKind) (held : S → K.State) where
   IsSeen limit places v last (Some (Panicked cause)) = IsMomentAt limit places v last (Some (Panicked cause))
   IsSeen limit places v last None = IsMomentAt limit places v last None
 
-  -- a move led to this moment, or to this end
-  abbrev pub Leads : ℕ → List (Option (Goroutine S)) → SharedValue → Option Event → Option Ending → Type 0
-  Leads limit places v last None = IsMoment limit places v last
-  Leads limit places v last (Some end) = IsSeen limit places v last (Some end)
-
 -- a run has come so far, after this many events, before this turn
 abbrev pub IsFar : Until → ℕ → Key → Type 0
 IsFar (untils.Event n) events turn = n ≤ events
@@ -59,8 +54,3 @@ abbrev pub IsNotPast : Until → SharedValue → Option Event → Type 0
 IsNotPast (untils.Event n) v last = v.events ≤ n
 IsNotPast (untils.Clock c) v None = Unit {0}
 IsNotPast (untils.Clock c) v (Some e) = e.clock ≤ c
-
--- there was an event at this clock, which is the last one now, or there was none
-abbrev pub Counts : ℕ → SharedValue → Option Event → SharedValue → Option Event → Type 0
-Counts clock old before new last =
-    ((new.events ≡ old.events) × (last ≡ before)) ⊎ ((new.events ≡ old.events + 1) × ((e : Event) × (last ≡ Some e) × (e.clock ≡ clock)))

@@ -4,6 +4,7 @@
 
 mod ending;
 mod goroutine;
+mod history;
 mod interpreter;
 mod move_kind;
 mod places;
@@ -12,6 +13,7 @@ mod snapshot;
 
 pub use ending::{Ended, last_moment};
 pub use goroutine::Goroutine;
+pub use history::{OpenRun, next_event, open_run};
 pub use interpreter::{Interpreter, Step};
 pub use running::run;
 pub use snapshot::{Snapshot, Until, run_until};

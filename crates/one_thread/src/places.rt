@@ -1,6 +1,6 @@
 //! All goroutines, goroutine n at place n.
 
-ghost use Rattle.std.specs.Prelude.{◌≡◌, ℕ, ◌^◌, ◌≤◌, ◌∷◌, ◌++◌, [], None, OnOk, Some, IfOk, slice_set};
+ghost use Rattle.std.specs.Prelude.{◌≡◌, ℕ, ◌^◌, ◌≤◌, ◌∷◌, ◌++◌, [], IfNone, IfSome, None, OnOk, Some, IfOk, slice_index_or, slice_set};
 ghost use Rattle.logical_clock.specs.Order.{keys, least};
 ghost use Rattle.word.specs.Kinds.{Clocked, told};
 ghost use Rattle.word.specs.Related.{kind_of};
@@ -69,6 +69,17 @@ impl<S: Drop> Places<S> {
         note(&mut self.keys, place, key_of(&goroutine, place));
         self.all.push_reserved(Some(goroutine));
         Ok(())
+    }
+
+    /// The goroutine at this place, if there is one.
+    pub(crate) fn get(&self, place: usize) -> Option<&Goroutine<S>>
+        ensures none { IfNone result (slice_index_or self.now place None ≡ None) }
+        ensures some { IfSome result (λ goroutine. slice_index_or self.now place None ≡ Some goroutine.now) }
+    {
+        match self.all.get(place) {
+            Some(Some(goroutine)) => Some(goroutine),
+            _ => None,
+        }
     }
 
     /// All goroutines, without their keys.

@@ -13,8 +13,9 @@ use Rattle.word.specs.declared.end.End.{End as Ending}
 use Rattle.word.specs.declared.request.Event.{Event as Recorded}
 use Rattle.word.specs.Values.{Event}
 use Rattle.word.specs.Views.{event_of}
-use Rattle.recorder.specs.Recorded.{AreNext, AreRest, Comes, EndsAfter, HasRecorded, IsLater, Moves}
-use Rattle.recorder.proofs.First.{next_all, next_later, next_more}
+use Rattle.event_window.specs.Windows.{AreNext, AreRest, Moves}
+use Rattle.event_window.proofs.First.{next_all, next_later, next_more, one_longer}
+use Rattle.recorder.specs.Recorded.{Comes, EndsAfter, HasRecorded, IsLater}
 
 pub opened : (code : Code) (limit : ℕ) (traces : Bool) (d : Desk) → d ≡ opened_desk code limit traces → HasRecorded d.code d.limit d 0 []
 opened code limit traces d is = subst (λ (e : Desk). HasRecorded e.code e.limit e 0 []) (sym is) (record { code = refl; limit = refl; counted = refl; next = ([], refl, (0, refl)) })
@@ -55,9 +56,6 @@ cond_events false c rows = refl
 
 pub brought_later : (old mid : Desk) (l : Held) → IsLater old mid 0 → IsLater old (brought mid l) 0
 brought_later old mid l m = record { code = m.code; limit = m.limit; events = cond_events (is_some mid.core.ending) mid.core _ ∙ m.events }
-
-pub one_longer : {A : Type 0} (xs : List A) (x : A) → length (xs ++ x ∷ []) ≡ length xs + 1
-one_longer xs x = length-append xs (x ∷ [])
 
 module _ (code : Code) (limit before : ℕ) (old new : Desk) (events : List Recorded) (settled : Settled) (kept : HasRecorded code limit old before events) (comes : Comes old settled new) where
   abbrev seen : List Event
@@ -117,16 +115,3 @@ pub taken : (code : Code) (limit before later : ℕ) (old new : Desk) (events le
     → Moves before (events ++ event ∷ []) later left → HasRecorded code limit new later left
 taken code limit before later old new events left settled event kept comes is moves =
     moved code limit before later new (events ++ event ∷ []) left (committed code limit before old new events settled kept comes event is) moves
-
-none_there : (items : List Recorded) → length items ≡ 0 → items ≡ []
-none_there [] e = refl
-none_there (x ∷ xs) e = absurd cc
-
-none_yet : (before skip : ℕ) (items : List Recorded) → before < skip → (before ≡ skip) ⊎ ((before ≤ skip) × (items ≡ [])) → length items ≡ 0
-none_yet before skip items less (inl same) = omega (arith, less, same)
-none_yet before skip items less (inr none) = ap length none.1
-
--- one of the first events goes into the past
-pub first_goes : (before skip : ℕ) (items : List Recorded) (event : Recorded) → before < skip → (before ≡ skip) ⊎ ((before ≤ skip) × (items ≡ [])) → Moves before (items ++ event ∷ []) (before + 1) items
-first_goes before skip items event less begins =
-    subst (λ (xs : List Recorded). Moves before (xs ++ event ∷ []) (before + 1) xs) (sym (none_there items (none_yet before skip items less begins))) (event ∷ [], refl, refl)

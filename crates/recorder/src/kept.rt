@@ -1,137 +1,21 @@
-//! The events that are kept of a run, and what the events before them leave.
+//! The events of a book's run.
 
-ghost use Rattle.std.specs.Prelude.{◌≡◌, ◌+◌, ◌≤◌, ◌<◌, ◌⊎◌, ◌∷◌, ◌++◌, [], IfNone, IfOk, IfSome, IsTrue, OnOk, Some, length, map};
+ghost use Rattle.std.specs.Prelude.{◌≡◌, ◌≤◌, ◌⊎◌, [], IfNone, IfOk, IfSome, IsTrue, OnOk, length, map};
 ghost use Rattle.std.specs.Option.{is_some};
 ghost use Rattle.bytecode.specs.Machine.{code_kind};
+ghost use Rattle.event_window.specs.Windows.{AreNext, AreRest};
 ghost use Rattle.word.specs.Views.{event_of};
-ghost use Rattle.recorder.specs.Recorded.{AreNext, AreRest, Comes, HasRecorded, IsLater, Moves};
+ghost use Rattle.recorder.specs.Recorded.{Comes, HasRecorded, IsLater};
 
 use book::{Book, BookName, Settled};
+use event_window::{Kept, Latest};
 use go_text::Memory;
 use std::alloc::Global;
-use std::collections::VecDeque;
-use timeline::{Lanes, Recording, Site};
-use word::end::End;
+use timeline::Site;
 use word::request::{Event, EventOutcome, Request};
 
 /// How many local steps a goroutine makes before it is checked whether the next event is there.
 const QUANTUM: u32 = 65_536;
-
-/// Events of a run that follow each other.
-pub(crate) struct Kept {
-    /// How many events the run had before these.
-    pub before: u64,
-    /// What those left.
-    pub past: Lanes,
-    pub events: Vec<Event>,
-    /// For each event, the instruction that made its request, if it is known.
-    pub sites: Vec<Option<Site>>,
-    /// How the run ended, if it had no more events.
-    pub end: Option<End>,
-}
-
-impl Drop for Kept {
-    fn drop(self) {
-        let Kept {
-            before: _,
-            past,
-            events,
-            sites,
-            end: _,
-        } = self;
-        drop(past);
-        drop(events);
-        drop(sites);
-    }
-}
-
-impl Kept {
-    /// Takes an event: of the first `skip` of the run it goes into the past.
-    fn take(&mut self, event: Event, site: Option<Site>, skip: u64) -> Result<(), Memory>
-        requires begins { (self.old.before ≡ skip) ⊎ ((self.old.before ≤ skip) × (self.old.events.items ≡ [])) }
-        ensures moves { OnOk result (Moves self.old.before (self.old.events.items ++ event ∷ []) self.new.before self.new.events.items) }
-        ensures begins { OnOk result ((self.new.before ≡ skip) ⊎ ((self.new.before ≤ skip) × (self.new.events.items ≡ []))) }
-        ensures skips { OnOk result (self.old.before < skip → self.new.events.items ≡ []) }
-        ensures more { OnOk result (length self.new.events.items ≤ length self.old.events.items + 1) }
-        ensures end { self.new.end ≡ self.old.end }
-    {
-        if self.before < skip {
-            self.past.take(&event, site)?;
-            self.before += 1;
-            return Ok(());
-        }
-        self.sites.push(site)?;
-        self.events.push(event)?;
-        Ok(())
-    }
-
-    /// The run has ended.
-    fn ended(self, end: End) -> Kept
-        ensures { (result.before ≡ self.before) × (result.events.items ≡ self.events.items) × (result.end ≡ Some end) }
-    {
-        let Kept {
-            before,
-            past,
-            events,
-            sites,
-            end: _,
-        } = self;
-        Kept {
-            before,
-            past,
-            events,
-            sites,
-            end: Some(end),
-        }
-    }
-
-    /// The recording of these events, of a program whose functions have these names. No lines are known.
-    pub(crate) fn recording(self, alloc: Global, functions: Vec<String>) -> Recording
-        ensures { (result.before ≡ self.before) × (result.events.items ≡ self.events.items) × (result.end ≡ self.end) }
-    {
-        let Kept {
-            before,
-            past,
-            events,
-            sites,
-            end,
-        } = self;
-        Recording {
-            functions,
-            before,
-            past,
-            events,
-            sites,
-            lines: Vec::new(alloc),
-            end,
-        }
-    }
-}
-
-/// The last events of a run, up to some event, and what there was before them.
-pub(crate) struct Latest {
-    /// How many events the run had before these.
-    pub before: u64,
-    /// What those left.
-    pub past: Lanes,
-    pub events: VecDeque<Event>,
-    /// For each event, the instruction that made its request, if it is known.
-    pub sites: VecDeque<Option<Site>>,
-}
-
-impl Drop for Latest {
-    fn drop(self) {
-        let Latest {
-            before: _,
-            past,
-            events,
-            sites,
-        } = self;
-        drop(past);
-        drop(events);
-        drop(sites);
-    }
-}
 
 /// Commits `skip` events of a book that has committed none, and keeps the next ones, at most `most`.
 #[tactic(auto, using(crate::proofs::Books::taken, crate::proofs::Books::waiting, crate::proofs::Books::all_there))]
@@ -148,13 +32,7 @@ pub(crate) fn keep_from<B: BookName>(
     ensures few { IfOk result (λ kept. length kept.events.items ≤ most) }
     ensures cut { IfOk result (λ kept. IfNone kept.end (most ≤ length kept.events.items)) }
 {
-    let mut kept = Kept {
-        before: 0,
-        past: Lanes::new(alloc)?,
-        events: Vec::new(alloc),
-        sites: Vec::new(alloc),
-        end: None,
-    };
+    let mut kept = Kept::new(alloc)?;
     'rounds: for _ in 0..u128::MAX {
         if kept.before >= skip && kept.events.len() >= most {
             return Ok(kept);
@@ -185,12 +63,7 @@ pub(crate) fn keep_last<B: BookName>(
     ensures few { IfOk result (λ kept. length kept.events.items ≤ most) }
     ensures ends { IfOk result (λ kept. IsTrue (is_some kept.end)) }
 {
-    let mut latest = Latest {
-        before: 0,
-        past: Lanes::new(alloc)?,
-        events: VecDeque::new(alloc),
-        sites: VecDeque::new(alloc),
-    };
+    let mut latest = Latest::new(alloc)?;
     'rounds: for _ in 0..u128::MAX {
         match next(book)? {
             Settled::Committed(event) => {
@@ -202,49 +75,6 @@ pub(crate) fn keep_last<B: BookName>(
         }
     }
     Err(Memory)
-}
-
-impl Latest {
-    /// Appends an event: of more than `most` the first one goes into the past.
-    fn push(&mut self, event: Event, site: Option<Site>, most: usize) -> Result<(), Memory>
-        requires few { length self.old.events.items ≤ most }
-        requires full { (self.old.before ≡ 0) ⊎ (length self.old.events.items ≡ most) }
-        ensures moves { OnOk result (Moves self.old.before (self.old.events.items ++ event ∷ []) self.new.before self.new.events.items) }
-        ensures few { OnOk result (length self.new.events.items ≤ most) }
-        ensures full { OnOk result ((self.new.before ≡ 0) ⊎ (length self.new.events.items ≡ most)) }
-    {
-        self.events.push_back(event)?;
-        self.sites.push_back(site)?;
-        if self.events.len() <= most {
-            return Ok(());
-        }
-        let Some(oldest) = self.events.pop_front() else {
-            return Ok(());
-        };
-        let site = self.sites.pop_front().flatten();
-        self.past.take(&oldest, site)?;
-        self.before = self.before.checked_add(1).ok_or(Memory)?;
-        Ok(())
-    }
-
-    /// The run has ended.
-    fn ended(self, end: End) -> Kept
-        ensures { (result.before ≡ self.before) × (result.events.items ≡ self.events.items) × (result.end ≡ Some end) }
-    {
-        let Latest {
-            before,
-            past,
-            events,
-            sites,
-        } = self;
-        Kept {
-            before,
-            past,
-            events: events.into_vec(),
-            sites: sites.into_vec(),
-            end: Some(end),
-        }
-    }
 }
 
 /// The instruction that made the request of the event that the book has just committed; none of an end.

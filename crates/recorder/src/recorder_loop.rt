@@ -5,11 +5,13 @@ ghost use Rattle.std.specs.Arc.{arc_value};
 ghost use Rattle.bytecode.specs.Machine.{code_kind};
 ghost use Rattle.clock_table.specs.Seats.{table_of};
 ghost use Rattle.word.specs.Views.{event_of};
-ghost use Rattle.recorder.specs.Recorded.{AreNext, AreRest, HasRecorded, Shows};
+ghost use Rattle.event_window.specs.Windows.{AreNext, AreRest, Shows};
+ghost use Rattle.recorder.specs.Recorded.{HasRecorded};
 
-use crate::kept::{Kept, keep_from, keep_last};
+use crate::kept::{keep_from, keep_last};
 use book::{Blank, Book, BookName};
 use bytecode::Code;
+use event_window::Kept;
 use go_text::{Fault, Memory};
 use std::alloc::{AllocError, Global};
 use std::marker::Brand;

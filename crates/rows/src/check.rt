@@ -1,6 +1,6 @@
 //! What a file tells of its text, and whether that comes of it.
 
-use crate::reading::{explained, listing, picture, recorded_lines};
+use crate::reading::{explained, listing, paused_picture, picture, recorded_lines};
 use crate::run::{Ran, check_paused, check_runs};
 use go_text::Fault;
 use pauses::{Plan, PlanError};
@@ -101,14 +101,29 @@ fn check_row<R: Files + AllocGlobal + Threads + Wait + Sync>(
 }
 
 /// Sees whether a text has the events that its `.trace` tells: those that are settled on one thread, and those that a run writes,
-/// with each number of workers of its row.
+/// with each number of workers of its row. Beside a plan it is the trace of the run by that plan.
 fn check_trace<R: Files + AllocGlobal + Threads + Wait + Sync>(
     rt: &R,
     file: &RowFile<'_>,
 ) -> Result<(), Flaw> {
     let text = file.text(rt)?;
     let wanted = file.bytes(rt)?;
-    check_events(rt, file, &text, &wanted)
+    match plan(rt, file)? {
+        Some(plan) => check_paused_trace(rt.alloc(), &text, &plan, file.row(rt)?.limit, &wanted),
+        None => check_events(rt, file, &text, &wanted),
+    }
+}
+
+/// Sees whether the run of a text by a plan writes these events.
+fn check_paused_trace(
+    alloc: Global,
+    text: &[u8],
+    plan: &Plan,
+    limit: u64,
+    wanted: &[u8],
+) -> Result<(), Flaw> {
+    let ran = Ran::traced(alloc, text, plan, limit)?;
+    same_lines(alloc, "the trace (--pauses)", wanted, &ran.trace)
 }
 
 /// Sees whether a text has these events, up to the limit of its row.
@@ -153,7 +168,7 @@ fn check_made<R: Files + AllocGlobal>(rt: &R, file: &RowFile<'_>, made: Made) ->
     same_lines(rt.alloc(), name_of(made), &wanted, &came)
 }
 
-/// What is made of a file's text: of its run, up to the limit of its row.
+/// What is made of a file's text: of its run, up to the limit of its row. A picture beside a plan is that of the run by the plan.
 fn made_of<R: Files + AllocGlobal>(
     rt: &R,
     file: &RowFile<'_>,
@@ -161,7 +176,15 @@ fn made_of<R: Files + AllocGlobal>(
 ) -> Result<Vec<u8>, Flaw> {
     let row = file.row(rt)?;
     let text = file.text(rt)?;
-    made_up_to(rt.alloc(), made, file.text_name(), &text, row.limit)
+    match (made, plan(rt, file)?) {
+        (Made::Drawing, Some(plan)) => {
+            paused_picture(rt.alloc(), &text, &plan, row.limit, Format::Drawing)
+        }
+        (Made::TraceEvents, Some(plan)) => {
+            paused_picture(rt.alloc(), &text, &plan, row.limit, Format::TraceEvents)
+        }
+        _ => made_up_to(rt.alloc(), made, file.text_name(), &text, row.limit),
+    }
 }
 
 /// What is made of a text of this name: of its run, up to this limit.

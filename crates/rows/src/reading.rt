@@ -4,9 +4,11 @@ use diagnostic::explanations;
 use go_text::Fault;
 use kendo_code::{list_bytes, timeline_bytes};
 use kendo_front::{explain_end, reference_bytes};
+use paused_timeline::timeline_paused;
+use pauses::Plan;
 use row_format::flaw::Flaw;
 use std::alloc::Global;
-use timeline::Format;
+use timeline::{Format, Window};
 use tracer::line;
 use word::Flagged;
 use word::end::End;
@@ -35,6 +37,21 @@ pub(crate) fn picture(
 ) -> Result<Vec<u8>, Flaw> {
     let bytes = Vec::from_slice(alloc, text)?;
     let recording = timeline_bytes(alloc, bytes, limit, format.most_events())?;
+    let picture = format.picture(alloc, &recording).map_err(Fault::from)?;
+    Ok(picture.into_bytes())
+}
+
+/// The picture of the run of a text by a plan, up to this limit.
+pub(crate) fn paused_picture(
+    alloc: Global,
+    text: &[u8],
+    plan: &Plan,
+    limit: u64,
+    format: Format,
+) -> Result<Vec<u8>, Flaw> {
+    let bytes = Vec::from_slice(alloc, text)?;
+    let most = format.most_events();
+    let recording = timeline_paused(alloc, bytes, plan, limit, Window::First, most)?;
     let picture = format.picture(alloc, &recording).map_err(Fault::from)?;
     Ok(picture.into_bytes())
 }

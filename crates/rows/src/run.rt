@@ -2,7 +2,7 @@
 
 use go_text::Fault;
 use kendo_base::{Gate, run_bytes};
-use kendo_front::{paused_bytes, reference_bytes};
+use kendo_front::{paused_bytes, reference_bytes, traced_bytes};
 use kendo_reading::check_bytes;
 use kendo_report::report;
 use pauses::Plan;
@@ -70,6 +70,15 @@ impl Ran {
         let mut out = Flagged::new(Vec::new(alloc));
         let outcome = paused_bytes(alloc, bytes, plan, limit, &mut out);
         Ran::told(alloc, outcome, out.into_inner(), Vec::new(alloc))
+    }
+
+    /// The same, with its trace.
+    pub(crate) fn traced(alloc: Global, text: &[u8], plan: &Plan, limit: u64) -> Result<Ran, Flaw> {
+        let bytes = Vec::from_slice(alloc, text)?;
+        let mut out = Flagged::new(Vec::new(alloc));
+        let mut trace = Flagged::new(Vec::new(alloc));
+        let outcome = traced_bytes(alloc, bytes, plan, limit, &mut out, &mut trace);
+        Ran::told(alloc, outcome, out.into_inner(), trace.into_inner())
     }
 
     /// What came of a run, with the line and the status that tell it.
@@ -164,7 +173,7 @@ pub(crate) fn check_runs<R: Threads + Wait + Sync>(
     Ok(())
 }
 
-/// Runs a text by a plan, and compares what comes of it.
+/// Runs a text by a plan, without and with its trace, and compares what comes of it.
 pub(crate) fn check_paused(
     alloc: Global,
     text: &[u8],
@@ -173,7 +182,9 @@ pub(crate) fn check_paused(
     output: &[u8],
 ) -> Result<(), Flaw> {
     let ran = Ran::paused(alloc, text, plan, row.limit)?;
-    ran.check(alloc, row, output, "--pauses")
+    ran.check(alloc, row, output, "--pauses")?;
+    let traced = Ran::traced(alloc, text, plan, row.limit)?;
+    traced.check(alloc, row, output, "--pauses --trace")
 }
 
 /// Runs a text with so many workers, and compares what comes of it.

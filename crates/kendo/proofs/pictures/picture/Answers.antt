@@ -1,6 +1,6 @@
 use Rattle.std.proofs.Common.{refl}
 use Rattle.std.proofs.lemmas.Result.{err_from_is_err_and}
-use Rattle.kendo_shell.proofs.Findings.{limit_ended, picture_loses, read_of, timeline_stops}
+use Rattle.kendo_shell.proofs.Findings.{limit_ended, picture_loses, timeline_stops}
 use Rattle.kendo.proofs.pictures.picture.Goals as goal
 
 pub returns-in_err-recording : goal.returns-in_err-recording
@@ -13,9 +13,9 @@ pub returns-in_err-show : goal.returns-in_err-show
 returns-in_err-show c =
     let p = err_from_is_err_and c.from_residual-in_err-show.result c.from_residual-in_err-show.ensures.1 in
     let made = c.in_ok-recording.ensures in
-    rw (p.1, p.2) (picture_loses c.args.limit c.args.bytes.items _ c.in_err-show.ensures (limit_ended c.args.limit _ made.limit) (read_of c.args.bytes.items made.recorded))
+    rw (p.1, p.2) (picture_loses c.args.limit c.args.bytes.items _ c.in_err-show.ensures (limit_ended c.args.limit _ made.limit) made.reads)
 
 pub returns : goal.returns
 returns c =
     let made = c.in_ok-recording.ensures in
-    (refl, limit_ended c.args.limit _ made.limit, read_of c.args.bytes.items made.recorded)
+    (refl, limit_ended c.args.limit _ made.limit, made.reads)
