@@ -1,10 +1,13 @@
-//! Compares runs of the programs of `data` with the traces of `data`, `NAME.CASE.trace` with the run of `NAME.go`, goroutine by goroutine
-//! and byte by byte, and prints what is told of each.
+//! Compares runs of the programs of `data` with the traces of `data`, `NAME.CASE.trace` with the run of `NAME.go`, by the plan
+//! `NAME.CASE.pauses` if there is one, goroutine by goroutine and byte by byte, and prints what is told of each.
 #![tactic(auto)]
 
+use go_text::Fault;
 use kendo_compare::{
     Program, Recorded, TraceError, Traced, check_trace, compare_traces, run_against,
+    run_paused_against,
 };
+use pauses::Plan;
 use row_format::folder::names;
 use std::alloc::Global;
 use std::io::Write;
@@ -12,25 +15,49 @@ use std::sync::Wait;
 use std::thread::Threads;
 use std::{fs, io};
 use word::Flagged;
+use word::end::End;
 
 /// The clock limit.
 const LIMIT: u64 = 100_000;
 
 fn main(rt: HostRuntime) -> io::Result<()> {
-    for name in names(&rt, ".")?.iter() {
-        if name.as_str().ends_with(".trace") {
-            compare(&rt, &rt, name.as_str())?;
+    let names = names(&rt, ".")?;
+    for name in names.iter() {
+        if let Some((case, "trace")) = name.as_str().rsplit_once('.') {
+            let plan = plan_of(&rt, names.as_slice(), case)?;
+            compare(&rt, &rt, name.as_str(), plan.as_ref())?;
         }
     }
     Ok(())
 }
 
+/// The plan of a case, if it has one.
+fn plan_of(rt: &HostRuntime, names: &[String], case: &str) -> io::Result<Option<Plan>> {
+    let path = format!(in rt.alloc(); "{case}.pauses")?;
+    if !names.iter().any(|name| name.as_str() == path.as_str()) {
+        return Ok(None);
+    }
+    let bytes = fs::read(rt, path.as_str())?;
+    match Plan::read(rt.alloc(), bytes.as_slice()) {
+        Ok(plan) => Ok(Some(plan)),
+        Err(_) => {
+            println!(rt; "broken plan {path}")?;
+            Ok(None)
+        }
+    }
+}
+
 /// Compares a run with a trace in both ways.
-fn compare(rt: &HostRuntime, threads: &(impl Threads + Wait + Sync), name: &str) -> io::Result<()> {
+fn compare(
+    rt: &HostRuntime,
+    threads: &(impl Threads + Wait + Sync),
+    name: &str,
+    plan: Option<&Plan>,
+) -> io::Result<()> {
     let bytes = fs::read(rt, name)?;
     println!(rt; "{name}")?;
     match check_trace(rt.alloc(), bytes.as_slice()) {
-        Ok(()) => compare_trace(rt, threads, name, bytes.as_slice()),
+        Ok(()) => compare_trace(rt, threads, name, bytes.as_slice(), plan),
         Err(TraceError::Broken(line)) => println!(rt; "broken at line {line}"),
         Err(TraceError::Memory) => println!(rt; "13 Memory"),
     }
@@ -42,6 +69,7 @@ fn compare_trace(
     threads: &(impl Threads + Wait + Sync),
     name: &str,
     bytes: &[u8],
+    plan: Option<&Plan>,
 ) -> io::Result<()> {
     let stem = match name.split_once('.') {
         Some((stem, _)) => stem,
@@ -52,6 +80,7 @@ fn compare_trace(
     let program = Program {
         path: path.as_str(),
         bytes: text.as_slice(),
+        plan,
         limit: LIMIT,
     };
     for is_strict in [false, true] {
@@ -74,23 +103,27 @@ fn compare_in_one_way(
 ) -> io::Result<()> {
     let alloc = rt.alloc();
     let mut traced = Traced::new(alloc);
-    let mut output = Flagged::new(Vec::new(alloc));
-    let text = Vec::from_slice(alloc, program.bytes)?;
-    let outcome = run_against(
-        threads,
-        alloc,
-        text,
-        2,
-        program.limit,
-        recorded.bytes,
-        &mut output,
-        &mut traced,
-    );
-    drop(output);
-    if let Err(fault) = outcome {
+    if let Err(fault) = run(threads, alloc, program, recorded, &mut traced) {
         return println!(rt; "{fault}");
     }
     print(rt, alloc, program, recorded, &traced)
+}
+
+/// Runs a program, by its plan if it has one.
+fn run(
+    threads: &(impl Threads + Wait + Sync),
+    alloc: Global,
+    program: &Program<'_>,
+    recorded: &Recorded<'_>,
+    traced: &mut Traced,
+) -> Result<End, Fault> {
+    let text = Vec::from_slice(alloc, program.bytes)?;
+    let mut output = Flagged::new(Vec::new(alloc));
+    let (limit, bytes) = (program.limit, recorded.bytes);
+    match program.plan {
+        Some(plan) => run_paused_against(alloc, text, plan, limit, bytes, &mut output, traced),
+        None => run_against(threads, alloc, text, 2, limit, bytes, &mut output, traced),
+    }
 }
 
 /// Prints what is told of a comparison.

@@ -8,11 +8,13 @@ use command_line::arguments::{Invocation, Subcommand};
 use go_text::{Fault, Memory};
 use kendo_compare::{
     Program, Recorded, TraceError, Traced, check_trace, compare_traces, run_against,
+    run_paused_against,
 };
 use kendo_shell::USAGE;
 use kendo_shell::files::{all_bytes, opened};
 use kendo_shell::streams::{tell, told};
 use kendo_shell::tracing::{Outputs, Trace};
+use pauses::Plan;
 use std::alloc::Global;
 use std::sync::Wait;
 use std::thread::Threads;
@@ -21,13 +23,15 @@ use word::end::End;
 /// The exit status if a run is not the recorded one.
 const OTHER: u8 = 8;
 
-/// Runs the program of a file, and reports on standard error how its run compares with the trace in the file at `path`.
+/// Runs the program of a file, by the plan if one is named, and reports on standard error how its run compares with the trace in the
+/// file at `path`.
 #[tactic(auto, using(kendo_shell::proofs::Findings::explored))]
 pub(crate) fn compare_file(
     rt: &HostRuntime,
     threads: &(impl Threads + Wait + Sync),
     alloc: Global,
     invocation: &Invocation<'_, '_>,
+    plan: &Plan,
     path: &str,
     file: &str,
 ) -> Result<u8, Memory>
@@ -51,19 +55,16 @@ pub(crate) fn compare_file(
         threads,
         alloc,
         invocation,
+        plan,
         bytes,
         recorded.bytes,
         &mut outputs,
         &mut traced,
     );
     let status = told(rt, alloc, None, &outcome)?;
-    let kept = kept_program(alloc, invocation, file, None, text.as_slice());
+    let kept = kept_program(alloc, invocation, file, Some(plan), text.as_slice());
     explain(rt, alloc, invocation, kept, outcome, outputs.refused());
-    let program = Program {
-        path: file,
-        bytes: text.as_slice(),
-        limit: limit_of(invocation),
-    };
+    let program = program_of(invocation, plan, file, text.as_slice());
     let is_same = compare(rt, alloc, &program, &recorded, &outcome, &traced)?;
     let status = status_of(invocation, &outcome, is_same, status);
     Ok(status)
@@ -110,11 +111,23 @@ fn refuse(
     Ok(())
 }
 
-/// The limit of a run.
-fn limit_of(invocation: &Invocation<'_, '_>) -> u64 {
-    match invocation.subcommand {
-        Subcommand::Run { limit, .. } => limit,
-        _ => 0,
+/// The program whose run is compared, which is the text of a file.
+fn program_of<'p>(
+    invocation: &Invocation<'_, '_>,
+    plan: &'p Plan,
+    path: &'p str,
+    bytes: &'p [u8],
+) -> Program<'p> {
+    let (plan, limit) = match invocation.subcommand {
+        Subcommand::Run { limit, .. } => (None, limit),
+        Subcommand::Paused { limit } => (Some(plan), limit),
+        _ => (None, 0),
+    };
+    Program {
+        path,
+        bytes,
+        plan,
+        limit,
     }
 }
 
@@ -123,6 +136,7 @@ fn find(
     threads: &(impl Threads + Wait + Sync),
     alloc: Global,
     invocation: &Invocation<'_, '_>,
+    plan: &Plan,
     bytes: Vec<u8>,
     recorded: &[u8],
     outputs: &mut Outputs,
@@ -136,6 +150,15 @@ fn find(
             alloc,
             bytes,
             workers,
+            limit,
+            recorded,
+            &mut outputs.standard,
+            traced,
+        ),
+        Subcommand::Paused { limit } => run_paused_against(
+            alloc,
+            bytes,
+            plan,
             limit,
             recorded,
             &mut outputs.standard,
@@ -172,7 +195,7 @@ fn status_of(
     ensures { (result ≡ status) ⊎ IsVerdict invocation.now.subcommand outcome.now result }
 {
     match (invocation.subcommand, outcome) {
-        (Subcommand::Run { .. }, Ok(_)) if !is_same => OTHER,
+        (Subcommand::Run { .. } | Subcommand::Paused { .. }, Ok(_)) if !is_same => OTHER,
         _ => status,
     }
 }

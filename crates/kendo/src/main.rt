@@ -103,9 +103,6 @@ fn conflict(invocation: &Invocation<'_, '_>) -> Option<&'static [u8]> {
     if invocation.from.is_some() && invocation.last.is_some() {
         return Some(b"kendo: --from and --last can't be used together\n");
     }
-    if invocation.against.is_some() && invocation.pauses.is_some() {
-        return Some(b"kendo: --against and --pauses can't be used together\n");
-    }
     if invocation.against.is_some() && invocation.trace.is_some() {
         return Some(b"kendo: --against and --trace can't be used together\n");
     }
@@ -150,7 +147,7 @@ fn perform_on(
         return explore_file(rt, alloc, invocation, file);
     }
     if let Some(path) = invocation.against {
-        return compare_file(rt, threads, alloc, invocation, path, file);
+        return compare_file(rt, threads, alloc, invocation, plan, path, file);
     }
     match opened(rt, alloc, invocation, file, name_of(invocation, file))? {
         Some((bytes, trace)) => answer(rt, threads, alloc, invocation, plan, file, bytes, trace),

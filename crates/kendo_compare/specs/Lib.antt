@@ -1,1 +1,2 @@
+pub mod Goroutines
 pub mod Traces

@@ -1,10 +1,14 @@
 //! The lines that report how a run compares with a recorded trace.
 
-ghost use Rattle.std.specs.Prelude.{◌≡◌, IfOk, true};
+ghost use Rattle.std.specs.Prelude.{◌≡◌, IfOk, List, MatchResult, false, true};
+ghost use Rattle.kendo_compare.specs.Goroutines.{AreCompared};
+ghost use Rattle.trace_comparison.specs.Requests.{Event, events_of};
+ghost use Rattle.trace_comparison.specs.Texts.{IsTrace, IsWhy};
 
 use crate::comparing::Traced;
 use crate::report::Report;
 use go_text::Memory;
+use pauses::Plan;
 use std::alloc::Global;
 use trace_comparison::{Comparison, Trace, TraceError, compare};
 
@@ -24,6 +28,8 @@ pub struct Program<'p> {
     /// The path of its file, as it was typed.
     pub path: &'p str,
     pub bytes: &'p [u8],
+    /// The plan by which it is run, if its run has one.
+    pub plan: Option<&'p Plan>,
     /// The clock limit of the run.
     pub limit: u64,
 }
@@ -39,7 +45,9 @@ pub struct Compared {
 /// Sees whether bytes are a trace.
 ///
 /// Errors: the first line that is broken, or out of memory.
-pub fn check_trace(alloc: Global, bytes: &[u8]) -> Result<(), TraceError> {
+pub fn check_trace(alloc: Global, bytes: &[u8]) -> Result<(), TraceError>
+    ensures { MatchResult result (λ _. (events : List Event) × IsTrace bytes.now events) (IsWhy bytes.now) }
+{
     let _trace = Trace::read(alloc, bytes)?;
     Ok(())
 }
@@ -53,7 +61,8 @@ pub fn compare_traces(
     recorded: &Recorded<'_>,
     traced: &Traced,
 ) -> Result<Compared, Memory>
-    ensures { IfOk result (λ compared. recorded.now.is_strict ≡ true → compared.is_same ≡ traced.now.is_recorded) }
+    ensures strict { IfOk result (λ compared. recorded.now.is_strict ≡ true → compared.is_same ≡ traced.now.is_recorded) }
+    ensures by_goroutine { IfOk result (λ compared. recorded.now.is_strict ≡ false → AreCompared recorded.now.bytes.now traced.now.lines.items compared.is_same) }
 {
     let was = read(alloc, recorded.bytes)?;
     let run = read(alloc, traced.lines.as_slice())?;
@@ -61,22 +70,52 @@ pub fn compare_traces(
     let is_same = if recorded.is_strict {
         traced.is_recorded
     } else {
-        !matches!(comparison, Comparison::Differs(_))
+        comparison.is_same_by_goroutine()
     };
+    let found = Found {
+        comparison,
+        goroutines,
+        is_same,
+    };
+    let lines = report(alloc, program, recorded, &was, &run, found)?;
+    Ok(Compared { is_same, lines })
+}
+
+/// How a run was found to compare.
+#[derive(Clone, Copy)]
+struct Found {
+    comparison: Comparison,
+    /// How many goroutines the run has.
+    goroutines: usize,
+    is_same: bool,
+}
+
+/// The lines that report how a run compares.
+///
+/// Errors: out of memory.
+fn report(
+    alloc: Global,
+    program: &Program<'_>,
+    recorded: &Recorded<'_>,
+    was: &Trace<'_>,
+    run: &Trace<'_>,
+    found: Found,
+) -> Result<Vec<u8>, Memory> {
     let report = Report {
         alloc,
         program,
         recorded,
         was: was.lines.as_slice(),
         run: run.lines.as_slice(),
-        goroutines,
+        goroutines: found.goroutines,
     };
-    let lines = report.lines(comparison, is_same)?;
-    Ok(Compared { is_same, lines })
+    report.lines(found.comparison, found.is_same)
 }
 
 /// The trace that bytes are.
-fn read<'t>(alloc: Global, bytes: &'t [u8]) -> Result<Trace<'t>, Memory> {
+fn read<'t>(alloc: Global, bytes: &'t [u8]) -> Result<Trace<'t>, Memory>
+    ensures { IfOk result (λ trace. IsTrace bytes.entry.now (events_of trace.lines.items)) }
+{
     match Trace::read(alloc, bytes) {
         Ok(trace) => Ok(trace),
         Err(TraceError::Memory | TraceError::Broken(_)) => Err(Memory),

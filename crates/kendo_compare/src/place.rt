@@ -1,7 +1,9 @@
 //! Where the source makes the request of an event.
 
+use crate::lines::Program;
 use go_text::{Fault, Memory};
 use kendo_code::timeline_window;
+use paused_timeline::timeline_paused;
 use std::alloc::Global;
 use timeline::{Recording, Window};
 
@@ -15,12 +17,11 @@ pub(crate) struct Place {
 }
 
 impl Place {
-    /// The place of an event of the run of a text, counted from 1.
+    /// The place of an event of the run of a program, counted from 1.
     ///
     /// Errors: out of memory.
-    pub(crate) fn of(alloc: Global, text: &[u8], limit: u64, event: u64) -> Result<Place, Memory> {
-        let bytes = Vec::from_slice(alloc, text)?;
-        match timeline_window(alloc, bytes, limit, Window::From(event), 1) {
+    pub(crate) fn of(alloc: Global, program: &Program<'_>, event: u64) -> Result<Place, Memory> {
+        match event_of(alloc, program, Window::From(event)) {
             Ok(recording) => Place::in_recording(&recording),
             Err(Fault::Memory) => Err(Memory),
             Err(_) => Ok(Place::unknown()),
@@ -49,5 +50,14 @@ impl Place {
             function: None,
             line: None,
         }
+    }
+}
+
+/// The first event of a window of the run of a program.
+fn event_of(alloc: Global, program: &Program<'_>, window: Window) -> Result<Recording, Fault> {
+    let bytes = Vec::from_slice(alloc, program.bytes)?;
+    match program.plan {
+        Some(plan) => timeline_paused(alloc, bytes, plan, program.limit, window, 1),
+        None => timeline_window(alloc, bytes, program.limit, window, 1),
     }
 }

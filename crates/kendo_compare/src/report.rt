@@ -128,12 +128,7 @@ impl Report<'_> {
                 said.text("kendo: differs at event ");
                 said.number(event as i128);
                 said.text("\n");
-                Place::of(
-                    self.alloc,
-                    self.program.bytes,
-                    self.program.limit,
-                    event as u64,
-                )
+                Place::of(self.alloc, self.program, event as u64)
             }
             None => {
                 said.text("kendo: differs after event ");

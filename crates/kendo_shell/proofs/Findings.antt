@@ -253,7 +253,8 @@ verdict_is subcommands.List outcome status is = absurd is
 verdict_is (subcommands.Reference limit) outcome status is = absurd is
 verdict_is (subcommands.Timeline limit) outcome status is = absurd is
 verdict_is (subcommands.Inspect limit) outcome status is = absurd is
-verdict_is (subcommands.Paused limit) outcome status is = absurd is
+verdict_is (subcommands.Paused limit) (Ok end) status is = inr (inr (inl is))
+verdict_is (subcommands.Paused limit) (Err fault) status is = absurd is
 verdict_is (subcommands.Run workers limit) (Ok end) status is = inr (inr (inl is))
 verdict_is (subcommands.Run workers limit) (Err fault) status is = absurd is
 

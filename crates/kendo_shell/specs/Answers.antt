@@ -86,6 +86,7 @@ abbrev pub IsVerdict : Subcommand → Result End Fault → ℕ → Type 0
 IsVerdict (subcommands.Explore limit tries states) (Ok end) status = (status ≡ 8) ⊎ (status ≡ 9)
 IsVerdict (subcommands.Test limit tries states) (Ok end) status = status ≡ 1
 IsVerdict (subcommands.Run workers limit) (Ok end) status = status ≡ 8
+IsVerdict (subcommands.Paused limit) (Ok end) status = status ≡ 8
 IsVerdict subcommand outcome status = ⊥
 
 -- the exit status of what the command finds in this program

@@ -7,6 +7,7 @@ ghost use Rattle.one_thread.specs.Histories.{HasHad, IsReady};
 ghost use Rattle.word.specs.Related.{kind_of};
 ghost use Rattle.word.specs.Views.{event_of};
 
+use crate::functions::Functions;
 use crate::sited::{Sited, site_of};
 use event_window::{Kept, Latest};
 use go_text::Memory;
@@ -14,10 +15,11 @@ use one_thread::{Interpreter, OpenRun, next_event};
 use std::alloc::Global;
 use timeline::Window;
 
-/// The events of a window of a run that has had none, and its end if it has no more after them.
+/// The events of a window of a run that has had none, and its end if it has no more after them. The program has these functions.
 pub(crate) fn keep<P: Interpreter>(
     alloc: Global,
     program: &P,
+    functions: &Functions,
     run: &mut OpenRun<P::State>,
     window: Window,
     most: usize,
@@ -33,9 +35,15 @@ where
     ensures cut { IfOk result (λ kept. IfNone kept.end (most ≤ length kept.events.items)) }
 {
     match window {
-        Window::First => keep_from(alloc, program, run, 0, most),
-        Window::From(number) => keep_from(alloc, program, run, number.saturating_sub(1), most),
-        Window::Last(number) => keep_last(alloc, program, run, most.min(number as usize)),
+        Window::First => keep_from(alloc, program, functions, run, 0, most),
+        Window::From(number) => {
+            let skip = number.saturating_sub(1);
+            keep_from(alloc, program, functions, run, skip, most)
+        }
+        Window::Last(number) => {
+            let most = most.min(number as usize);
+            keep_last(alloc, program, functions, run, most)
+        }
     }
 }
 
@@ -43,6 +51,7 @@ where
 fn keep_from<P: Interpreter>(
     alloc: Global,
     program: &P,
+    functions: &Functions,
     run: &mut OpenRun<P::State>,
     skip: u64,
     most: usize,
@@ -65,7 +74,7 @@ where
         let Some(event) = next_event(alloc, program, run)? else {
             return Ok(kept.ended(run.ending()));
         };
-        let site = site_of(run, &event);
+        let site = site_of(functions, run, &event);
         kept.take(event, site, skip)?;
     }
     Err(Memory)
@@ -75,6 +84,7 @@ where
 fn keep_last<P: Interpreter>(
     alloc: Global,
     program: &P,
+    functions: &Functions,
     run: &mut OpenRun<P::State>,
     most: usize,
 ) -> Result<Kept, Memory>
@@ -93,7 +103,7 @@ where
         let Some(event) = next_event(alloc, program, run)? else {
             return Ok(latest.ended(run.ending()));
         };
-        let site = site_of(run, &event);
+        let site = site_of(functions, run, &event);
         latest.push(event, site, most)?;
     }
     Err(Memory)

@@ -12,6 +12,7 @@ ghost use Rattle.syntax.specs.Tree.{File};
 ghost use Rattle.whole_run.specs.Runs.{IsLimit};
 ghost use Rattle.word.specs.Views.{event_of};
 
+use crate::functions::Functions;
 use crate::keeping::keep;
 use checker::Typed;
 use go_text::{Fault, Memory, Source};
@@ -73,20 +74,14 @@ fn recorded(
     ensures cut { IfOk result (λ made. IfNone made.end (most ≤ length made.events.items)) }
 {
     let tree = typed.tree();
-    let functions = names(alloc, tree)?;
-    let lines = lines_of(alloc, source, tree)?;
+    let functions = Functions::new(alloc, tree.file().tops.as_slice())?;
+    let lines = NodeLines::new(alloc, source, tree)?.all(alloc)?;
+    let lines = functions.lines(alloc, lines.as_slice())?;
     let program = Watched::new(alloc, typed)?;
     let paused = Paused { program, plan };
     let mut run = open_run(alloc, &paused, limit)?;
-    let kept = keep(alloc, &paused, &mut run, window, most)?;
-    Ok(kept.recording(alloc, functions).with_lines(lines))
-}
-
-/// The line of each node, as those of one function.
-fn lines_of(alloc: Global, source: &Source, tree: &Tree) -> Result<Vec<Vec<u32>>, Memory> {
-    let mut lines = Vec::new(alloc);
-    lines.push(NodeLines::new(alloc, source, tree)?.all(alloc)?)?;
-    Ok(lines)
+    let kept = keep(alloc, &paused, &functions, &mut run, window, most)?;
+    Ok(kept.recording(alloc, names(alloc, tree)?).with_lines(lines))
 }
 
 /// The names of the functions, each at its number.

@@ -1,5 +1,6 @@
 //! Where in the source the goroutines of a run stand.
 
+use crate::functions::Functions;
 use one_thread::OpenRun;
 use paused_goroutine::PausedState;
 use syntax::NodeId;
@@ -9,25 +10,25 @@ use word::request::{Event, Request};
 
 /// A goroutine that is known to stand at a statement.
 pub(crate) trait Sited {
-    /// The first node of that statement.
+    /// The node of that statement.
     fn node(&self) -> NodeId;
 }
 
 impl<'t> Sited for PausedState<Placed<'t>> {
     fn node(&self) -> NodeId {
-        self.state.trail.site().first
+        self.state.trail.site().node
     }
 }
 
-/// The statement that made the request of the last event of a run; none of an end. It stands where the lines of all nodes are those of
-/// one function.
-pub(crate) fn site_of<S: Sited + Drop>(run: &OpenRun<S>, event: &Event) -> Option<Site> {
+/// The statement that made the request of the last event of a run; none of an end.
+pub(crate) fn site_of<S: Sited + Drop>(
+    functions: &Functions,
+    run: &OpenRun<S>,
+    event: &Event,
+) -> Option<Site> {
     if matches!(&event.request, Request::End | Request::Exit) {
         return None;
     }
     let goroutine = run.goroutine(event.number)?;
-    Some(Site {
-        function: 0,
-        index: goroutine.state.node() as usize,
-    })
+    functions.site(goroutine.state.node())
 }

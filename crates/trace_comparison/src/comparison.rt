@@ -1,8 +1,15 @@
 //! How the trace of a run compares with a recorded one.
 
-use crate::line::TraceLine;
-use crate::numbered::Numbered;
+ghost use Rattle.std.specs.Prelude.{◌≡◌, ◌↔◌, IfOk, IsTrue, List, MatchOption, Some, map};
+ghost use Rattle.std.specs.List.{slice_get};
+ghost use Rattle.trace_comparison.specs.Comparing.{IsComparison, IsDifference, IsFirstOther, part_of};
+ghost use Rattle.trace_comparison.specs.Counting.{ArePlaces, HasGoroutines};
+ghost use Rattle.trace_comparison.specs.Requests.{Event, HaveSameRequests, event_of, events_of};
+
+use crate::line::{Part, TraceLine};
+use crate::places::Places;
 use crate::trace::Trace;
+use crate::unmatched::first_unmatched;
 use std::alloc::{AllocError, Global};
 
 /// How the trace of a run compares with a recorded one. Events are counted from 1.
@@ -16,6 +23,15 @@ pub enum Comparison {
     OtherOrder(usize),
     /// A goroutine has other events.
     Differs(Difference),
+}
+
+impl Comparison {
+    /// Whether each goroutine has the same events, in the same order.
+    pub fn is_same_by_goroutine(self) -> bool
+        ensures { (recorded run : List Event) → IsComparison recorded run self → IsTrue result ↔ HaveSameRequests run recorded }
+    {
+        !matches!(self, Comparison::Differs(_))
+    }
 }
 
 /// The first event that is not the same in both traces. Events are counted from 1.
@@ -37,51 +53,89 @@ pub fn compare(
     alloc: Global,
     recorded: &Trace<'_>,
     run: &Trace<'_>,
-) -> Result<(Comparison, usize), AllocError> {
-    let recorded = Numbered::of(alloc, recorded.lines.as_slice())?;
-    let run = Numbered::of(alloc, run.lines.as_slice())?;
-    let comparison = match first_difference(&recorded, &run) {
+) -> Result<(Comparison, usize), AllocError>
+    ensures compared { IfOk result (λ found. IsComparison (events_of recorded.now.lines.items) (events_of run.now.lines.items) found.0) }
+    ensures counted { IfOk result (λ found. HasGoroutines (events_of run.now.lines.items) found.1) }
+{
+    let recorded = recorded.lines.as_slice();
+    let run = run.lines.as_slice();
+    let places = Places::of(alloc, run)?;
+    let comparison = match first_difference(alloc, recorded, run, &places)? {
         Some(difference) => Comparison::Differs(difference),
-        None => same_events(recorded.lines, run.lines),
+        None => same_requests(recorded, run),
     };
-    Ok((comparison, run.goroutines()))
+    Ok((comparison, places.counts.len()))
 }
 
 /// The first event of a goroutine of the run that is another one in the recorded trace, or else the first recorded one that the run
 /// doesn't have.
-fn first_difference(recorded: &Numbered<'_, '_>, run: &Numbered<'_, '_>) -> Option<Difference> {
-    if let Some(index) = run.first_other(recorded) {
-        let name = run.names.get(index).copied()?;
-        return Some(Difference {
-            event: Some(index.saturating_add(1)),
-            recorded: recorded.index(name).map(|there| there.saturating_add(1)),
-            goroutine: name.goroutine,
-            number: name.number,
-        });
+///
+/// Errors: out of memory.
+fn first_difference(
+    alloc: Global,
+    recorded: &[TraceLine<'_>],
+    run: &[TraceLine<'_>],
+    places: &Places,
+) -> Result<Option<Difference>, AllocError>
+    requires { ArePlaces places.now (events_of run.now) }
+    ensures { IfOk result (λ found. MatchOption found (HaveSameRequests (events_of run.now) (events_of recorded.now)) (IsDifference (events_of recorded.now) (events_of run.now))) }
+{
+    let recorded_places = Places::of(alloc, recorded)?;
+    if let Some(other) = first_unmatched(alloc, run, recorded, &recorded_places)? {
+        return Ok(Some(Difference {
+            event: Some(other.event),
+            recorded: other.there,
+            goroutine: other.goroutine,
+            number: other.number,
+        }));
     }
-    let index = recorded.first_other(run)?;
-    let name = recorded.names.get(index).copied()?;
-    Some(Difference {
-        event: None,
-        recorded: Some(index.saturating_add(1)),
-        goroutine: name.goroutine,
-        number: name.number,
-    })
+    match first_unmatched(alloc, recorded, run, places)? {
+        Some(missing) => Ok(Some(Difference {
+            event: None,
+            recorded: Some(missing.event),
+            goroutine: missing.goroutine,
+            number: missing.number,
+        })),
+        None => Ok(None),
+    }
 }
 
-/// How traces compare of which each goroutine has the same events.
-fn same_events(recorded: &[TraceLine<'_>], run: &[TraceLine<'_>]) -> Comparison {
-    let mut clocks = None;
-    for (index, (one, other)) in run.iter().zip(recorded.iter()).enumerate() {
-        if one.goroutine != other.goroutine || one.request != other.request {
-            return Comparison::OtherOrder(index.saturating_add(1));
-        }
-        if clocks.is_none() && one.line != other.line {
-            clocks = Some(index.saturating_add(1));
+/// How traces compare of which each goroutine has the same requests.
+fn same_requests(recorded: &[TraceLine<'_>], run: &[TraceLine<'_>]) -> Comparison
+    requires { HaveSameRequests (events_of run.now) (events_of recorded.now) }
+    ensures { IsComparison (events_of recorded.now) (events_of run.now) result }
+{
+    match first_other(recorded, run, Part::Request) {
+        Some(event) => Comparison::OtherOrder(event),
+        None => match first_other(recorded, run, Part::Line) {
+            Some(event) => Comparison::OtherClocks(event),
+            None => Comparison::Same,
+        },
+    }
+}
+
+/// The first event, counted from 1, of which this part is not the same in both.
+fn first_other(recorded: &[TraceLine<'_>], run: &[TraceLine<'_>], part: Part) -> Option<usize>
+    ensures { let was = map (part_of part) (events_of recorded.now) in let is = map (part_of part) (events_of run.now) in MatchOption result (is ≡ was) (IsFirstOther is was) }
+{
+    for (index, line) in run.iter().enumerate() {
+        if !has_line(recorded, index, line, part) {
+            return Some(index + 1);
         }
     }
-    match clocks {
-        Some(event) => Comparison::OtherClocks(event),
-        None => Comparison::Same,
+    if run.len() < recorded.len() {
+        Some(run.len() + 1)
+    } else {
+        None
+    }
+}
+
+/// Whether this part of a line is the same in the line at an index.
+fn has_line(lines: &[TraceLine<'_>], index: usize, line: &TraceLine<'_>, part: Part) -> bool
+    ensures { IsTrue result ↔ (slice_get (map (part_of part) (events_of lines.now)) index ≡ Some (part_of part (event_of line.now))) }
+{
+    match lines.get(index) {
+        Some(other) => other.is_same(line, part),
+        None => false,
     }
 }

@@ -2,9 +2,11 @@
 #![tactic(auto)]
 
 mod comparison;
+mod counts;
 mod line;
-mod numbered;
+mod places;
 mod trace;
+mod unmatched;
 
 pub use comparison::{Comparison, Difference, compare};
 pub use line::TraceLine;

@@ -4,6 +4,6 @@
 mod laws;
 mod schedule;
 
-pub use laws::entries_are_accepted;
+pub use laws::{entries_are_accepted, moments_settle};
 pub use schedule::{World, run_schedule};
 pub use world_core_base::{Core, Slot, Step, blank_event};

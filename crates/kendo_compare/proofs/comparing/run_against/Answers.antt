@@ -19,4 +19,4 @@ returns-clause-found g c =
 pub returns-clause-compared : goal.returns-clause-compared
 returns-clause-compared g c =
     let traced = c.in_ok-end.ensures.traced in
-    ((traced.0, traced.2.0, traced.1, search rules, traced.2.2), search rules)
+    (traced.0, traced.1, ((traced.2.0, search rules, traced.2.2), search rules))

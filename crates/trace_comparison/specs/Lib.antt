@@ -1,0 +1,4 @@
+pub mod Comparing
+pub mod Counting
+pub mod Requests
+pub mod Texts
