@@ -4,8 +4,8 @@
 
 use go_text::Fault;
 use kendo_compare::{
-    Program, Recorded, TraceError, Traced, check_trace, compare_traces, run_against,
-    run_paused_against,
+    Program, Recorded, TraceError, check_trace, compare_traces, run_paused_with_trace,
+    run_with_trace,
 };
 use pauses::Plan;
 use row_format::folder::names;
@@ -102,27 +102,26 @@ fn compare_in_one_way(
     recorded: &Recorded<'_>,
 ) -> io::Result<()> {
     let alloc = rt.alloc();
-    let mut traced = Traced::new(alloc);
-    if let Err(fault) = run(threads, alloc, program, recorded, &mut traced) {
+    let mut trace = Vec::new(alloc);
+    if let Err(fault) = run(threads, alloc, program, &mut trace) {
         return println!(rt; "{fault}");
     }
-    print(rt, alloc, program, recorded, &traced)
+    print(rt, alloc, program, recorded, trace.as_slice())
 }
 
-/// Runs a program, by its plan if it has one.
+/// Runs a program, by its plan if it has one. Its trace goes to `trace`.
 fn run(
     threads: &(impl Threads + Wait + Sync),
     alloc: Global,
     program: &Program<'_>,
-    recorded: &Recorded<'_>,
-    traced: &mut Traced,
+    trace: &mut Vec<u8>,
 ) -> Result<End, Fault> {
     let text = Vec::from_slice(alloc, program.bytes)?;
     let mut output = Flagged::new(Vec::new(alloc));
-    let (limit, bytes) = (program.limit, recorded.bytes);
+    let limit = program.limit;
     match program.plan {
-        Some(plan) => run_paused_against(alloc, text, plan, limit, bytes, &mut output, traced),
-        None => run_against(threads, alloc, text, 2, limit, bytes, &mut output, traced),
+        Some(plan) => run_paused_with_trace(alloc, text, plan, limit, &mut output, trace),
+        None => run_with_trace(threads, alloc, text, 2, limit, &mut output, trace),
     }
 }
 
@@ -132,9 +131,9 @@ fn print(
     alloc: Global,
     program: &Program<'_>,
     recorded: &Recorded<'_>,
-    traced: &Traced,
+    trace: &[u8],
 ) -> io::Result<()> {
-    match compare_traces(alloc, program, recorded, traced) {
+    match compare_traces(alloc, program, recorded, trace) {
         Ok(compared) => {
             rt.stdout().write_all(compared.lines.as_slice())?;
             if compared.is_same {

@@ -7,8 +7,8 @@ use crate::explaining::{explain, kept_program};
 use command_line::arguments::{Invocation, Subcommand};
 use go_text::{Fault, Memory};
 use kendo_compare::{
-    Program, Recorded, TraceError, Traced, check_trace, compare_traces, run_against,
-    run_paused_against,
+    Program, Recorded, TraceError, check_trace, compare_traces, run_paused_with_trace,
+    run_with_trace,
 };
 use kendo_shell::USAGE;
 use kendo_shell::files::{all_bytes, opened};
@@ -50,22 +50,21 @@ pub(crate) fn compare_file(
         is_strict: invocation.strict,
     };
     let mut outputs = Outputs::new(rt, Trace::Dropped);
-    let mut traced = Traced::new(alloc);
+    let mut trace = Vec::new(alloc);
     let outcome = find(
         threads,
         alloc,
         invocation,
         plan,
         bytes,
-        recorded.bytes,
         &mut outputs,
-        &mut traced,
+        &mut trace,
     );
     let status = told(rt, alloc, None, &outcome)?;
     let kept = kept_program(alloc, invocation, file, Some(plan), text.as_slice());
     explain(rt, alloc, invocation, kept, outcome, outputs.refused());
     let program = program_of(invocation, plan, file, text.as_slice());
-    let is_same = compare(rt, alloc, &program, &recorded, &outcome, &traced)?;
+    let is_same = compare(rt, alloc, &program, &recorded, &outcome, trace.as_slice())?;
     let status = status_of(invocation, &outcome, is_same, status);
     Ok(status)
 }
@@ -131,39 +130,31 @@ fn program_of<'p>(
     }
 }
 
-/// What the command finds in the program if it runs it. The trace goes to `traced`.
+/// What the command finds in the program if it runs it. Its trace goes to `trace`.
 fn find(
     threads: &(impl Threads + Wait + Sync),
     alloc: Global,
     invocation: &Invocation<'_, '_>,
     plan: &Plan,
     bytes: Vec<u8>,
-    recorded: &[u8],
     outputs: &mut Outputs,
-    traced: &mut Traced,
+    trace: &mut Vec<u8>,
 ) -> Result<End, Fault>
     ensures { Finds invocation.now.subcommand bytes.items result }
 {
     match invocation.subcommand {
-        Subcommand::Run { workers, limit } => run_against(
+        Subcommand::Run { workers, limit } => run_with_trace(
             threads,
             alloc,
             bytes,
             workers,
             limit,
-            recorded,
             &mut outputs.standard,
-            traced,
+            trace,
         ),
-        Subcommand::Paused { limit } => run_paused_against(
-            alloc,
-            bytes,
-            plan,
-            limit,
-            recorded,
-            &mut outputs.standard,
-            traced,
-        ),
+        Subcommand::Paused { limit } => {
+            run_paused_with_trace(alloc, bytes, plan, limit, &mut outputs.standard, trace)
+        }
         _ => Err(Fault::Memory),
     }
 }
@@ -175,12 +166,12 @@ fn compare(
     program: &Program<'_>,
     recorded: &Recorded<'_>,
     outcome: &Result<End, Fault>,
-    traced: &Traced,
+    trace: &[u8],
 ) -> Result<bool, Memory> {
     if outcome.is_err() {
         return Ok(true);
     }
-    let compared = compare_traces(alloc, program, recorded, traced)?;
+    let compared = compare_traces(alloc, program, recorded, trace)?;
     tell(rt, compared.lines.as_slice());
     Ok(compared.is_same)
 }

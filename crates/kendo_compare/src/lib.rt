@@ -6,6 +6,6 @@ mod lines;
 mod place;
 mod report;
 
-pub use comparing::{Traced, run_against, run_paused_against};
+pub use comparing::{run_paused_with_trace, run_with_trace};
 pub use lines::{Compared, Program, Recorded, check_trace, compare_traces};
 pub use trace_comparison::TraceError;

@@ -1,11 +1,10 @@
 //! The lines that report how a run compares with a recorded trace.
 
-ghost use Rattle.std.specs.Prelude.{◌≡◌, IfOk, List, MatchResult, false, true};
+ghost use Rattle.std.specs.Prelude.{◌≡◌, ◌↔◌, IfOk, IsTrue, List, MatchResult, false, true};
 ghost use Rattle.kendo_compare.specs.Goroutines.{AreCompared};
 ghost use Rattle.trace_comparison.specs.Requests.{Event, events_of};
 ghost use Rattle.trace_comparison.specs.Texts.{IsTrace, IsWhy};
 
-use crate::comparing::Traced;
 use crate::report::Report;
 use go_text::Memory;
 use pauses::Plan;
@@ -52,23 +51,23 @@ pub fn check_trace(alloc: Global, bytes: &[u8]) -> Result<(), TraceError>
     Ok(())
 }
 
-/// Compares the trace of a program's run with a recorded one: byte by byte, or goroutine by goroutine without clocks.
+/// Compares `trace`, that of a program's run, with a recorded one: byte by byte, or goroutine by goroutine without clocks.
 ///
 /// Errors: out of memory.
 pub fn compare_traces(
     alloc: Global,
     program: &Program<'_>,
     recorded: &Recorded<'_>,
-    traced: &Traced,
+    trace: &[u8],
 ) -> Result<Compared, Memory>
-    ensures strict { IfOk result (λ compared. recorded.now.is_strict ≡ true → compared.is_same ≡ traced.now.is_recorded) }
-    ensures by_goroutine { IfOk result (λ compared. recorded.now.is_strict ≡ false → AreCompared recorded.now.bytes.now traced.now.lines.items compared.is_same) }
+    ensures strict { IfOk result (λ compared. recorded.now.is_strict ≡ true → (IsTrue compared.is_same ↔ (trace.now ≡ recorded.now.bytes.now))) }
+    ensures by_goroutine { IfOk result (λ compared. recorded.now.is_strict ≡ false → AreCompared recorded.now.bytes.now trace.now compared.is_same) }
 {
     let was = read(alloc, recorded.bytes)?;
-    let run = read(alloc, traced.lines.as_slice())?;
+    let run = read(alloc, trace)?;
     let (comparison, goroutines) = compare(alloc, &was, &run)?;
     let is_same = if recorded.is_strict {
-        traced.is_recorded
+        trace == recorded.bytes
     } else {
         comparison.is_same_by_goroutine()
     };

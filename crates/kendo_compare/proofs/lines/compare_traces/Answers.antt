@@ -1,7 +1,6 @@
 use Rattle.std.proofs.Common.{◌↔◌, IsTrue, sym, subst, ◌∙◌}
 use Rattle.std.proofs.lemmas.Bool.{false≢true}
 use Rattle.trace_comparison.specs.Requests.{HaveSameRequests, events_of}
-use Rattle.trace_comparison.specs.Texts.{IsTrace}
 use Rattle.kendo_compare.proofs.lines.compare_traces.Goals as goal
 use Rattle.kendo_compare.proofs.lines.compare_traces.Goals.{then-recorded, else-recorded}
 
@@ -16,7 +15,7 @@ returns-clause-by_goroutine c =
             was,
             run,
             c.in_ok-was.ensures,
-            subst (λ text. IsTrace text run) c.as_slice.ensures.value c.in_ok-run.ensures,
+            c.in_ok-run.ensures,
             subst (λ b. IsTrue b ↔ HaveSameRequests run was) (sym w.is_same-is) same,
           )
     ]

@@ -1,7 +1,7 @@
 use Rattle.std.proofs.Common.{rules}
 use Rattle.std.proofs.lemmas.Result.{err_from_is_err_and}
 use Rattle.kendo_shell.proofs.Findings.{both_ended, run_stops}
-use Rattle.kendo_compare.proofs.comparing.run_against.Goals as goal
+use Rattle.kendo_compare.proofs.comparing.run_with_trace.Goals as goal
 
 pub returns-in_err-end-clause-found : goal.returns-in_err-end-clause-found
 returns-in_err-end-clause-found g c =
@@ -16,7 +16,7 @@ returns-clause-found g c =
     let whole = made.whole in
     (bounds.0, bounds.1, (whole.0, whole.2.0, whole.1, whole.2.2))
 
-pub returns-clause-compared : goal.returns-clause-compared
-returns-clause-compared g c =
+pub returns-clause-traced : goal.returns-clause-traced
+returns-clause-traced g c =
     let traced = c.in_ok-end.ensures.traced in
-    (traced.0, traced.1, ((traced.2.0, search rules, traced.2.2), search rules))
+    (traced.0, traced.1, (traced.2.0, search rules, traced.2.2))
