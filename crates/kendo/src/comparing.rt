@@ -1,7 +1,9 @@
 //! Runs that are compared with recorded traces.
 
 ghost use Rattle.std.specs.Prelude.{◌≡◌, ◌⊎◌, IfOk};
-ghost use Rattle.kendo_shell.specs.Answers.{Finds, IsVerdict, Tells};
+ghost use Rattle.kendo.specs.Verdicts.{IsTracedAs, Judges, compared_status};
+ghost use Rattle.kendo_compare.specs.Comparing.{IsCompared};
+ghost use Rattle.kendo_shell.specs.Answers.{Finds};
 
 use crate::explaining::{explain, kept_program};
 use command_line::arguments::{Invocation, Subcommand};
@@ -23,20 +25,22 @@ use word::end::End;
 /// The exit status if a run is not the recorded one.
 const OTHER: u8 = 8;
 
-/// Runs the program of a file, by the plan if one is named, and reports on standard error how its run compares with the trace in the
-/// file at `path`.
-#[tactic(auto, using(kendo_shell::proofs::Findings::explored))]
+/// Runs the program of a file, by the plan if one is named, and reports on standard error how its run compares with the trace that the
+/// command names.
+#[tactic(auto, using(crate::proofs::Judging::{compared, refused}))]
 pub(crate) fn compare_file(
     rt: &HostRuntime,
     threads: &(impl Threads + Wait + Sync),
     alloc: Global,
     invocation: &Invocation<'_, '_>,
     plan: &Plan,
-    path: &str,
     file: &str,
 ) -> Result<u8, Memory>
-    ensures { IfOk result (λ status. (status ≡ USAGE) ⊎ Tells invocation.now.subcommand status) }
+    ensures { IfOk result (λ status. (status ≡ USAGE) ⊎ Judges invocation.now status) }
 {
+    let Some(path) = invocation.against else {
+        return Ok(USAGE);
+    };
     let Some(recorded) = recorded_trace(rt, alloc, path, invocation.explains)? else {
         return Ok(USAGE);
     };
@@ -63,10 +67,12 @@ pub(crate) fn compare_file(
     let status = told(rt, alloc, None, &outcome)?;
     let kept = kept_program(alloc, invocation, file, Some(plan), text.as_slice());
     explain(rt, alloc, invocation, kept, outcome, outputs.refused());
+    if outcome.is_err() {
+        return Ok(status);
+    }
     let program = program_of(invocation, plan, file, text.as_slice());
-    let is_same = compare(rt, alloc, &program, &recorded, &outcome, trace.as_slice())?;
-    let status = status_of(invocation, &outcome, is_same, status);
-    Ok(status)
+    let is_same = compare(rt, alloc, &program, &recorded, trace.as_slice())?;
+    Ok(status_of(is_same, status))
 }
 
 /// The trace in a file. `None` if it can't be read or is no trace: standard error says so, and, if the command explains, why.
@@ -140,7 +146,8 @@ fn find(
     outputs: &mut Outputs,
     trace: &mut Vec<u8>,
 ) -> Result<End, Fault>
-    ensures { Finds invocation.now.subcommand bytes.items result }
+    ensures found { Finds invocation.now.subcommand bytes.items result }
+    ensures traced { IfOk result (IsTracedAs invocation.now.subcommand bytes.items trace.new.items) }
 {
     match invocation.subcommand {
         Subcommand::Run { workers, limit } => run_with_trace(
@@ -159,34 +166,24 @@ fn find(
     }
 }
 
-/// Reports how a run compares with a recorded trace, if it came to an end. Returns whether it is said to be the same.
+/// Reports how a run's trace compares with a recorded one. Returns whether they are said to be the same.
 fn compare(
     rt: &HostRuntime,
     alloc: Global,
     program: &Program<'_>,
     recorded: &Recorded<'_>,
-    outcome: &Result<End, Fault>,
     trace: &[u8],
-) -> Result<bool, Memory> {
-    if outcome.is_err() {
-        return Ok(true);
-    }
+) -> Result<bool, Memory>
+    ensures { IfOk result (IsCompared recorded.now.is_strict recorded.now.bytes.now trace.now) }
+{
     let compared = compare_traces(alloc, program, recorded, trace)?;
     tell(rt, compared.lines.as_slice());
     Ok(compared.is_same)
 }
 
-/// The exit status of a run that is compared: 8 if it came to an end and is not the recorded one, otherwise `status`.
-fn status_of(
-    invocation: &Invocation<'_, '_>,
-    outcome: &Result<End, Fault>,
-    is_same: bool,
-    status: u8,
-) -> u8
-    ensures { (result ≡ status) ⊎ IsVerdict invocation.now.subcommand outcome.now result }
+/// The exit status of a run that is compared, which is `status` if it is the recorded one.
+fn status_of(is_same: bool, status: u8) -> u8
+    ensures { result ≡ compared_status is_same status }
 {
-    match (invocation.subcommand, outcome) {
-        (Subcommand::Run { .. } | Subcommand::Paused { .. }, Ok(_)) if !is_same => OTHER,
-        _ => status,
-    }
+    if is_same { status } else { OTHER }
 }

@@ -2,7 +2,7 @@
 
 ghost use Rattle.std.specs.Prelude.{◌≡◌, ◌⊎◌, IfErr, IfOk};
 ghost use Rattle.command_line.specs.declared.arguments.Subcommand.TheVariants as subcommands;
-ghost use Rattle.kendo_shell.specs.Answers.{Finds, IsStatusOf, IsVerdict, Tells};
+ghost use Rattle.kendo.specs.Verdicts.{Explores, IsJudged, Judges, explored_status};
 
 use crate::explaining::{explain, kept_program};
 use command_line::arguments::{Invocation, Subcommand};
@@ -14,7 +14,6 @@ use kendo_shell::streams::{tell, told};
 use kendo_shell::tracing::{Outputs, Trace};
 use std::alloc::Global;
 use std::fs;
-use word::end::End;
 use word::write_all;
 
 /// The exit status if another end was found.
@@ -54,7 +53,7 @@ pub(crate) fn explore_file(
     invocation: &Invocation<'_, '_>,
     file: &str,
 ) -> Result<u8, Memory>
-    ensures { IfOk result (λ status. (status ≡ USAGE) ⊎ Tells invocation.now.subcommand status) }
+    ensures { IfOk result (λ status. (status ≡ USAGE) ⊎ Judges invocation.now status) }
 {
     let source = Invocation {
         out: None,
@@ -68,7 +67,7 @@ pub(crate) fn explore_file(
 }
 
 /// Like `explore_file`, for the bytes of the file.
-#[tactic(auto, using(kendo_shell::proofs::Findings::explored))]
+#[tactic(auto, using(crate::proofs::Judging::{explored, refused}))]
 fn explore(
     rt: &HostRuntime,
     alloc: Global,
@@ -76,51 +75,45 @@ fn explore(
     file: &str,
     bytes: Vec<u8>,
 ) -> Result<u8, Memory>
-    ensures { IfOk result (IsStatusOf invocation.now.subcommand bytes.items) }
+    ensures { IfOk result (IsJudged invocation.now bytes.items) }
 {
     let kept = kept_program(alloc, invocation, file, None, bytes.as_slice());
     let mut outputs = Outputs::new(rt, Trace::Dropped);
-    let mut verdict = None;
     let task = Task {
         rt,
         alloc,
         invocation,
         file,
     };
-    let outcome = find(task, invocation, bytes, &mut outputs, &mut verdict);
-    let status = told(rt, alloc, None, &outcome)?;
-    let status = status_of(invocation, &outcome, verdict, status);
-    let refused = outputs.refused();
-    explain(rt, alloc, invocation, kept, outcome, refused);
-    Ok(status)
-}
-
-/// The exit status of an exploration: what it comes to if it was made, else `status`.
-fn status_of(
-    invocation: &Invocation<'_, '_>,
-    outcome: &Result<End, Fault>,
-    verdict: Option<Verdict>,
-    status: u8,
-) -> u8
-    ensures { (result ≡ status) ⊎ IsVerdict invocation.now.subcommand outcome.now result }
-{
-    match (invocation.subcommand, outcome, verdict) {
-        (Subcommand::Explore { .. }, Ok(_), Some(Verdict::Other)) => OTHER,
-        (Subcommand::Explore { .. }, Ok(_), Some(Verdict::SameSoFar)) if invocation.whole =>
-            NOT_ALL,
-        _ => status,
+    match find(task, invocation, bytes, &mut outputs) {
+        Ok(verdict) => Ok(status_of(verdict, invocation.whole)),
+        Err(fault) => {
+            let status = told(rt, alloc, None, &Err(fault))?;
+            explain(rt, alloc, invocation, kept, Err(fault), outputs.refused());
+            Ok(status)
+        }
     }
 }
 
-/// What the command finds in the program if it explores it; what that comes to goes to `verdict`.
+/// The exit status of an exploration. `whole` says whether it counts that not all orders were searched.
+fn status_of(verdict: Verdict, whole: bool) -> u8
+    ensures { result ≡ explored_status verdict whole }
+{
+    match verdict {
+        Verdict::Other => OTHER,
+        Verdict::SameSoFar if whole => NOT_ALL,
+        Verdict::Same | Verdict::SameSoFar => 0,
+    }
+}
+
+/// What the command finds in the program if it explores it.
 fn find(
     task: Task<'_, '_, '_>,
     invocation: &Invocation<'_, '_>,
     bytes: Vec<u8>,
     outputs: &mut Outputs,
-    verdict: &mut Option<Verdict>,
-) -> Result<End, Fault>
-    ensures { Finds invocation.now.subcommand bytes.items result }
+) -> Result<Verdict, Fault>
+    ensures { Explores invocation.now.subcommand bytes.items result }
 {
     match invocation.subcommand {
         Subcommand::Explore {
@@ -138,22 +131,21 @@ fn find(
                     leaks: invocation.leaks,
                 },
             };
-            task.explore(bytes, options, outputs, verdict)
+            task.explore(bytes, options, outputs)
         }
         _ => Err(Fault::Memory),
     }
 }
 
 impl Task<'_, '_, '_> {
-    /// Explores the program, and writes what is found; what it comes to goes to `verdict`.
+    /// Explores the program, and writes what is found.
     fn explore(
         self,
         bytes: Vec<u8>,
         options: Options,
         outputs: &mut Outputs,
-        verdict: &mut Option<Verdict>,
-    ) -> Result<End, Fault>
-        ensures { Finds (subcommands.Explore options.limit options.tries options.states) bytes.items result }
+    ) -> Result<Verdict, Fault>
+        ensures { Explores (subcommands.Explore options.limit options.tries options.states) bytes.items result }
     {
         let mut counter = Counter {
             rt: self.rt,
@@ -161,8 +153,7 @@ impl Task<'_, '_, '_> {
         };
         let explored = explore_bytes(self.alloc, self.file, bytes, options, &mut counter)?;
         self.write(&explored, outputs)?;
-        *verdict = Some(explored.verdict);
-        Ok(End::Finished)
+        Ok(explored.verdict)
     }
 
     /// Writes the report to standard output, and the plans to their files.

@@ -1,8 +1,9 @@
 //! The program: its command line, its files, and the standard streams.
 #![tactic(auto)]
 
-ghost use Rattle.std.specs.Prelude.{◌≡◌, ◌⊎◌, IfOk, map, string_bytes};
-ghost use Rattle.kendo_shell.specs.Answers.{Finds, IsStatus, IsStatusOf, Obeys, Tells};
+ghost use Rattle.std.specs.Prelude.{◌≡◌, ◌⊎◌, IfOk, map, None, string_bytes};
+ghost use Rattle.kendo.specs.Verdicts.{FindsPlainly, IsJudged, Judges};
+ghost use Rattle.kendo_shell.specs.Answers.{Finds, IsStatus, Obeys};
 
 mod comparing;
 mod explaining;
@@ -81,7 +82,7 @@ fn perform(
     alloc: Global,
     invocation: &Invocation<'_, '_>,
 ) -> Result<u8, Memory>
-    ensures { IfOk result (λ status. (status ≡ USAGE) ⊎ Tells invocation.now.subcommand status) }
+    ensures { IfOk result (λ status. (status ≡ USAGE) ⊎ Judges invocation.now status) }
 {
     if let Some(line) = conflict(invocation) {
         tell(rt, line);
@@ -121,8 +122,8 @@ fn perform_rest(
     plan: &Plan,
     first: u8,
 ) -> Result<u8, Memory>
-    requires { (first ≡ USAGE) ⊎ Tells invocation.now.subcommand first }
-    ensures { IfOk result (λ status. (status ≡ USAGE) ⊎ Tells invocation.now.subcommand status) }
+    requires { (first ≡ USAGE) ⊎ Judges invocation.now first }
+    ensures { IfOk result (λ status. (status ≡ USAGE) ⊎ Judges invocation.now status) }
 {
     let mut status = first;
     for file in invocation.files.iter().skip(1) {
@@ -141,14 +142,29 @@ fn perform_on(
     plan: &Plan,
     file: &str,
 ) -> Result<u8, Memory>
-    ensures { IfOk result (λ status. (status ≡ USAGE) ⊎ Tells invocation.now.subcommand status) }
+    ensures { IfOk result (λ status. (status ≡ USAGE) ⊎ Judges invocation.now status) }
 {
     if let Subcommand::Explore { .. } = invocation.subcommand {
         return explore_file(rt, alloc, invocation, file);
     }
-    if let Some(path) = invocation.against {
-        return compare_file(rt, threads, alloc, invocation, plan, path, file);
+    match invocation.against {
+        Some(_) => compare_file(rt, threads, alloc, invocation, plan, file),
+        None => answer_file(rt, threads, alloc, invocation, plan, file),
     }
+}
+
+/// Like `perform`, for a file that is neither explored nor compared with a trace.
+fn answer_file(
+    rt: &HostRuntime,
+    threads: &(impl Threads + Wait + Sync),
+    alloc: Global,
+    invocation: &Invocation<'_, '_>,
+    plan: &Plan,
+    file: &str,
+) -> Result<u8, Memory>
+    requires { invocation.now.against ≡ None }
+    ensures { IfOk result (λ status. (status ≡ USAGE) ⊎ Judges invocation.now status) }
+{
     match opened(rt, alloc, invocation, file, name_of(invocation, file))? {
         Some((bytes, trace)) => answer(rt, threads, alloc, invocation, plan, file, bytes, trace),
         None => Ok(USAGE),
@@ -157,7 +173,7 @@ fn perform_on(
 
 /// Does with a program what the command says, and reports the outcome. If the command explains, an explanation follows: line and
 /// status are the same.
-#[tactic(auto, using(kendo_shell::proofs::Findings::told))]
+#[tactic(auto, using(crate::proofs::Judging::answered))]
 fn answer(
     rt: &HostRuntime,
     threads: &(impl Threads + Wait + Sync),
@@ -168,7 +184,8 @@ fn answer(
     bytes: Vec<u8>,
     trace: Trace,
 ) -> Result<u8, Memory>
-    ensures { IfOk result (IsStatusOf invocation.now.subcommand bytes.items) }
+    requires { invocation.now.against ≡ None }
+    ensures { IfOk result (IsJudged invocation.now bytes.items) }
 {
     let kept = kept_program(alloc, invocation, file, Some(plan), bytes.as_slice());
     let mut outputs = Outputs::new(rt, trace);
@@ -187,7 +204,7 @@ fn find(
     bytes: Vec<u8>,
     outputs: &mut Outputs,
 ) -> Result<End, Fault>
-    ensures { Finds invocation.now.subcommand bytes.items result }
+    ensures { FindsPlainly invocation.now.subcommand bytes.items result }
 {
     match invocation.subcommand {
         Subcommand::Check => check(alloc, bytes),

@@ -2,7 +2,7 @@
 
 ghost use Rattle.std.specs.Prelude.{◌≡◌, ◌⊎◌, IfErr, IfOk};
 ghost use Rattle.command_line.specs.declared.arguments.Subcommand.TheVariants as subcommands;
-ghost use Rattle.kendo_shell.specs.Answers.{Finds, IsVerdict, Tells};
+ghost use Rattle.kendo.specs.Verdicts.{Judges, Tests, passes, tested_status};
 
 use crate::explaining::{explain, kept_program};
 use crate::exploring::{Counter, Task};
@@ -17,7 +17,6 @@ use kendo_test::{OrderSearch, TestOptions, Tested, Verdict, test_bytes};
 use std::alloc::Global;
 use std::sync::Wait;
 use std::thread::Threads;
-use word::end::End;
 use word::write_all;
 
 /// The exit status if a test failed.
@@ -63,7 +62,7 @@ pub(crate) fn test_files(
     alloc: Global,
     invocation: &Invocation<'_, '_>,
 ) -> Result<u8, Memory>
-    ensures { IfOk result (λ status. (status ≡ USAGE) ⊎ Tells invocation.now.subcommand status) }
+    ensures { IfOk result (λ status. (status ≡ USAGE) ⊎ Judges invocation.now status) }
 {
     let Subcommand::Test { limit, .. } = invocation.subcommand else {
         return Ok(USAGE);
@@ -104,7 +103,7 @@ fn write_counts(rt: &HostRuntime, alloc: Global, counts: Counts, status: u8) -> 
 }
 
 /// Tests the program of a file, and reports it on standard output. The plans that show its ends in other orders go to files.
-#[tactic(auto, using(kendo_shell::proofs::Findings::explored))]
+#[tactic(auto, using(crate::proofs::Judging::{refused, tested}))]
 fn test_file(
     rt: &HostRuntime,
     threads: &(impl Threads + Wait + Sync),
@@ -112,7 +111,7 @@ fn test_file(
     invocation: &Invocation<'_, '_>,
     file: &str,
 ) -> Result<u8, Memory>
-    ensures { IfOk result (λ status. (status ≡ USAGE) ⊎ Tells invocation.now.subcommand status) }
+    ensures { IfOk result (λ status. (status ≡ USAGE) ⊎ Judges invocation.now status) }
 {
     let source = Invocation {
         out: None,
@@ -123,44 +122,34 @@ fn test_file(
         return Ok(USAGE);
     };
     let mut outputs = Outputs::new(rt, Trace::Dropped);
-    let mut passes = false;
     let task = Task {
         rt,
         alloc,
         invocation,
         file,
     };
-    let outcome = find(task, threads, invocation, bytes, &mut outputs, &mut passes);
-    let status = told(rt, alloc, None, &outcome)?;
-    let status = status_of(invocation, &outcome, passes, status);
-    Ok(status)
-}
-
-/// The exit status of a test: 1 if it was made and failed, otherwise `status`.
-fn status_of(
-    invocation: &Invocation<'_, '_>,
-    outcome: &Result<End, Fault>,
-    passes: bool,
-    status: u8,
-) -> u8
-    ensures { (result ≡ status) ⊎ IsVerdict invocation.now.subcommand outcome.now result }
-{
-    match (invocation.subcommand, outcome) {
-        (Subcommand::Test { .. }, Ok(_)) if !passes => FAILED,
-        _ => status,
+    match find(task, threads, invocation, bytes, &mut outputs) {
+        Ok(passes) => Ok(status_of(passes)),
+        Err(fault) => told(rt, alloc, None, &Err(fault)),
     }
 }
 
-/// What the command finds in the program if it tests it; whether it passes goes to `passes`.
+/// The exit status of a test that was made.
+fn status_of(passes: bool) -> u8
+    ensures { result ≡ tested_status passes }
+{
+    if passes { 0 } else { FAILED }
+}
+
+/// Whether the program passes, if the command tests it.
 fn find(
     task: Task<'_, '_, '_>,
     threads: &(impl Threads + Wait + Sync),
     invocation: &Invocation<'_, '_>,
     bytes: Vec<u8>,
     outputs: &mut Outputs,
-    passes: &mut bool,
-) -> Result<End, Fault>
-    ensures { Finds invocation.now.subcommand bytes.items result }
+) -> Result<bool, Fault>
+    ensures { Tests invocation.now.subcommand bytes.items result }
 {
     match invocation.subcommand {
         Subcommand::Test {
@@ -169,13 +158,13 @@ fn find(
             states,
         } => {
             let search = OrderSearch { tries, states };
-            test(task, threads, bytes, limit, search, outputs, passes)
+            test(task, threads, bytes, limit, search, outputs)
         }
         _ => Err(Fault::Memory),
     }
 }
 
-/// Tests the program, and writes what comes of it; whether it passes goes to `passes`.
+/// Tests the program, and writes what comes of it. Returns whether it passes.
 fn test(
     task: Task<'_, '_, '_>,
     threads: &(impl Threads + Wait + Sync),
@@ -183,9 +172,8 @@ fn test(
     limit: u64,
     search: OrderSearch,
     outputs: &mut Outputs,
-    passes: &mut bool,
-) -> Result<End, Fault>
-    ensures { Finds (subcommands.Test limit search.tries search.states) bytes.items result }
+) -> Result<bool, Fault>
+    ensures { Tests (subcommands.Test limit search.tries search.states) bytes.items result }
 {
     let Task {
         rt,
@@ -211,13 +199,14 @@ fn test(
         &mut counter,
     )?;
     write(task, &tested, outputs)?;
-    *passes = is_passed(&tested.verdict);
     explain_test(task, bytes.as_slice(), &tested);
-    Ok(End::Finished)
+    Ok(is_passed(&tested.verdict))
 }
 
 /// Whether a program passes its test.
-fn is_passed(verdict: &Verdict) -> bool {
+fn is_passed(verdict: &Verdict) -> bool
+    ensures { result ≡ passes verdict.now }
+{
     matches!(verdict, Verdict::Passed(_))
 }
 

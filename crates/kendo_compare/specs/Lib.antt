@@ -1,2 +1,2 @@
-pub mod Goroutines
+pub mod Comparing
 pub mod Traces

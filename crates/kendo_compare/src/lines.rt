@@ -1,7 +1,7 @@
 //! The lines that report how a run compares with a recorded trace.
 
-ghost use Rattle.std.specs.Prelude.{◌≡◌, ◌↔◌, IfOk, IsTrue, List, MatchResult, false, true};
-ghost use Rattle.kendo_compare.specs.Goroutines.{AreCompared};
+ghost use Rattle.std.specs.Prelude.{IfOk, List, MatchResult};
+ghost use Rattle.kendo_compare.specs.Comparing.{IsCompared};
 ghost use Rattle.trace_comparison.specs.Requests.{Event, events_of};
 ghost use Rattle.trace_comparison.specs.Texts.{IsTrace, IsWhy};
 
@@ -60,8 +60,7 @@ pub fn compare_traces(
     recorded: &Recorded<'_>,
     trace: &[u8],
 ) -> Result<Compared, Memory>
-    ensures strict { IfOk result (λ compared. recorded.now.is_strict ≡ true → (IsTrue compared.is_same ↔ (trace.now ≡ recorded.now.bytes.now))) }
-    ensures by_goroutine { IfOk result (λ compared. recorded.now.is_strict ≡ false → AreCompared recorded.now.bytes.now trace.now compared.is_same) }
+    ensures { IfOk result (λ compared. IsCompared recorded.now.is_strict recorded.now.bytes.now trace.now compared.is_same) }
 {
     let was = read(alloc, recorded.bytes)?;
     let run = read(alloc, trace)?;

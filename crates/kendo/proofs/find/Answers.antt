@@ -1,25 +1,25 @@
 use Rattle.std.proofs.Common.{sym, subst}
-use Rattle.kendo_shell.specs.Answers.{Finds}
+use Rattle.kendo.specs.Verdicts.{FindsPlainly}
 use Rattle.command_line.specs.declared.arguments.Subcommand.{Subcommand}
 use Rattle.kendo.proofs.find.Goals as goal
 
 pub returns-in-Check : goal.returns-in-Check
-returns-in-Check g c = subst (λ (s : Subcommand). Finds s c.args.bytes.items c.check.result) (sym c.in-Check.is) c.check.ensures
+returns-in-Check g c = subst (λ (s : Subcommand). FindsPlainly s c.args.bytes.items c.check.result) (sym c.in-Check.is) c.check.ensures
 
 pub returns-in-List : goal.returns-in-List
-returns-in-List g c = subst (λ (s : Subcommand). Finds s c.args.bytes.items c.list.result) (sym c.in-List.is) c.list.ensures
+returns-in-List g c = subst (λ (s : Subcommand). FindsPlainly s c.args.bytes.items c.list.result) (sym c.in-List.is) c.list.ensures
 
 pub returns-in-Reference : goal.returns-in-Reference
-returns-in-Reference g c = subst (λ (s : Subcommand). Finds s c.args.bytes.items c.interpret.result) (sym c.in-Reference.is) c.interpret.ensures
+returns-in-Reference g c = subst (λ (s : Subcommand). FindsPlainly s c.args.bytes.items c.interpret.result) (sym c.in-Reference.is) c.interpret.ensures
 
 pub returns-in-Timeline : goal.returns-in-Timeline
-returns-in-Timeline g c = subst (λ (s : Subcommand). Finds s c.args.bytes.items c.picture.result) (sym c.in-Timeline.is) c.picture.ensures
+returns-in-Timeline g c = subst (λ (s : Subcommand). FindsPlainly s c.args.bytes.items c.picture.result) (sym c.in-Timeline.is) c.picture.ensures
 
 pub returns-in-Inspect : goal.returns-in-Inspect
-returns-in-Inspect g c = subst (λ (s : Subcommand). Finds s c.args.bytes.items c.inspect.result) (sym c.in-Inspect.is) c.inspect.ensures
+returns-in-Inspect g c = subst (λ (s : Subcommand). FindsPlainly s c.args.bytes.items c.inspect.result) (sym c.in-Inspect.is) c.inspect.ensures
 
 pub returns-in-Paused : goal.returns-in-Paused
-returns-in-Paused g c = subst (λ (s : Subcommand). Finds s c.args.bytes.items c.pause.result) (sym c.in-Paused.is) c.pause.ensures
+returns-in-Paused g c = subst (λ (s : Subcommand). FindsPlainly s c.args.bytes.items c.pause.result) (sym c.in-Paused.is) c.pause.ensures
 
 pub returns-in-Run : goal.returns-in-Run
-returns-in-Run g c = subst (λ (s : Subcommand). Finds s c.args.bytes.items c.run_text.result) (sym c.in-Run.is) c.run_text.ensures.found
+returns-in-Run g c = subst (λ (s : Subcommand). FindsPlainly s c.args.bytes.items c.run_text.result) (sym c.in-Run.is) c.run_text.ensures.found

@@ -1,5 +1,5 @@
-use Rattle.kendo_shell.proofs.Findings.{of_some}
+use Rattle.kendo.proofs.Judging.{of_some}
 use Rattle.kendo.proofs.exploring.explore_file.Goals as goal
 
 pub returns-in-Some : goal.returns-in-Some
-returns-in-Some c = of_some c.args.invocation.now.subcommand c.in-Some.bytes.items c.explore.result c.explore.ensures
+returns-in-Some c = of_some c.args.invocation.now c.in-Some.bytes.items c.explore.result c.explore.ensures

@@ -1,4 +1,3 @@
-use Rattle.std.proofs.Common.{refl}
 use Rattle.std.proofs.lemmas.Result.{err_from_is_err_and}
 use Rattle.kendo_shell.proofs.Findings.{limit_ended, test_lost, test_stops}
 use Rattle.kendo.proofs.testing.test.Goals as goal
@@ -15,4 +14,6 @@ returns-in_err-write g c =
     rw (p.1, p.2) (test_lost c.args.limit c.args.search.tries c.args.search.states c.args.bytes.items _ c.in_err-write.ensures)
 
 pub returns : goal.returns
-returns g c = (refl, limit_ended c.args.limit _ c.in_ok-tested.ensures.limit)
+returns g c =
+    let made = c.in_ok-tested.ensures in
+    (limit_ended c.args.limit _ made.limit, (c.in_ok-tested.tested.verdict, made.right, c.is_passed.ensures))

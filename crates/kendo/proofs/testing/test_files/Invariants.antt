@@ -1,7 +1,7 @@
 use Rattle.std.proofs.Common.{◌≡◌, ◌⊎◌}
-use Rattle.kendo_shell.specs.Answers.{Tells}
+use Rattle.kendo.specs.Verdicts.{Judges}
 use Rattle.kendo.proofs.testing.test_files.Given as goal
 
--- the status so far is 64, or tells what was found in some program
+-- the status so far is 64, or says what was found in some program
 abbrev pub invariant-loop-file : goal.invariant-loop-file
-invariant-loop-file g l = (l.status ≡ 64) ⊎ Tells l.invocation.subcommand l.status
+invariant-loop-file g l = (l.status ≡ 64) ⊎ Judges l.invocation l.status

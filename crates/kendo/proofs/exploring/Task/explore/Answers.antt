@@ -18,4 +18,4 @@ returns-in_err-write c =
 pub returns : goal.returns
 returns c =
     let made = c.in_ok-explored.ensures in
-    (refl, limit_ended c.args.options.limit _ made.limit, (made.shown.0, made.shown.1))
+    (limit_ended c.args.options.limit _ made.limit, (made.shown.0, c.in_ok-explored.explored, made.shown.1, made.shown.2, refl))

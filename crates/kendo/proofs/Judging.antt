@@ -1,0 +1,197 @@
+-- What an exit status says of a program.
+use Rattle.std.proofs.Common.{◌≡◌, ◌⊎◌, ◌∙◌, ℕ, Bool, inl, inr, true, false, List, [], Option, Some, None, Result, Ok, Err, IfOk, refl, sym, subst, ap}
+use Rattle.command_line.specs.declared.arguments.Invocation.{Invocation}
+use Rattle.command_line.specs.declared.arguments.Subcommand.{Subcommand}
+use Rattle.command_line.specs.declared.arguments.Subcommand.TheVariants as subcommands
+use Rattle.exploration.specs.declared.findings.Verdict.{Verdict}
+use Rattle.exploration.specs.declared.findings.Verdict.TheVariants.{Other, Same, SameSoFar}
+use Rattle.go_text.specs.declared.fault.Fault.{Fault}
+use Rattle.go_text.specs.declared.fault.Fault.TheVariants as faults
+use Rattle.kendo.specs.Verdicts.{compared_status, explored_status, FindsPlainly, IsAgainst, IsExplored, IsJudged, IsSaid, IsTested, IsTracedAs, Judges, Says, tested_status}
+use Rattle.kendo_compare.specs.Comparing.{IsCompared}
+use Rattle.kendo_report.specs.Outcome.{report_status}
+use Rattle.kendo_shell.proofs.Findings.{explored as of_verdict, told}
+use Rattle.kendo_shell.specs.Answers.{Finds, IsReason, IsStatusOf, Tells}
+use Rattle.word.specs.declared.end.End.{End}
+use Rattle.word.specs.declared.end.End.TheVariants.{Finished}
+
+-- ---- why a command finds nothing
+
+finds_reason : (s : Subcommand) (text : List ℕ) (fault : Fault) → IsReason s text fault → Finds s text (Err fault)
+finds_reason subcommands.Check text fault why = why
+finds_reason subcommands.List text fault why = why
+finds_reason (subcommands.Reference limit) text fault why = why
+finds_reason (subcommands.Timeline limit) text fault why = why
+finds_reason (subcommands.Explore limit tries states) text fault why = why
+finds_reason (subcommands.Test limit tries states) text fault why = why
+finds_reason (subcommands.Inspect limit) text fault why = why
+finds_reason (subcommands.Paused limit) text fault why = why
+finds_reason (subcommands.Run workers limit) text fault why = why
+
+pub refused : (invocation : Invocation) (text : List ℕ) (fault : Fault) (status : ℕ) → IsReason invocation.subcommand text fault → status ≡ report_status (Err fault)
+    → IsJudged invocation text status
+refused invocation text fault status why is = (Err fault, finds_reason invocation.subcommand text fault why, is)
+
+-- ---- what it finds
+
+explored_in : {T : Type 0} (s : Subcommand) (against : Option T) (strict whole : Bool) (text : List ℕ) (verdict : Verdict) (status : ℕ) → IsExplored s text verdict
+    → status ≡ explored_status verdict whole → Finds s text (Ok Finished) × Says s against strict whole text Finished status
+explored_in (subcommands.Explore limit tries states) against strict whole text verdict status shown is =
+    ((refl, shown.0, (shown.1.0, shown.1.2)), (verdict, shown, is))
+explored_in subcommands.Check against strict whole text verdict status shown is = absurd shown
+explored_in subcommands.List against strict whole text verdict status shown is = absurd shown
+explored_in (subcommands.Reference limit) against strict whole text verdict status shown is = absurd shown
+explored_in (subcommands.Timeline limit) against strict whole text verdict status shown is = absurd shown
+explored_in (subcommands.Test limit tries states) against strict whole text verdict status shown is = absurd shown
+explored_in (subcommands.Inspect limit) against strict whole text verdict status shown is = absurd shown
+explored_in (subcommands.Paused limit) against strict whole text verdict status shown is = absurd shown
+explored_in (subcommands.Run workers limit) against strict whole text verdict status shown is = absurd shown
+
+pub explored : (invocation : Invocation) (text : List ℕ) (verdict : Verdict) (status : ℕ) → IsExplored invocation.subcommand text verdict
+    → status ≡ explored_status verdict invocation.whole → IsJudged invocation text status
+explored invocation text verdict status shown is =
+    let both = explored_in invocation.subcommand invocation.against invocation.strict invocation.whole text verdict status shown is in
+    (Ok Finished, both.0, both.1)
+
+tested_in : {T : Type 0} (s : Subcommand) (against : Option T) (strict whole : Bool) (text : List ℕ) (passed : Bool) (status : ℕ) → IsTested s text passed
+    → status ≡ tested_status passed → Finds s text (Ok Finished) × Says s against strict whole text Finished status
+tested_in (subcommands.Test limit tries states) against strict whole text passed status shown is = ((refl, shown.0), (passed, shown, is))
+tested_in subcommands.Check against strict whole text passed status shown is = absurd shown
+tested_in subcommands.List against strict whole text passed status shown is = absurd shown
+tested_in (subcommands.Reference limit) against strict whole text passed status shown is = absurd shown
+tested_in (subcommands.Timeline limit) against strict whole text passed status shown is = absurd shown
+tested_in (subcommands.Explore limit tries states) against strict whole text passed status shown is = absurd shown
+tested_in (subcommands.Inspect limit) against strict whole text passed status shown is = absurd shown
+tested_in (subcommands.Paused limit) against strict whole text passed status shown is = absurd shown
+tested_in (subcommands.Run workers limit) against strict whole text passed status shown is = absurd shown
+
+pub tested : (invocation : Invocation) (text : List ℕ) (passed : Bool) (status : ℕ) → IsTested invocation.subcommand text passed → status ≡ tested_status passed
+    → IsJudged invocation text status
+tested invocation text passed status shown is =
+    let both = tested_in invocation.subcommand invocation.against invocation.strict invocation.whole text passed status shown is in
+    (Ok Finished, both.0, both.1)
+
+against_in : {T : Type 0} (s : Subcommand) (against : Option T) (path : T) (strict whole : Bool) (text : List ℕ) (end : End) (status : ℕ) → against ≡ Some path
+    → IsAgainst s strict text end status → Says s against strict whole text end status
+against_in (subcommands.Run workers limit) against path strict whole text end status is says =
+    subst (λ a. Says (subcommands.Run workers limit) a strict whole text end status) (sym is) says
+against_in (subcommands.Paused limit) against path strict whole text end status is says =
+    subst (λ a. Says (subcommands.Paused limit) a strict whole text end status) (sym is) says
+against_in subcommands.Check against path strict whole text end status is (lines, recorded, same, traced, compared, told) = absurd traced
+against_in subcommands.List against path strict whole text end status is (lines, recorded, same, traced, compared, told) = absurd traced
+against_in (subcommands.Reference limit) against path strict whole text end status is (lines, recorded, same, traced, compared, told) = absurd traced
+against_in (subcommands.Timeline limit) against path strict whole text end status is (lines, recorded, same, traced, compared, told) = absurd traced
+against_in (subcommands.Explore limit tries states) against path strict whole text end status is (lines, recorded, same, traced, compared, told) = absurd traced
+against_in (subcommands.Test limit tries states) against path strict whole text end status is (lines, recorded, same, traced, compared, told) = absurd traced
+against_in (subcommands.Inspect limit) against path strict whole text end status is (lines, recorded, same, traced, compared, told) = absurd traced
+
+-- a run that ended was compared with a trace
+pub compared : {T : Type 0} (s : Subcommand) (against : Option T) (path : T) (strict whole : Bool) (text lines recorded : List ℕ) (end : End) (is_same : Bool) (told status : ℕ)
+    → against ≡ Some path → IsTracedAs s text lines end → IsCompared strict recorded lines is_same → told ≡ report_status (Ok end) → status ≡ compared_status is_same told
+    → Says s against strict whole text end status
+compared s against path strict whole text lines recorded end is_same told status path_is traced compared told_is is =
+    against_in s against path strict whole text end status path_is (lines, recorded, is_same, traced, compared, is ∙ ap (compared_status is_same) told_is)
+
+-- ---- a command that neither explores nor tests, nor compares its run
+
+plainly_in : {T : Type 0} (s : Subcommand) (against : Option T) (strict whole : Bool) (text : List ℕ) (end : End) (status : ℕ) → against ≡ None → FindsPlainly s text (Ok end)
+    → status ≡ report_status (Ok end) → Finds s text (Ok end) × Says s against strict whole text end status
+plainly_in (subcommands.Explore limit tries states) against strict whole text end status none finds is = absurd finds
+plainly_in (subcommands.Test limit tries states) against strict whole text end status none finds is = absurd finds
+plainly_in subcommands.Check against strict whole text end status none finds is = (finds, subst (λ a. Says subcommands.Check a strict whole text end status) (sym none) is)
+plainly_in subcommands.List against strict whole text end status none finds is = (finds, subst (λ a. Says subcommands.List a strict whole text end status) (sym none) is)
+plainly_in (subcommands.Reference limit) against strict whole text end status none finds is =
+    (finds, subst (λ a. Says (subcommands.Reference limit) a strict whole text end status) (sym none) is)
+plainly_in (subcommands.Timeline limit) against strict whole text end status none finds is =
+    (finds, subst (λ a. Says (subcommands.Timeline limit) a strict whole text end status) (sym none) is)
+plainly_in (subcommands.Inspect limit) against strict whole text end status none finds is =
+    (finds, subst (λ a. Says (subcommands.Inspect limit) a strict whole text end status) (sym none) is)
+plainly_in (subcommands.Paused limit) against strict whole text end status none finds is =
+    (finds, subst (λ a. Says (subcommands.Paused limit) a strict whole text end status) (sym none) is)
+plainly_in (subcommands.Run workers limit) against strict whole text end status none finds is =
+    (finds, subst (λ a. Says (subcommands.Run workers limit) a strict whole text end status) (sym none) is)
+
+plain_reason : (s : Subcommand) (text : List ℕ) (fault : Fault) → FindsPlainly s text (Err fault) → Finds s text (Err fault)
+plain_reason subcommands.Check text fault why = why
+plain_reason subcommands.List text fault why = why
+plain_reason (subcommands.Reference limit) text fault why = why
+plain_reason (subcommands.Timeline limit) text fault why = why
+plain_reason (subcommands.Explore limit tries states) text fault why = why
+plain_reason (subcommands.Test limit tries states) text fault why = why
+plain_reason (subcommands.Inspect limit) text fault why = why
+plain_reason (subcommands.Paused limit) text fault why = why
+plain_reason (subcommands.Run workers limit) text fault why = why
+
+pub answered : (invocation : Invocation) (text : List ℕ) (outcome : Result End Fault) (status : ℕ) → invocation.against ≡ None
+    → FindsPlainly invocation.subcommand text outcome → status ≡ report_status outcome → IsJudged invocation text status
+answered invocation text (Ok end) status none finds is =
+    let both = plainly_in invocation.subcommand invocation.against invocation.strict invocation.whole text end status none finds is in
+    (Ok end, both.0, both.1)
+answered invocation text (Err fault) status none finds is = (Err fault, plain_reason invocation.subcommand text fault finds, is)
+
+-- ---- of some program
+
+pub of_some : {E : Type 0} (invocation : Invocation) (text : List ℕ) (result : Result ℕ E) → IfOk result (IsJudged invocation text)
+    → IfOk result (λ status. (status ≡ 64) ⊎ Judges invocation status)
+of_some invocation text (Ok status) is = inr (text, is)
+of_some invocation text (Err e) is = is
+
+-- one of two exit statuses that say what was found
+pub either : (invocation : Invocation) (first second status : ℕ) → (status ≡ first) ⊎ (status ≡ second) → (first ≡ 64) ⊎ Judges invocation first
+    → (second ≡ 64) ⊎ Judges invocation second → (status ≡ 64) ⊎ Judges invocation status
+either invocation first second status (inl is) a b = subst (λ s. (s ≡ 64) ⊎ Judges invocation s) (sym is) a
+either invocation first second status (inr is) a b = subst (λ s. (s ≡ 64) ⊎ Judges invocation s) (sym is) b
+
+-- the exit status of tests, or, if how many passed can't be written, of that
+pub summed : (invocation : Invocation) (limit tries states status all : ℕ) → invocation.subcommand ≡ subcommands.Test limit tries states → (all ≡ status) ⊎ (all ≡ 6)
+    → (status ≡ 64) ⊎ Judges invocation status → (all ≡ 64) ⊎ Judges invocation all
+summed invocation limit tries states status all is (inl same) judges = subst (λ n. (n ≡ 64) ⊎ Judges invocation n) (sym same) judges
+summed invocation limit tries states status all is (inr lost) judges =
+    inr ([], (Err faults.Write, subst (λ (s : Subcommand). Finds s [] (Err faults.Write)) (sym is) tt, lost))
+
+-- ---- of any command line
+
+verdict_in : {T : Type 0} (s : Subcommand) (against : Option T) (strict whole : Bool) (text : List ℕ) (end : End) (status : ℕ) → Finds s text (Ok end)
+    → Says s against strict whole text end status → IsStatusOf s text status
+verdict_in (subcommands.Explore limit tries states) against strict whole text end status finds (Other, shown, is) =
+    of_verdict (subcommands.Explore limit tries states) text (Ok end) _ status finds refl (inr (inl is))
+verdict_in (subcommands.Explore limit tries states) against strict true text end status finds (SameSoFar, shown, is) =
+    of_verdict (subcommands.Explore limit tries states) text (Ok end) _ status finds refl (inr (inr is))
+verdict_in (subcommands.Explore limit tries states) against strict false text end status finds (SameSoFar, shown, is) =
+    told (subcommands.Explore limit tries states) text (Ok end) status finds (is ∙ sym (ap (λ (e : End). report_status (Ok e)) finds.0))
+verdict_in (subcommands.Explore limit tries states) against strict whole text end status finds (Same, shown, is) =
+    told (subcommands.Explore limit tries states) text (Ok end) status finds (is ∙ sym (ap (λ (e : End). report_status (Ok e)) finds.0))
+verdict_in (subcommands.Test limit tries states) against strict whole text end status finds (true, shown, is) =
+    told (subcommands.Test limit tries states) text (Ok end) status finds (is ∙ sym (ap (λ (e : End). report_status (Ok e)) finds.0))
+verdict_in (subcommands.Test limit tries states) against strict whole text end status finds (false, shown, is) =
+    of_verdict (subcommands.Test limit tries states) text (Ok end) _ status finds refl (inr is)
+verdict_in subcommands.Check None strict whole text end status finds is = told subcommands.Check text (Ok end) status finds is
+verdict_in subcommands.List None strict whole text end status finds is = told subcommands.List text (Ok end) status finds is
+verdict_in (subcommands.Reference limit) None strict whole text end status finds is = told (subcommands.Reference limit) text (Ok end) status finds is
+verdict_in (subcommands.Timeline limit) None strict whole text end status finds is = told (subcommands.Timeline limit) text (Ok end) status finds is
+verdict_in (subcommands.Inspect limit) None strict whole text end status finds is = told (subcommands.Inspect limit) text (Ok end) status finds is
+verdict_in (subcommands.Paused limit) None strict whole text end status finds is = told (subcommands.Paused limit) text (Ok end) status finds is
+verdict_in (subcommands.Run workers limit) None strict whole text end status finds is = told (subcommands.Run workers limit) text (Ok end) status finds is
+verdict_in (subcommands.Paused limit) (Some path) strict whole text end status finds (lines, recorded, true, traced, compared, is) =
+    told (subcommands.Paused limit) text (Ok end) status finds is
+verdict_in (subcommands.Paused limit) (Some path) strict whole text end status finds (lines, recorded, false, traced, compared, is) =
+    of_verdict (subcommands.Paused limit) text (Ok end) _ status finds refl (inr is)
+verdict_in (subcommands.Run workers limit) (Some path) strict whole text end status finds (lines, recorded, true, traced, compared, is) =
+    told (subcommands.Run workers limit) text (Ok end) status finds is
+verdict_in (subcommands.Run workers limit) (Some path) strict whole text end status finds (lines, recorded, false, traced, compared, is) =
+    of_verdict (subcommands.Run workers limit) text (Ok end) _ status finds refl (inr is)
+verdict_in subcommands.Check (Some path) strict whole text end status finds (lines, recorded, same, traced, compared, is) = absurd traced
+verdict_in subcommands.List (Some path) strict whole text end status finds (lines, recorded, same, traced, compared, is) = absurd traced
+verdict_in (subcommands.Reference limit) (Some path) strict whole text end status finds (lines, recorded, same, traced, compared, is) = absurd traced
+verdict_in (subcommands.Timeline limit) (Some path) strict whole text end status finds (lines, recorded, same, traced, compared, is) = absurd traced
+verdict_in (subcommands.Inspect limit) (Some path) strict whole text end status finds (lines, recorded, same, traced, compared, is) = absurd traced
+
+status_in : (invocation : Invocation) (text : List ℕ) (outcome : Result End Fault) (status : ℕ) → Finds invocation.subcommand text outcome → IsSaid invocation text outcome status
+    → IsStatusOf invocation.subcommand text status
+status_in invocation text (Ok end) status finds is = verdict_in invocation.subcommand invocation.against invocation.strict invocation.whole text end status finds is
+status_in invocation text (Err fault) status finds is = told invocation.subcommand text (Err fault) status finds is
+
+-- what the status says of some program is the status of some program
+pub tells : (invocation : Invocation) (status : ℕ) → (status ≡ 64) ⊎ Judges invocation status → (status ≡ 64) ⊎ Tells invocation.subcommand status
+tells invocation status (inl is) = inl is
+tells invocation status (inr (text, (outcome, finds, is))) = inr (text, status_in invocation text outcome status finds is)

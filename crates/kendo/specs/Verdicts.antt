@@ -1,0 +1,112 @@
+-- What an exit status says of a program.
+use Rattle.std.specs.Prelude.{◌≡◌, ℕ, Bool, true, false, List, Option, Some, None, Result, Ok, Err}
+use Rattle.command_line.specs.declared.arguments.Invocation.{Invocation}
+use Rattle.command_line.specs.declared.arguments.Subcommand.{Subcommand}
+use Rattle.command_line.specs.declared.arguments.Subcommand.TheVariants as subcommands
+use Rattle.exploration.specs.declared.findings.Verdict.{Verdict}
+use Rattle.exploration.specs.declared.findings.Verdict.TheVariants.{Other, Same, SameSoFar}
+use Rattle.go_text.specs.declared.fault.Fault.{Fault}
+use Rattle.kendo_compare.specs.Comparing.{IsCompared}
+use Rattle.kendo_compare.specs.Traces.{IsTraced, IsTracedBy}
+use Rattle.kendo_explore.specs.Explored.{AreShown}
+use Rattle.kendo_explore.specs.declared.exploring.Explored.{Explored}
+use Rattle.kendo_reading.specs.Reading.{Reads}
+use Rattle.kendo_report.specs.Outcome.{report_status}
+use Rattle.kendo_shell.specs.Answers.{Finds, IsReason}
+use Rattle.kendo_test.specs.Passing.{IsRight}
+use Rattle.kendo_test.specs.declared.testing.Verdict.{Verdict as TestVerdict}
+use Rattle.kendo_test.specs.declared.testing.Verdict.TheVariants as tests
+use Rattle.pauses.specs.Plans.{Pause}
+use Rattle.syntax.specs.Tree.{File}
+use Rattle.whole_run.specs.Runs.{IsLimit}
+use Rattle.word.specs.declared.end.End.{End}
+
+-- ---- explorations
+
+-- what an exploration of the text shows
+abbrev pub IsExplored : Subcommand → (text : List ℕ) → Verdict → Type 0
+IsExplored (subcommands.Explore limit tries states) text verdict =
+    IsLimit limit × ((file : File) × (explored : Explored) × Reads text file × AreShown file limit explored × (explored.verdict ≡ verdict))
+IsExplored subcommand text verdict = ⊥
+
+-- that, or why there is none
+abbrev pub Explores : Subcommand → (text : List ℕ) → Result Verdict Fault → Type 0
+Explores subcommand text (Ok verdict) = IsExplored subcommand text verdict
+Explores subcommand text (Err fault) = IsReason subcommand text fault
+
+-- the status of an exploration, which with `--whole` says if not all orders were searched
+abbrev pub explored_status : Verdict → (whole : Bool) → ℕ
+explored_status Other whole = 8
+explored_status Same whole = 0
+explored_status SameSoFar true = 9
+explored_status SameSoFar false = 0
+
+-- ---- tests
+
+abbrev pub passes : TestVerdict → Bool
+passes (tests.Passed expectation) = true
+passes (tests.Failed expectation) = false
+passes tests.Untested = false
+
+-- a test of the text shows that it passes, or that it fails or can't be tested
+abbrev pub IsTested : Subcommand → (text : List ℕ) → (passed : Bool) → Type 0
+IsTested (subcommands.Test limit tries states) text passed = IsLimit limit × ((verdict : TestVerdict) × IsRight verdict text limit × (passed ≡ passes verdict))
+IsTested subcommand text passed = ⊥
+
+-- that, or why there is none
+abbrev pub Tests : Subcommand → (text : List ℕ) → Result Bool Fault → Type 0
+Tests subcommand text (Ok passed) = IsTested subcommand text passed
+Tests subcommand text (Err fault) = IsReason subcommand text fault
+
+abbrev pub tested_status : (passed : Bool) → ℕ
+tested_status true = 0
+tested_status false = 1
+
+-- ---- runs that are compared with a trace
+
+-- the run of the text, which ends so, has this trace
+abbrev pub IsTracedAs : Subcommand → (text : List ℕ) → (lines : List ℕ) → End → Type 0
+IsTracedAs (subcommands.Run workers limit) text lines end = IsTraced text limit lines end
+IsTracedAs (subcommands.Paused limit) text lines end = (pauses : List Pause) × IsTracedBy pauses text limit lines end
+IsTracedAs subcommand text lines end = ⊥
+
+-- the status of a run that is compared, which is `status` if it is the recorded one
+abbrev pub compared_status : (is_same : Bool) → (status : ℕ) → ℕ
+compared_status true status = status
+compared_status false status = 8
+
+-- the status says whether the run of the text is the one of some recorded trace, byte by byte or goroutine by goroutine
+abbrev pub IsAgainst : Subcommand → (strict : Bool) → (text : List ℕ) → End → (status : ℕ) → Type 0
+IsAgainst subcommand strict text end status =
+    (lines : List ℕ) × (recorded : List ℕ) × (is_same : Bool) × IsTracedAs subcommand text lines end × IsCompared strict recorded lines is_same
+    × (status ≡ compared_status is_same (report_status (Ok end)))
+
+-- ---- all commands
+
+-- the status of a command that came to an end. `against` is the path of a recorded trace
+abbrev pub Says : {T : Type 0} → Subcommand → (against : Option T) → (strict whole : Bool) → (text : List ℕ) → End → (status : ℕ) → Type 0
+Says (subcommands.Explore limit tries states) against strict whole text end status =
+    (verdict : Verdict) × IsExplored (subcommands.Explore limit tries states) text verdict × (status ≡ explored_status verdict whole)
+Says (subcommands.Test limit tries states) against strict whole text end status =
+    (passed : Bool) × IsTested (subcommands.Test limit tries states) text passed × (status ≡ tested_status passed)
+Says subcommand None strict whole text end status = status ≡ report_status (Ok end)
+Says subcommand (Some path) strict whole text end status = IsAgainst subcommand strict text end status
+
+-- the status of what the command finds
+abbrev pub IsSaid : Invocation → (text : List ℕ) → Result End Fault → (status : ℕ) → Type 0
+IsSaid invocation text (Ok end) status = Says invocation.subcommand invocation.against invocation.strict invocation.whole text end status
+IsSaid invocation text (Err fault) status = status ≡ report_status (Err fault)
+
+-- the exit status of what the invocation finds in this program
+abbrev pub IsJudged : Invocation → (text : List ℕ) → (status : ℕ) → Type 0
+IsJudged invocation text status = (outcome : Result End Fault) × Finds invocation.subcommand text outcome × IsSaid invocation text outcome status
+
+-- the exit status of what it finds in some program, as a file's bytes are in no contract
+abbrev pub Judges : Invocation → (status : ℕ) → Type 0
+Judges invocation status = (text : List ℕ) × IsJudged invocation text status
+
+-- what a command finds that neither explores nor tests
+abbrev pub FindsPlainly : Subcommand → (text : List ℕ) → Result End Fault → Type 0
+FindsPlainly (subcommands.Explore limit tries states) text (Ok end) = ⊥
+FindsPlainly (subcommands.Test limit tries states) text (Ok end) = ⊥
+FindsPlainly subcommand text outcome = Finds subcommand text outcome
