@@ -48,11 +48,6 @@ pub(crate) fn compare_file(
         return Ok(USAGE);
     };
     let text = bytes.clone()?;
-    let recorded = Recorded {
-        path,
-        bytes: recorded.as_slice(),
-        is_strict: invocation.strict,
-    };
     let mut outputs = Outputs::new(rt, Trace::Dropped);
     let mut trace = Vec::new(alloc);
     let outcome = find(
@@ -70,6 +65,11 @@ pub(crate) fn compare_file(
     if outcome.is_err() {
         return Ok(status);
     }
+    let recorded = Recorded {
+        path,
+        bytes: recorded.as_slice(),
+        is_strict: invocation.strict,
+    };
     let program = program_of(invocation, plan, file, text.as_slice());
     let is_same = compare(rt, alloc, &program, &recorded, trace.as_slice())?;
     Ok(status_of(is_same, status))
