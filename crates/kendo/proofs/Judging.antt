@@ -77,20 +77,20 @@ against_in (subcommands.Run workers limit) against path strict whole text end st
     subst (λ a. Says (subcommands.Run workers limit) a strict whole text end status) (sym is) says
 against_in (subcommands.Paused limit) against path strict whole text end status is says =
     subst (λ a. Says (subcommands.Paused limit) a strict whole text end status) (sym is) says
-against_in subcommands.Check against path strict whole text end status is (lines, recorded, same, traced, compared, told) = absurd traced
-against_in subcommands.List against path strict whole text end status is (lines, recorded, same, traced, compared, told) = absurd traced
-against_in (subcommands.Reference limit) against path strict whole text end status is (lines, recorded, same, traced, compared, told) = absurd traced
-against_in (subcommands.Timeline limit) against path strict whole text end status is (lines, recorded, same, traced, compared, told) = absurd traced
-against_in (subcommands.Explore limit tries states) against path strict whole text end status is (lines, recorded, same, traced, compared, told) = absurd traced
-against_in (subcommands.Test limit tries states) against path strict whole text end status is (lines, recorded, same, traced, compared, told) = absurd traced
-against_in (subcommands.Inspect limit) against path strict whole text end status is (lines, recorded, same, traced, compared, told) = absurd traced
+against_in subcommands.Check against path strict whole text end status is (lines, recorded, same, traced, as_said, told_so) = absurd traced
+against_in subcommands.List against path strict whole text end status is (lines, recorded, same, traced, as_said, told_so) = absurd traced
+against_in (subcommands.Reference limit) against path strict whole text end status is (lines, recorded, same, traced, as_said, told_so) = absurd traced
+against_in (subcommands.Timeline limit) against path strict whole text end status is (lines, recorded, same, traced, as_said, told_so) = absurd traced
+against_in (subcommands.Explore limit tries states) against path strict whole text end status is (lines, recorded, same, traced, as_said, told_so) = absurd traced
+against_in (subcommands.Test limit tries states) against path strict whole text end status is (lines, recorded, same, traced, as_said, told_so) = absurd traced
+against_in (subcommands.Inspect limit) against path strict whole text end status is (lines, recorded, same, traced, as_said, told_so) = absurd traced
 
 -- a run that ended was compared with a trace
-pub compared : {T : Type 0} (s : Subcommand) (against : Option T) (path : T) (strict whole : Bool) (text lines recorded : List ℕ) (end : End) (is_same : Bool) (told status : ℕ)
-    → against ≡ Some path → IsTracedAs s text lines end → IsCompared strict recorded lines is_same → told ≡ report_status (Ok end) → status ≡ compared_status is_same told
+pub compared : {T : Type 0} (s : Subcommand) (against : Option T) (path : T) (strict whole : Bool) (text lines recorded : List ℕ) (end : End) (is_same : Bool) (report status : ℕ)
+    → against ≡ Some path → IsTracedAs s text lines end → IsCompared strict recorded lines is_same → report ≡ report_status (Ok end) → status ≡ compared_status is_same report
     → Says s against strict whole text end status
-compared s against path strict whole text lines recorded end is_same told status path_is traced compared told_is is =
-    against_in s against path strict whole text end status path_is (lines, recorded, is_same, traced, compared, is ∙ ap (compared_status is_same) told_is)
+compared s against path strict whole text lines recorded end is_same report status path_is traced same_or_not reported is =
+    against_in s against path strict whole text end status path_is (lines, recorded, is_same, traced, same_or_not, is ∙ ap (compared_status is_same) reported)
 
 -- ---- a command that neither explores nor tests, nor compares its run
 
@@ -172,19 +172,19 @@ verdict_in (subcommands.Timeline limit) None strict whole text end status finds 
 verdict_in (subcommands.Inspect limit) None strict whole text end status finds is = told (subcommands.Inspect limit) text (Ok end) status finds is
 verdict_in (subcommands.Paused limit) None strict whole text end status finds is = told (subcommands.Paused limit) text (Ok end) status finds is
 verdict_in (subcommands.Run workers limit) None strict whole text end status finds is = told (subcommands.Run workers limit) text (Ok end) status finds is
-verdict_in (subcommands.Paused limit) (Some path) strict whole text end status finds (lines, recorded, true, traced, compared, is) =
+verdict_in (subcommands.Paused limit) (Some path) strict whole text end status finds (lines, recorded, true, traced, as_said, is) =
     told (subcommands.Paused limit) text (Ok end) status finds is
-verdict_in (subcommands.Paused limit) (Some path) strict whole text end status finds (lines, recorded, false, traced, compared, is) =
+verdict_in (subcommands.Paused limit) (Some path) strict whole text end status finds (lines, recorded, false, traced, as_said, is) =
     of_verdict (subcommands.Paused limit) text (Ok end) _ status finds refl (inr is)
-verdict_in (subcommands.Run workers limit) (Some path) strict whole text end status finds (lines, recorded, true, traced, compared, is) =
+verdict_in (subcommands.Run workers limit) (Some path) strict whole text end status finds (lines, recorded, true, traced, as_said, is) =
     told (subcommands.Run workers limit) text (Ok end) status finds is
-verdict_in (subcommands.Run workers limit) (Some path) strict whole text end status finds (lines, recorded, false, traced, compared, is) =
+verdict_in (subcommands.Run workers limit) (Some path) strict whole text end status finds (lines, recorded, false, traced, as_said, is) =
     of_verdict (subcommands.Run workers limit) text (Ok end) _ status finds refl (inr is)
-verdict_in subcommands.Check (Some path) strict whole text end status finds (lines, recorded, same, traced, compared, is) = absurd traced
-verdict_in subcommands.List (Some path) strict whole text end status finds (lines, recorded, same, traced, compared, is) = absurd traced
-verdict_in (subcommands.Reference limit) (Some path) strict whole text end status finds (lines, recorded, same, traced, compared, is) = absurd traced
-verdict_in (subcommands.Timeline limit) (Some path) strict whole text end status finds (lines, recorded, same, traced, compared, is) = absurd traced
-verdict_in (subcommands.Inspect limit) (Some path) strict whole text end status finds (lines, recorded, same, traced, compared, is) = absurd traced
+verdict_in subcommands.Check (Some path) strict whole text end status finds (lines, recorded, same, traced, as_said, told_so) = absurd traced
+verdict_in subcommands.List (Some path) strict whole text end status finds (lines, recorded, same, traced, as_said, told_so) = absurd traced
+verdict_in (subcommands.Reference limit) (Some path) strict whole text end status finds (lines, recorded, same, traced, as_said, told_so) = absurd traced
+verdict_in (subcommands.Timeline limit) (Some path) strict whole text end status finds (lines, recorded, same, traced, as_said, told_so) = absurd traced
+verdict_in (subcommands.Inspect limit) (Some path) strict whole text end status finds (lines, recorded, same, traced, as_said, told_so) = absurd traced
 
 status_in : (invocation : Invocation) (text : List ℕ) (outcome : Result End Fault) (status : ℕ) → Finds invocation.subcommand text outcome → IsSaid invocation text outcome status
     → IsStatusOf invocation.subcommand text status

@@ -27,7 +27,6 @@ const OTHER: u8 = 8;
 
 /// Runs the program of a file, by the plan if one is named, and reports on standard error how its run compares with the trace that the
 /// command names.
-#[tactic(auto, using(crate::proofs::Judging::{compared, refused}))]
 pub(crate) fn compare_file(
     rt: &HostRuntime,
     threads: &(impl Threads + Wait + Sync),
@@ -62,17 +61,19 @@ pub(crate) fn compare_file(
     let status = told(rt, alloc, None, &outcome)?;
     let kept = kept_program(alloc, invocation, file, Some(plan), text.as_slice());
     explain(rt, alloc, invocation, kept, outcome, outputs.refused());
-    if outcome.is_err() {
-        return Ok(status);
-    }
     let recorded = Recorded {
         path,
         bytes: recorded.as_slice(),
         is_strict: invocation.strict,
     };
     let program = program_of(invocation, plan, file, text.as_slice());
-    let is_same = compare(rt, alloc, &program, &recorded, trace.as_slice())?;
-    Ok(status_of(is_same, status))
+    match outcome {
+        Ok(_) => {
+            let is_same = compare(rt, alloc, &program, &recorded, trace.as_slice())?;
+            Ok(status_of(is_same, status))
+        }
+        Err(_) => Ok(status),
+    }
 }
 
 /// The trace in a file. `None` if it can't be read or is no trace: standard error says so, and, if the command explains, why.

@@ -67,7 +67,6 @@ pub(crate) fn explore_file(
 }
 
 /// Like `explore_file`, for the bytes of the file.
-#[tactic(auto, using(crate::proofs::Judging::{explored, refused}))]
 fn explore(
     rt: &HostRuntime,
     alloc: Global,

@@ -103,7 +103,6 @@ fn write_counts(rt: &HostRuntime, alloc: Global, counts: Counts, status: u8) -> 
 }
 
 /// Tests the program of a file, and reports it on standard output. The plans that show its ends in other orders go to files.
-#[tactic(auto, using(crate::proofs::Judging::{refused, tested}))]
 fn test_file(
     rt: &HostRuntime,
     threads: &(impl Threads + Wait + Sync),

@@ -1,5 +1,7 @@
+use Rattle.std.proofs.Common.{subst}
 use Rattle.std.proofs.lemmas.Result.{err_from_is_err_and}
 use Rattle.kendo_shell.proofs.Findings.{limit_ended, test_lost, test_stops}
+use Rattle.kendo_test.specs.Passing.{IsRight}
 use Rattle.kendo.proofs.testing.test.Goals as goal
 
 pub returns-in_err-tested : goal.returns-in_err-tested
@@ -16,4 +18,4 @@ returns-in_err-write g c =
 pub returns : goal.returns
 returns g c =
     let made = c.in_ok-tested.ensures in
-    (limit_ended c.args.limit _ made.limit, (c.in_ok-tested.tested.verdict, made.right, c.is_passed.ensures))
+    (limit_ended c.args.limit _ made.limit, (c.in_ok-tested.tested.verdict, subst (λ text. IsRight c.in_ok-tested.tested.verdict text c.args.limit) c.as_slice.ensures.value made.right, c.is_passed.ensures))
