@@ -105,7 +105,7 @@ module _ (count : ℕ) (slots : Numbered) (items : Items) (orders : Orders) (all
       changes : Changes items s item new
       changes = written_back items given changed len s item (all.within n s has) size same set
 
-      -- who has it is late
+      -- the one that has it is late
       pub kept_set : (seen : Items) (after : Orders) → seen ≡ new → (s ≡ orders.late → after ≡ orders) → (s ≢ orders.late → after ≡ now_late orders slots seen s) → IfSome (row_in seen s) KeepsFloor → AreLiving count slots new after
       kept_set seen after see kept moved floor = kept_changed count slots items orders all n s has item new changes after (record {
         same = kept;

@@ -14,7 +14,7 @@ use Rattle.awake_rows.specs.Living.{AllAbove, AreLiving, IsClear, IsFirst, IsNot
 use Rattle.awake_rows.specs.declared.orders.Orders.{Orders}
 use Rattle.awake_rows.proofs.Least.{among_floor, clock_of_slot, first_alone, floor_among, is_anyones, keyed_some, slot_of_clock}
 
--- ---- who has the turn
+-- ---- the goroutine that has the turn
 
 turn_all : (k : Key) (rows : Rows) (from : ℕ) → ((i : ℕ) → floor_above k (from + i) (slice_index_or rows i None) ≡ true) → has_turn k from rows ≡ true
 turn_all k [] from h = refl
@@ -128,7 +128,7 @@ module _ (count : ℕ) (slots : Numbered) (items : Items) (orders : Orders) (all
   pub waits_lent : (r : Option Key) (n : ℕ) → IsFirst (IsOther orders.late lent_clock slots items) r → IsNotClear k r n → n ≢ k.number → (has_turn k 0 rows ≡ false) × IsBefore rows k n
   waits_lent r n first h ne = waits_of rows k (IsOther orders.late lent_clock slots items) r n first (λ j p. floor_there j.number p.0 j.clock p.2 (among_floor (row_in items p.0) j.clock (all.ordered.floors p.0) (inr p.3))) h ne
 
-  -- who stands before the key is found in its slot
+  -- one that stands before the key is found in its slot
   pub waits_found : (n : ℕ) → IsNotAbove slots items k n → (has_turn k 0 rows ≡ false) × IsBefore rows k n
   waits_found n h =
       let is = not_above k n (row_in items h.0) h.2 in

@@ -11,7 +11,7 @@ use Rattle.word.specs.Worlds.{rules}
 use Rattle.word.proofs.Laws.{laws}
 use Rattle.awake_rows.specs.Slots.{State}
 
--- who asks makes no step
+-- a goroutine that makes a request makes no step
 stays : (code : Code) (limit : ℕ) (s : State) → is_some (asks (code_kind code) limit s) ≡ true → stepped (rules (code_kind code) limit) s ≡ s
 stays code limit s h = ap (λ o. unwrap_or o s) ((laws (code_kind code) limit).parks s h)
 

@@ -132,7 +132,7 @@ with_place orders = record orders {
   lent = orders.lent ++ None ∷ [];
 }
 
--- the same list with more indexes, where nothing stands
+-- the old list, with more indexes at which nothing stands
 pub record Grows {A : Type 0} (old new : List (Option A)) : Type 0 where
   pub size : length old ≤ length new
   pub same : (s : ℕ) → slice_index_or new s None ≡ slice_index_or old s None
@@ -175,7 +175,7 @@ AllAbove slots items k = (s n : ℕ) → number_at slots s ≡ Some n → floor_
 abbrev pub IsNotAbove : Numbered → Items → Key → ℕ → Type 0
 IsNotAbove slots items k n = (s : ℕ) × (number_at slots s ≡ Some n) × (floor_above k n (row_in items s) ≡ false)
 
--- the first of two keys, where there are any
+-- the first of two keys, if there are any
 abbrev pub soonest : Option Key → Option Key → Option Key
 soonest None other = other
 soonest (Some k) other = sooner k other

@@ -42,7 +42,7 @@ lease_of (Here state) = None
 lease_of (Lent kept) = Some (record { present = kept.value; published = kept.value.clock })
 lease_of (Ahead ahead) = Some (record { present = ahead.value.present; published = ahead.value.published })
 
--- the floor of one that is not lent is its clock, and who is lent is not parked
+-- the floor of one that is not lent is its clock, and one that is lent is not parked
 abbrev pub IsFloor : Held → ℕ → Bool → Type 0
 IsFloor (Here state) floor parked = floor ≡ state.clock
 IsFloor (Lent kept) floor parked = parked ≡ false
@@ -88,7 +88,7 @@ clock_among among.Parked row = waiting_clock row
 clock_among among.Free row = free_clock row
 clock_among among.Awake row = floor_clock row
 
--- as a slot keeps it: the floor of one that is not lent is its clock, and who is parked is not lent
+-- as a slot keeps it: the floor of one that is not lent is its clock, and one that is parked is not lent
 pub record KeepsFloor (row : Row State) : Type 0 where
   pub floor : row.lease ≡ None → row.floor ≡ row.state.clock
   pub unlent : row.parked ≡ true → row.lease ≡ None
@@ -119,7 +119,7 @@ IsFreeIn rows n state = slice_index_or rows n None ≡ Some (free_row state)
 abbrev pub answered_rows : Code → Rows → ℕ → ℕ → Reply → Rows
 answered_rows code rows n clock reply = slice_set rows n (option_map (λ (row : Row State). free_row (told (code_kind code) row.state clock reply)) (slice_index_or rows n None))
 
--- a goroutine of this code and limit; who is parked asks, and is not lent
+-- a goroutine of this code and limit; one that is parked makes a request, and is not lent
 pub record IsRowOf (code : Code) (limit : ℕ) (row : Row State) : Type 0 where
   pub state : IsStateOf code limit row.state
   pub present : IfSome row.lease (λ l. IsStateOf code limit l.present)
@@ -135,8 +135,8 @@ FitsAll code limit rows = (k : ℕ) → FitsRow code limit (slice_index_or rows 
 abbrev pub FitsBeds : Code → ℕ → Beds → Type 0
 FitsBeds code limit beds = (k : ℕ) → IfSome (slice_index_or beds k None) (λ s. IsStateOf code limit s)
 
--- one that was in this state has made local steps, at most so many, and is parked if it asks; what it answers is whether it does,
--- and where it doesn't it has made all of them. It answers nothing where memory is wanting, and then does not ask
+-- one that was in state `base` has made at most `quantum` local steps, and is parked if it makes a request; `answer` is whether it
+-- does, and if it doesn't it has made all of them. If out of memory, `answer` is `None`, and it is not parked
 abbrev pub IsWorked : Code → ℕ → ℕ → State → Option Bool → Row State → Type 0
 IsWorked code limit quantum base answer row =
     Goes code limit quantum base row.state × IsStateOf code limit row.state × (row ≡ back_row row.state (is_some (asks (code_kind code) limit row.state)))

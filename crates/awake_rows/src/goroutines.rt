@@ -144,7 +144,7 @@ impl Goroutines {
         Ok(())
     }
 
-    /// Ends goroutine `number`, if it is awake. Returns its state, in whose room another one may start; contracts don't see it.
+    /// Ends goroutine `number`, if it is awake. Returns its state, for another one to start in; contracts don't see it.
     pub fn end(&mut self, number: u64) -> Option<GoState>
         ensures { self.new ≡ record self.old { rows = slice_set self.old.rows number None } }
     {
@@ -174,7 +174,7 @@ impl Goroutines {
         note(&mut self.orders, &self.slots, &self.items, slot);
     }
 
-    /// Goroutine `number`, which is awake, falls asleep in its state. Returns its room, for a goroutine that is woken.
+    /// Goroutine `number`, which is awake, falls asleep in its state. Returns its `Room`, for a goroutine that is woken.
     #[inline(always)]
     pub fn doze(&mut self, number: u64) -> Room
         requires awake { IsSome (slice_index_or self.old.rows number None) }
@@ -190,7 +190,7 @@ impl Goroutines {
         room
     }
 
-    /// Wakes goroutine `number`, if it is asleep, in this room, with this reply and clock. It may be lent.
+    /// Wakes goroutine `number`, if it is asleep, in `room`, with this reply and clock. It may be lent.
     #[inline(always)]
     pub fn wake(&mut self, number: u64, room: Room, code: &Verified, reply: &Reply, clock: Clock)
         requires { IfSome (slice_index_or self.old.beds number None) (λ s. IsFrameOf code.now s.state) }
@@ -247,9 +247,9 @@ impl Goroutines {
     }
 
     /// Goroutine `number`, which may be lent, makes at most `quantum` local steps where it stands, up to a request, and is parked if
-    /// it then asks. Answers whether it does.
+    /// it then makes one. Returns whether it does.
     ///
-    /// Errors: want of memory, when some of the steps may be made.
+    /// Errors: out of memory, when some of the steps may be made.
     pub fn work(
         &mut self,
         alloc: Global,
@@ -318,7 +318,7 @@ impl Goroutines {
         soonest(own, self.orders.others(among))
     }
 
-    /// Who stands before the key: an awake goroutine whose floor the key is not below. None where the key has the turn.
+    /// A goroutine that stands before the key: an awake one whose floor the key is not below. `None` if the key has the turn.
     #[inline(always)]
     pub fn blocker(&self, key: Key) -> Option<u64>
         ensures { MatchOption result (has_turn key 0 self.now.rows ≡ true) (λ n. (has_turn key 0 self.now.rows ≡ false) × IsBefore self.now.rows key n) }
@@ -332,8 +332,8 @@ impl Goroutines {
         Some(number)
     }
 
-    /// Who is not above the key: one that stands before it, or its own goroutine at an earlier floor. Where nobody is, the key has
-    /// the turn.
+    /// A goroutine that is not above the key: one that stands before it, or its own at an earlier floor. If there is none, the key
+    /// has the turn.
     #[inline(always)]
     fn not_above(&self, key: &Key) -> Option<u64>
         ensures none { IfNone result (has_turn key.now 0 self.now.rows ≡ true) }

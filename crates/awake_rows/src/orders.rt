@@ -187,7 +187,7 @@ fn keeps_floor_at(items: &[Option<Goroutine>], slot: usize)
     }
 }
 
-/// The first of two keys, where there are any.
+/// The first of two keys, if there are any.
 #[inline(always)]
 pub(crate) fn soonest(key: Option<Key>, other: Option<Key>) -> Option<Key>
     ensures { result ≡ soonest key other }

@@ -115,7 +115,7 @@ pub(crate) fn lend_row(items: &mut [Option<Goroutine>], slot: usize) -> Option<G
     None
 }
 
-/// A goroutine that may be lent makes local steps where it stands: whether it then asks.
+/// A goroutine that may be lent makes local steps where it stands. Returns whether it then makes a request.
 #[inline(always)]
 pub(crate) fn work_row(
     alloc: Global,
@@ -172,7 +172,7 @@ pub(crate) fn raise_row(items: &mut [Option<Goroutine>], slot: usize, clock: Clo
     }
 }
 
-/// The goroutine in `slot`, which is awake, falls asleep in its state. Returns its room.
+/// The goroutine in `slot`, which is awake, falls asleep in its state. Returns its `Room`.
 #[inline(always)]
 pub(crate) fn doze_at(items: &mut [Option<Goroutine>], slot: usize) -> Room
     requires awake { IsSome (row_in items.old slot) }
@@ -188,7 +188,7 @@ pub(crate) fn doze_at(items: &mut [Option<Goroutine>], slot: usize) -> Room
     room
 }
 
-/// Wakes the goroutine in `slot`, which is asleep, in this room, with this reply and clock. It may be lent.
+/// Wakes the goroutine in `slot`, which is asleep, in `room`, with this reply and clock. It may be lent.
 #[inline(always)]
 pub(crate) fn wake_at(
     items: &mut [Option<Goroutine>],

@@ -86,7 +86,7 @@ impl Slot {
         }
     }
 
-    /// The goroutine's clock, where it is parked.
+    /// The goroutine's clock, if it is parked.
     #[inline(always)]
     pub fn parked_clock(&self) -> Option<Clock>
         ensures { result ≡ cond self.now.parked (Some self.now.state.clock) None }
@@ -97,7 +97,7 @@ impl Slot {
         }
     }
 
-    /// The goroutine's clock, where it may be lent.
+    /// The goroutine's clock, if it may be lent.
     #[inline(always)]
     pub fn free_clock(&self) -> Option<Clock>
         ensures { result ≡ free_clock (Some self.now) }
@@ -108,7 +108,7 @@ impl Slot {
         }
     }
 
-    /// The goroutine's floor, where it is lent.
+    /// The goroutine's floor, if it is lent.
     #[inline(always)]
     pub(crate) fn lent_clock(&self) -> Option<Clock>
         ensures { result ≡ lent_clock (Some self.now) }
@@ -211,10 +211,10 @@ impl Slot {
         }
     }
 
-    /// One that may be lent makes at most `quantum` local steps where it stands, up to a request, and is parked if it then asks.
-    /// Answers whether it does.
+    /// One that may be lent makes at most `quantum` local steps where it stands, up to a request, and is parked if it then makes
+    /// one. Returns whether it does.
     ///
-    /// Errors: want of memory, when some of the steps may be made.
+    /// Errors: out of memory, when some of the steps may be made.
     pub(crate) fn work(
         &mut self,
         alloc: Global,
@@ -245,7 +245,7 @@ impl Slot {
         self.tell(code, &reply, clock);
     }
 
-    /// The same, where the reply stays the caller's.
+    /// Like `answer`, but borrows the reply.
     #[inline(always)]
     pub(crate) fn tell(&mut self, code: &Verified, reply: &Reply, clock: Clock)
         requires frame { IsFrameOf code.now self.old.state.state }
@@ -322,7 +322,7 @@ impl Slot {
         Ok(())
     }
 
-    /// One that is lent makes a local step, where it has one.
+    /// One that is lent makes a local step, if it has one.
     fn local(&mut self, alloc: Global, code: &Verified, limit: u64) -> Result<(), Memory>
         requires { IsRowOf code.now limit self.old }
         ensures ok { OnOk result (self.new ≡ local (rules (code_kind code.now) limit) self.old self.old.lease) }
@@ -399,7 +399,7 @@ impl Slot {
     }
 }
 
-/// The state after one local step, where there is one.
+/// The state after one local step, if there is one.
 fn after_step(
     alloc: Global,
     code: &Verified,

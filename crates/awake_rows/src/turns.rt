@@ -23,7 +23,7 @@ pub enum Among {
 }
 
 impl Among {
-    /// The goroutine's clock, where it counts.
+    /// The goroutine's clock, if it counts.
     #[inline(always)]
     fn clock(self, slot: &Slot) -> Option<Clock>
         ensures { result ≡ clock_among self (Some slot.now) }

@@ -175,7 +175,7 @@ drop_more zero xs ys le = refl
 drop_more (suc n) [] ys le = absurd (omega (arith, le))
 drop_more (suc n) (x ∷ xs) ys le = drop_more n xs ys (omega (arith, le))
 
--- where all are so many and these, all and more are so many and these and more
+-- if `all` has `out` elements more than `kept`, this still holds once `more` is appended to both
 longer : (all new kept more : List ℕ) (out : ℕ) → new ≡ all ++ more → length all ≡ out + length kept → length new ≡ out + length (kept ++ more)
 longer all new kept more out e size =
     let long = ap length e ∙ length-append all more in
@@ -186,7 +186,7 @@ longer all new kept more out e size =
 kept_more : (all new kept more : List ℕ) (out : ℕ) → new ≡ all ++ more → length all ≡ out + length kept → drop out all ≡ kept → drop out new ≡ kept ++ more
 kept_more all new kept more out e size bytes = ap (drop out) e ∙ drop_more out all more (omega (arith, size)) ∙ ap (λ xs. xs ++ more) bytes
 
--- in an event's room for each event
+-- the bound of 2^64 bytes for each event is kept
 fits_more : (out : ℕ) (kept more : List ℕ) (events after : ℕ) → out + length kept ≤ events * 2 ^ 64 → length (kept ++ more) < 2 ^ 64 → after ≡ events + 1 → out + length (kept ++ more) ≤ after * 2 ^ 64
 fits_more out kept more events after room fits one =
     let sum = length-append kept more in
@@ -261,7 +261,7 @@ commits d n event new h t done fits room trace_room =
       },
     )
 
--- the same where the bytes and the lines that are left are known by equations
+-- the book after a commit, if the bytes and the lines that are left are known by equations
 pub committed : (d : Desk) (n : ℕ) (event : Recorded) (new : CoreValue) (pending lines : List ℕ) → IsDesk d → HasTurn d.core n → Performs d.code d.limit d.core n event (bytes_of event) new → FitsCore d.code d.limit new
     → pending ≡ d.pending ++ bytes_of event → lines ≡ d.lines ++ kept_line d.traces (event_of event) → length pending < 2 ^ 64 → length lines < 2 ^ 64
     → IsDesk (record d { core = new; pending = pending; lines = lines }) × CommitsNext d event (record d { core = new; pending = pending; lines = lines })
@@ -271,7 +271,7 @@ committed d n event new pending lines h turn done fits bytes line room trace_roo
     subst (λ (xs : List ℕ). IsDesk (record d { core = new; pending = xs; lines = lines }) × CommitsNext d event (record d { core = new; pending = xs; lines = lines })) (sym bytes)
     (subst (λ (ls : List ℕ). IsDesk (record d { core = new; pending = d.pending ++ bytes_of event; lines = ls }) × CommitsNext d event (record d { core = new; pending = d.pending ++ bytes_of event; lines = ls })) (sym line) r)
 
--- who is lent is neither the actor nor asleep, so its lease stays out
+-- a lent goroutine is neither the actor nor asleep, so its lease stays out
 pub commits_keeps : (d e : Desk) (event : Recorded) → IsDesk d → CommitsNext d event e → KeepsLeases d e
 commits_keeps d e event h c l out =
     let r = rules_of d in
@@ -302,7 +302,7 @@ commits_keeps d e event h c l out =
 abbrev begun : Desk → ℕ → Whole State (Rest Frames)
 begun d n = moment (code_kind d.code) d.limit n
 
--- who is awake while nobody is parked stands before whatever comes
+-- if nobody is parked, a goroutine that is awake stands before whatever comes
 pub waits_free : (d : Desk) (n : ℕ) → IsDesk d → d.core.ending ≡ None → least (keys waiting_clock 0 d.core.rows) ≡ None → IsAwake d.core.rows n → StandsBefore d.core n
 waits_free d n h going e awake =
     let a = h.at.2 in
@@ -345,7 +345,7 @@ ended_desk d e h ended =
       ending = ends_by (begun d h.at.0) e d.core.ending (ap (λ (x : Rest Frames). x.shared.ending) same ∙ sym a.core.ending) ended;
     }
 
--- nobody is awake
+-- no goroutine is awake
 pub dead_desk : (d : Desk) → IsDesk d → d.core.ending ≡ None → IsNobodyAwake d.core.rows → IsEnd d.code d.limit d.traces d.core.events (d.taken + length d.pending) (d.traced + length d.lines) Deadlock
 dead_desk d h going nobody =
     let a = h.at.2 in
@@ -361,7 +361,7 @@ dead_desk d h going nobody =
       ending = ap (λ (x : Option Ending). cond (is_some x) x (cond (is_deserted (map is_some w.awake)) (Some Deadlock) None)) none ∙ ap (λ b. cond b (Some Deadlock) None) (deserted w.awake all);
     }
 
--- what was not taken out stands behind what was
+-- what was not taken out follows what was
 pub pending_stands : (d : Desk) → IsDesk d → IsPiece d.code d.limit d.taken d.pending
 pending_stands d h =
     let a = h.at.2 in
@@ -369,7 +369,7 @@ pending_stands d h =
     let long = ap length same ∙ a.size in
     (h.at.0, omega (arith, long), ap (λ xs. take (length d.pending) (drop d.taken xs)) same ∙ ap (take (length d.pending)) a.bytes ∙ take-length d.pending)
 
--- the same of the trace, whatever is kept of it
+-- like `pending_stands`, of the trace, whatever is kept of it
 kept_stands : (traces : Bool) (events : List Event) (from : ℕ) (bytes : List ℕ) → length (kept_trace traces events) ≡ from + length bytes → drop from (kept_trace traces events) ≡ bytes
     → (from + length bytes ≤ length (trace events)) × (take (length bytes) (drop from (trace events)) ≡ bytes)
 kept_stands true events from bytes size last = (omega (arith, size), ap (take (length bytes)) last ∙ take-length bytes)
@@ -383,7 +383,7 @@ lines_stand d h =
     let k = kept_stands d.traces (moment (code_kind d.code) d.limit h.at.0).shared.shared.events d.traced d.lines (ap length same ∙ a.trace_size) (ap (drop d.traced) same ∙ a.trace_bytes) in
     (h.at.0, k.0, k.1)
 
--- where all that was left is taken out, nothing is left
+-- once all that was left is taken out, nothing is left
 none_left : (all kept left : List ℕ) (out count : ℕ) → length all ≡ out + length kept → count ≡ length kept → left ≡ [] → length all ≡ out + count + length left
 none_left all kept left out count size whole none =
     let long = ap length none in

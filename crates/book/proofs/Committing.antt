@@ -39,7 +39,7 @@ settles_keep_run code limit traces old new (Committed event) h is =
 settles_keep_run code limit traces old new (Waiting n) h is = looks_keep_run code limit traces old new h.only is
 settles_keep_run code limit traces old new (Ended end) h is = record { code = ap (λ (d : Desk). d.code) h.0 ∙ is.code; limit = ap (λ (d : Desk). d.limit) h.0 ∙ is.limit; traces = ap (λ (d : Desk). d.traces) h.0 ∙ is.traces }
 
--- whatever a settling answers, the book is of the run
+-- whatever a settling returns, the book is of the run
 pub settled_keeps_run : (code : Code) (limit : ℕ) (traces : Bool) (old new : Desk) (event : Recorded) (r : Result Reached Memory) → IfOk r (λ s. Settles old (settled_by s event) new) → OnErr r (OnlyLooks old new) → IsOfRun code limit traces old → IsOfRun code limit traces new
 settled_keeps_run code limit traces old new event (Ok s) h e is = settles_keep_run code limit traces old new (settled_by s event) h is
 settled_keeps_run code limit traces old new event (Err x) h e is = looks_keep_run code limit traces old new e is
@@ -55,11 +55,11 @@ settled_one old new event r committed h is = (settled_by r event, h, is)
 pub one_more : (old mid new : Desk) (events : List Recorded) (event : Recorded) (r : Reached) → r ≡ reached.Committed → Commits old events mid → Settles mid (settled_by r event) new → (all : List Recorded) × Commits old all new
 one_more old mid new events event r is h s = (event ∷ events, (mid, h, subst (λ (r : Reached). Settles mid (settled_by r event) new) is s))
 
--- want of memory
+-- out of memory
 pub some_settled : (old mid new : Desk) (events : List Recorded) → Commits old events mid → OnlyLooks mid new → SettlesSome old new
 some_settled old mid new events h looks = (events, mid, h, looks)
 
--- somebody stands before the next event
+-- a goroutine stands before the next event
 pub all_waiting : (old mid new : Desk) (events : List Recorded) (event : Recorded) (r : Reached) (n : ℕ) → r ≡ reached.Waiting n → Commits old events mid → Settles mid (settled_by r event) new → SettlesAll old None new
 all_waiting old mid new events event r n is h s = (events, mid, h, (n, subst (λ (r : Reached). Settles mid (settled_by r event) new) is s))
 

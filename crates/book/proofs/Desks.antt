@@ -38,7 +38,7 @@ module _ {S W : Type 0} (r : Rules S W) (laws : Laws r) where
   ok_at None row h = elim h [ ]
   ok_at (Some s) row h = h.1
 
-  -- who is parked asks
+  -- a parked goroutine makes a request
   pub parked_asks : (m : Machine S W) (w : World S W) → Stands r m w → (k : Key) → least (keys (parked_clock r) 0 m.rows) ≡ Some k → (row : Row S) × (slice_index_or m.rows k.number None ≡ Some row) × (row.parked ≡ true) × (r.clock row.state ≡ k.clock) × (r.asks row.state ≡ true)
   parked_asks m w h k e =
       let nx : IsNext (parked_clock r) None m.rows (Some k) = rw e at (next_is (parked_clock r) None refl m.rows) in
@@ -53,7 +53,7 @@ module _ {S W : Type 0} (r : Rules S W) (laws : Laws r) where
   unparked true h = absurd (h refl)
   unparked false h = refl
 
-  -- where nobody is parked, who is awake is not
+  -- if nobody is parked, a goroutine that is awake is not
   pub waits_alone : (m : Machine S W) (n : ℕ) (row : Row S) → least (keys (parked_clock r) 0 m.rows) ≡ None → slice_index_or m.rows n None ≡ Some row → row.parked ≡ false
   waits_alone m n row e at =
       let nx : IsNext (parked_clock r) None m.rows None = rw e at (next_is (parked_clock r) None refl m.rows) in
@@ -82,7 +82,7 @@ module _ {S W : Type 0} (r : Rules S W) (laws : Laws r) where
   is_there None row h = elim h [ ]
   is_there (Some s) row h = (s, refl)
 
-  -- who has a row is awake in the one-thread run
+  -- a goroutine that has a row is awake in the one-thread run
   pub row_awake : (m : Machine S W) (w : World S W) → Stands r m w → (k : ℕ) (row : Row S) → slice_index_or m.rows k None ≡ Some row → (s : S) × (slice_index_or w.awake k None ≡ Some s)
   row_awake m w h k row at = is_there (get_or w.awake k None) row (rw at at (h.rows k))
 

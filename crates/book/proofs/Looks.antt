@@ -109,7 +109,7 @@ seen_is_desk d x h s =
 
 -- ---- what a look leaves of rows and words
 
--- who stands in a row after a look
+-- the goroutine that stands in a row after a look
 pub record IsRaised (row new : Row State) : Type 0 where
   pub state : new.state ≡ row.state
   pub lease : new.lease ≡ row.lease
@@ -127,7 +127,7 @@ within_rows rows n row e = elim (cases_lt n (length rows)) [
   | inr l ↦ absurd (some_not_none row (sym e ∙ get_or_past rows n None l))
 ]
 
--- whoever stood in a row still does
+-- a goroutine that stood in a row still does
 pub still_there : (rows : Rows) (n p k : ℕ) (row : Row State) → slice_index_or rows k None ≡ Some row → (new : Row State) × (slice_index_or (raised_rows rows n p) k None ≡ Some new) × IsRaised row new
 still_there rows n p k row here = elim (cases_eq k n) [
   | inl same ↦
@@ -144,7 +144,7 @@ raised_some (Some row) p new e =
     let is : raised_row p row ≡ new = cc in
     (row, refl, subst (IsRaised row) is (record { state = refl; lease = refl; parked = refl }))
 
--- and nobody else
+-- and no other
 pub was_there : (rows : Rows) (n p k : ℕ) (new : Row State) → slice_index_or (raised_rows rows n p) k None ≡ Some new → (row : Row State) × (slice_index_or rows k None ≡ Some row) × IsRaised row new
 was_there rows n p k new here = elim (cases_eq k n) [
   | inl same ↦ elim (cases_lt n (length rows)) [
@@ -187,7 +187,7 @@ unlooked_on p terms (Home c) h = h
 unlooked_on p terms (Lent loan seen) h = h
 unlooked_on p terms (Back was loan c) h = h
 
--- who is lent still is
+-- a goroutine that is lent still is
 pub lent_still : (rows : Rows) (n p k : ℕ) (base : State) → IsLentRow rows k base → IsLentRow (raised_rows rows n p) k base
 lent_still rows n p k base lent =
     let s = still_there rows n p k lent.0 lent.1 in

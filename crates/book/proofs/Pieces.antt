@@ -54,7 +54,7 @@ taken_twice [] (suc a) (suc b) le = refl
 taken_twice (x ∷ xs) (suc a) zero le = absurd (omega (arith, le))
 taken_twice (x ∷ xs) (suc a) (suc b) le = ap (λ ys. x ∷ ys) (taken_twice xs a b (omega (arith, le)))
 
--- two pieces one behind the other, as both lie in one list
+-- two pieces one after the other, as both lie in one list
 joined : (out xs ys : List ℕ) (k : ℕ) → k ≤ length ys → length xs + length ys ≤ length out → take (length xs) out ≡ xs → take (length ys) (drop (length xs) out) ≡ ys → take (length (xs ++ take k ys)) out ≡ xs ++ take k ys
 joined out xs ys k le fits front back =
     let l : length (xs ++ take k ys) ≡ length xs + k = length-append xs (take k ys) ∙ ap (λ n. length xs + n) (length-take-le k ys le) in

@@ -38,7 +38,7 @@ seen_last old mid x n only number s = record {
   floor = subst (λ (k : ℕ). IfSome (slice_index_or (seen_desk x mid).core.rows k None) (λ (row : Row State). row.floor ≡ x.found)) number (seen_floor mid x s);
 }
 
--- ---- nobody is parked
+-- ---- no goroutine is parked
 
 -- one that is not lent is waited for
 pub waits_unlent : (d : Desk) (n : ℕ) → IsDesk d → d.core.ending ≡ None → least (keys waiting_clock 0 d.core.rows) ≡ None → IsAwake d.core.rows n → (HasLease d.core.rows n → ⊥) → Waits d n d
@@ -56,9 +56,9 @@ waits_lent d new n h going none awake s =
       seen = λ lent. seen_last d d x n (looks_none d) s.1 s.2;
     })
 
--- ---- somebody is parked
+-- ---- a goroutine is parked
 
--- who is looked at stands before the key no longer, or still
+-- a goroutine that is looked at stands before the key no longer, or still
 pub seen_only : (old mid new : Desk) (n : ℕ) → OnlyLooks old mid → (x : Sighting) × (x.number ≡ n) × IsSight mid x × (new ≡ seen_desk x mid) → OnlyLooks old new
 seen_only old mid new n only s = subst (OnlyLooks old) (sym s.3) (looks_more old mid s.0 only s.2)
 
@@ -68,7 +68,7 @@ seen_now old mid new n only s = subst (λ (d : Desk). IsSeen old d n) (sym s.3) 
 pub seen_ending : (mid new : Desk) (n : ℕ) → mid.core.ending ≡ None → (x : Sighting) × (x.number ≡ n) × IsSight mid x × (new ≡ seen_desk x mid) → new.core.ending ≡ None
 seen_ending mid new n going s = ap (λ (d : Desk). d.core.ending) s.3 ∙ going
 
--- how far the floor of one that is awake lies below the clock behind the key's
+-- how far the floor of one that is awake lies below the clock after the key's
 abbrev pub behind : Key → Option (Row State) → ℕ
 behind k None = 0
 behind k (Some row) = k.clock + 1 - row.floor

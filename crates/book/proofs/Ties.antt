@@ -181,11 +181,11 @@ same_tied d places new same t = record {
 
 -- ---- bring
 
--- whoever has a seat at this slot is out
+-- a goroutine that has a seat at this slot is out
 pub is_out : (d : Desk) (places : Numbered) (l : Held) → IsTied d places → l.code ≡ d.code → l.limit ≡ d.limit → IsLentOn (loan_for d.code d.limit l.number l.base) (word_at d.words l.slot) → IsLent d l
 is_out d places l t code limit on = record { code = sym code; limit = sym limit; row = (t.back l.slot (loan_for d.code d.limit l.number l.base) on).row; word = on }
 
--- whoever is out has that slot
+-- a goroutine that is out has that slot
 pub slot_out : (d : Desk) (places : Numbered) (l : Held) → IsTied d places → IsLent d l → slot_of places l.number ≡ Some l.slot
 slot_out d places l t out = (t.back l.slot (loan_for d.code d.limit l.number l.base) out.word).place
 

@@ -39,7 +39,7 @@ works_leases d quantum answer core w =
     let row = back_row w.worked.1.state (is_some (asks (code_kind d.code) d.limit w.worked.1.state)) in
     subst (λ (x : CoreValue). KeepsLeases d (record d { core = x })) (sym (worked_core d quantum answer core w)) (here_leases d w.key.number w.worked.0 row w.worked.2)
 
--- nobody, or one that asks or goes on, or one to which memory was refused
+-- no goroutine, or one that makes a request or goes on, or one to which memory was refused
 pub works_as : {E : Type 0} (r : Result (Option Bool) E) (N : Type 0) (W : Option Bool → Type 0) → IfOk r (λ found. IfNone found N) → IfOk r (λ found. IfSome found (λ asking. W (Some asking))) → OnErr r (W None) → N ⊎ ((answer : Option Bool) × W answer)
 works_as {E} (Ok None) N W none some err = inl none
 works_as {E} (Ok (Some asking)) N W none some err = inr (Some asking, some)
@@ -64,7 +64,7 @@ module _ (code : Code) (limit : ℕ) where
   pub book_places : (d : Desk) (places new : Numbered) → SamePlaces places new → IsBook code limit d places → IsBook code limit d new
   book_places d places new same h = record { desk = h.desk; tied = same_tied d places new same h.tied; code_is = h.code_is; limit_is = h.limit_is }
 
-  -- who has a seat is out, and comes back
+  -- a goroutine that has a seat is out, and comes back
   pub book_out : (d : Desk) (places : Numbered) (l : Held) → IsBook code limit d places → l.code ≡ code → l.limit ≡ limit → WasLent (loan_for l.code l.limit l.number l.base) l.published (word_at d.words l.slot) → IsLent d l
   book_out d places l h c m was =
       let same : loan_for l.code l.limit l.number l.base ≡ loan_for d.code d.limit l.number l.base = (λ i. loan_for ((c ∙ sym h.code_is) i) ((m ∙ sym h.limit_is) i) l.number l.base) in
@@ -160,7 +160,7 @@ looks_run old new h =
 pub looks_more : (old mid : Desk) (x : Sighting) → OnlyLooks old mid → IsSight mid x → OnlyLooks old (seen_desk x mid)
 looks_more old mid x h s = (x ∷ h.0, (mid, h.1, s, refl))
 
--- somebody stands before the least parked key, and is not lent, or was seen
+-- a goroutine stands before the least parked key, and is not lent, or was seen
 pub waits_by : (old new : Desk) (n : ℕ) (k : Key) → IsDesk new → OnlyLooks old new → new.core.ending ≡ None → least (keys waiting_clock 0 new.core.rows) ≡ Some k → IsBefore new.core.rows k n → (HasLease new.core.rows n → IsSeen old new n) → Waits old n new
 waits_by old new n k h only going e before seen = record { only = only; stands = waits_key new n k h going e before; seen = seen }
 

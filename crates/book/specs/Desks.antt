@@ -28,34 +28,34 @@ use Rattle.world_core_base.specs.Slots.{IsBefore, Rows, State, lent_row, raised_
 
 -- ---- what is seen of the one-thread run of a code
 
--- the event before which there were so many
+-- the event of the run that has `before` events before it
 abbrev pub IsEvent : Code → ℕ → ℕ → Event → Type 0
 IsEvent code limit before event =
     (n : ℕ) × (slice_get (moment (code_kind code) limit n).shared.shared.events before ≡ Some event)
 
--- the bytes stand at a place of the output
+-- the bytes stand at offset `from` of the output
 abbrev pub IsPiece : Code → ℕ → ℕ → List ℕ → Type 0
 IsPiece code limit from bytes =
     (n : ℕ) × (from + length bytes ≤ length (moment (code_kind code) limit n).shared.shared.output)
     × (take (length bytes) (drop from (moment (code_kind code) limit n).shared.shared.output) ≡ bytes)
 
--- the bytes stand at a place of the trace
+-- the bytes stand at offset `from` of the trace
 abbrev pub IsTracePiece : Code → ℕ → ℕ → List ℕ → Type 0
 IsTracePiece code limit from bytes =
     (n : ℕ) × (from + length bytes ≤ length (trace (moment (code_kind code) limit n).shared.shared.events))
     × (take (length bytes) (drop from (trace (moment (code_kind code) limit n).shared.shared.events)) ≡ bytes)
 
--- what is kept of the trace: all of it, or nothing where nobody reads it
+-- what is kept of the trace: all of it, or nothing if nobody reads it
 abbrev pub kept_trace : Bool → List Event → List ℕ
 kept_trace true events = trace events
 kept_trace false events = []
 
--- the same of an event's line
+-- like `kept_trace`, of one event's line
 abbrev pub kept_line : Bool → Event → List ℕ
 kept_line true event = traceline event
 kept_line false event = []
 
--- the run ends so, after so many events, so many bytes of output and so many that are kept of the trace
+-- the run ends so, after `before` events and `size` bytes of output; of its trace `trace_size` bytes are kept
 pub record IsEnd (code : Code) (limit : ℕ) (traces : Bool) (before size trace_size : ℕ) (last : Ending) : Type 0 where
   pub moves : ℕ
   pub events : length (moment (code_kind code) limit moves).shared.shared.events ≡ before
@@ -203,7 +203,7 @@ pub record IsSeen (old new : Desk) (n : ℕ) : Type 0 where
 
 -- ---- settling
 
--- the run goes on, n is awake and not parked, and its floor is below the least parked key, or nobody is parked
+-- the run goes on, n is awake and not parked, and its floor is below the least parked key, or no goroutine is parked
 pub record StandsBefore (core : CoreValue) (n : ℕ) : Type 0 where
   pub going : core.ending ≡ None
   pub row : Row State
@@ -212,7 +212,7 @@ pub record StandsBefore (core : CoreValue) (n : ℕ) : Type 0 where
   pub below : MatchOption (least (keys waiting_clock 0 core.rows)) (Unit {0}) (λ k. is_before (record { clock = row.floor; number = n }) k ≡ true)
 
 -- the request of the goroutine that has the turn is performed: the run's next event, which leaves the world that performing
--- leaves, and whose bytes and line come behind those that were not taken out
+-- leaves, and whose bytes and line are appended to those not taken out
 pub record CommitsNext (old : Desk) (event : Recorded) (new : Desk) : Type 0 where
   pub number : ℕ
   pub turn : HasTurn old.core number
@@ -235,14 +235,14 @@ pub record Waits (old : Desk) (n : ℕ) (new : Desk) : Type 0 where
   pub stands : StandsBefore new.core n
   pub seen : HasLease new.core.rows n → IsSeen old new n
 
--- looks, and one event more, the run's next one; or looks, and somebody who stands before it; or the run's end
+-- looks, and one event more, the run's next one; or looks, and a goroutine that stands before it; or the run's end
 abbrev pub Settles : Desk → Settled → Desk → Type 0
 Settles old (Committed event) new = (mid : Desk) × OnlyLooks old mid × CommitsNext mid event new
 Settles old (Waiting n) new = Waits old n new
 Settles old (Ended ending) new =
     (new ≡ old) × IsEnd old.code old.limit old.traces old.core.events (old.taken + length old.pending) (old.traced + length old.lines) ending
 
--- the same of an event that stands in its place
+-- a `Reached` with its event, as a `Settled`
 abbrev pub settled_by : Reached → Recorded → Settled
 settled_by reached.Committed event = Committed event
 settled_by (reached.Waiting n) event = Waiting n

@@ -9,11 +9,11 @@ use Rattle.book.specs.Runs.{EndsAt, IsHanded, output_run, trace_run}
 pub record Handing : Type 0 where
   pub output : Piece
   pub trace : Piece
-  -- where the pieces are the last ones
+  -- if the pieces are the last ones
   pub end : Option Ending
 
--- what is handed out of the run of this code: pieces of its output and of its trace, which reach to their ends where the run ends so;
--- where no lines are kept, the pieces of the trace are empty
+-- what is handed out of the run of this code: pieces of its output and of its trace, which reach to their ends if the run ends so;
+-- if no lines are kept, the pieces of the trace are empty
 pub record IsHanding (code : Code) (limit : ℕ) (traces : Bool) (h : Handing) : Type 0 where
   pub output : IsHanded (output_run code limit) h.output
   pub trace : IsHanded (trace_run code limit) h.trace

@@ -1,4 +1,4 @@
--- What a book's name tells where no call names one.
+-- What a book's name stands for if no call names one.
 use Rattle.std.specs.Prelude.{[]}
 use Rattle.atomic_table.specs.Seated.{TableId}
 use Rattle.bytecode.specs.Code.{Code}

@@ -27,7 +27,7 @@ bytes_of Trace w = trace w.events
 abbrev pub bytes_after : Run → ℕ → List ℕ
 bytes_after run n = bytes_of run.kind (moment (code_kind run.program) run.limit n).shared.shared
 
--- the bytes stand at this place of the run's
+-- the bytes stand at offset `from` of the run's bytes
 abbrev pub IsPieceOf : Run → ℕ → List ℕ → Type 0
 IsPieceOf run from bytes =
     (n : ℕ) × (from + length bytes ≤ length (bytes_after run n)) × (take (length bytes) (drop from (bytes_after run n)) ≡ bytes)
@@ -37,7 +37,7 @@ pub record IsHanded (bytes : Run) (piece : Piece) : Type 0 where
   pub run : piece_run piece ≡ bytes
   pub stands : IsPieceOf bytes piece.from piece.bytes.items
 
--- the run ends so, after so many of them
+-- the run ends so, after `size` bytes
 abbrev pub EndsAt : Run → ℕ → Ending → Type 0
 EndsAt run size ending =
     (n : ℕ) × (length (bytes_after run n) ≡ size) × (end_of (moment (code_kind run.program) run.limit n) ≡ Some ending)
@@ -55,7 +55,7 @@ abbrev pub IsAll : Kind → GoroutineKind → ℕ → Option (List ℕ) → Opti
 IsAll kind K limit old new ending =
     (n : ℕ) × Appends old new (bytes_of kind (moment K limit n).shared.shared) × (end_of (moment K limit n) ≡ Some ending)
 
--- what comes of a run, and of a writer of these bytes
+-- the outcome of a run, and of a writer of these bytes
 pub record ComesOf (run : Run) (old new : Option (List ℕ)) (outcome : Result Ending Fault) : Type 0 where
   pub begins : Begins run.kind (code_kind run.program) run.limit old new
   pub all : IfOk outcome (IsAll run.kind (code_kind run.program) run.limit old new)
@@ -70,7 +70,7 @@ output_run code limit = record { program = code; limit = limit; kind = Output }
 abbrev pub trace_run : Code → ℕ → Run
 trace_run code limit = record { program = code; limit = limit; kind = Trace }
 
--- what was handed out of the run's bytes is written, and whoever has this share has all of the ledger
+-- what was handed out of the run's bytes is written, and the owner of this share has all of the ledger
 pub record IsReached (bytes : Run) (p : Progress) (parts amount : ℕ) : Type 0 where
   pub run : run_of p ≡ bytes
   pub place : progress_place p ≡ amount

@@ -22,7 +22,7 @@ is_home (Home c) = true
 is_home (Lent loan seen) = false
 is_home (Back was loan c) = false
 
--- a slot that nobody has is not lent
+-- a slot that no goroutine has is not lent
 abbrev pub AreFree : Numbered → List Word → Type 0
 AreFree places words = (s : ℕ) → number_at places s ≡ None → is_home (word_at words s) ≡ true
 
@@ -48,7 +48,7 @@ pub record IsOut (d : Desk) (places : Numbered) (s : ℕ) (loan : Loan) : Type 0
   pub place : slot_of places loan.number ≡ Some s
 
 -- until the run ends, the word of a lent goroutine's slot is lent on the state that it was lent in; whatever word is lent, that goroutine
--- is; and who has a slot is lent its word
+-- is; and a goroutine that has a slot is lent its word
 pub record IsTied (d : Desk) (places : Numbered) : Type 0 where
   pub lent : is_some d.core.ending ≡ false → (n : ℕ) (row : Row State) → slice_index_or d.core.rows n None ≡ Some row → is_some row.lease ≡ true
       → IsLentOn (loan_for d.code d.limit n row.state) (word_at d.words (place_of places n))

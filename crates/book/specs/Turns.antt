@@ -34,7 +34,7 @@ abbrev pub Commits : Desk → List Recorded → Desk → Type 0
 Commits old [] new = new ≡ old
 Commits old (event ∷ events) new = (mid : Desk) × Commits old events mid × Settles mid (Committed event) new
 
--- what a settling comes to behind which none can follow: somebody stands before the next event, or the run has ended
+-- the result of a settling that none can follow: a goroutine stands before the next event, or the run has ended
 abbrev pub Rests : Desk → Option Ending → Desk → Type 0
 Rests old found new = MatchOption found ((n : ℕ) × Settles old (Waiting n) new) (λ ending. Settles old (Ended ending) new)
 

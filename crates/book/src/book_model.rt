@@ -35,8 +35,7 @@ use word::end::End;
 use word::request::Event;
 use world_core_base::{Core, blank_event};
 
-/// The book of a run: what is committed, who is lent, and the bytes of the output and of the trace that were not yet taken
-/// out.
+/// The book of a run: what is committed, which goroutines are lent, and the bytes of the output and the trace not yet taken out.
 pub struct Book<B: BookName> {
     alloc: Global,
     program: Arc<Verified>,
@@ -44,13 +43,13 @@ pub struct Book<B: BookName> {
     core: Core,
     /// How many bytes of the output were taken out.
     taken: u128,
-    /// The bytes of the output that were not.
+    /// The bytes of the output that were not taken out.
     pending: Vec<u8>,
-    /// Whether the lines of the trace are kept, since somebody reads them.
+    /// Whether the lines of the trace are kept: they are if the trace is read.
     traces: bool,
     /// How many bytes of the trace were taken out.
     traced: u128,
-    /// The bytes of the trace that were not.
+    /// The bytes of the trace that were not taken out.
     lines: Vec<u8>,
     /// The clocks that leases publish.
     slots: Slots<B>,
@@ -103,7 +102,7 @@ impl<B: BookName> Book<B> {
         Book::open_tracing(blank, program, limit, true)
     }
 
-    /// The same book, which keeps the lines of the trace, or keeps and makes none where nobody reads them.
+    /// Like `open`, but keeps the lines of the trace only if `traces`; otherwise none are made.
     pub fn open_tracing(
         blank: Blank,
         program: Arc<Verified>,
@@ -166,8 +165,8 @@ impl<B: BookName> Book<B> {
         self.core.asleep(number)
     }
 
-    /// Lends the goroutine of least key of those that are awake and neither lent nor parked; none where there is none, or
-    /// the run has ended. Its clock is published before its lease exists.
+    /// Lends the goroutine of least key of those that are awake and neither lent nor parked; none if there is none, or
+    /// if the run has ended. Its clock is published before its lease exists.
     #[inline(always)]
     pub fn lend(&mut self) -> Result<Option<Lease<B>>, Memory>
         ensures none { IfOk result (λ found. IfNone found ((to_lend self.old.core ≡ None) × (self.new ≡ self.old))) }
@@ -217,10 +216,10 @@ impl<B: BookName> Book<B> {
     }
 
     /// The goroutine that would be lent makes at most `quantum` local steps where it stands, up to a request, and is parked if it then
-    /// asks. Answers whether it does; none where there is nobody to lend. It has no lease, so nothing is published of its clock:
-    /// who asks the book sees it.
+    /// makes one. Returns whether it does; none if no goroutine can be lent. It has no lease, so its clock is not published: the caller
+    /// sees it in the book.
     ///
-    /// Errors: want of memory, when some of the steps may be made.
+    /// Errors: out of memory, when some of the steps may be made.
     pub fn work(&mut self, quantum: u32) -> Result<Option<bool>, Memory>
         ensures none { IfOk result (λ found. IfNone found ((to_lend self.old.core ≡ None) × (self.new.core ≡ self.old.core))) }
         ensures works { IfOk result (λ found. IfSome found (λ asking. Works self.old.code self.old.limit quantum self.old.core (Some asking) self.new.core)) }
@@ -232,8 +231,8 @@ impl<B: BookName> Book<B> {
             .work_least(self.alloc, &self.program, self.limit, quantum)
     }
 
-    /// Commits the next event of the one-thread run, or tells who stands before it, or how the run has ended. Every lease
-    /// that is out stays out. Nobody who is lent is waited for before a look at the clock that is published of it.
+    /// Commits the next event of the one-thread run, or reports which goroutine stands before it, or how the run has ended. Every
+    /// lease that is out stays out. A lent goroutine is only waited for after a look at its published clock.
     pub fn settle(&mut self) -> Result<Settled, Memory>
         ensures settles { IfOk result (λ s. Settles self.old s self.new) }
         ensures leases { KeepsLeases self.old self.new }
@@ -247,7 +246,7 @@ impl<B: BookName> Book<B> {
         }
     }
 
-    /// The same, but that the event is written to this place, where what stood before is of no account.
+    /// Like `settle`, but writes the event to `event`, whose old contents are ignored.
     #[inline(always)]
     pub fn settle_into(&mut self, event: &mut Event) -> Result<Reached, Memory>
         ensures settles { IfOk result (λ r. Settles self.old (settled_by r event.new) self.new) }
@@ -267,14 +266,14 @@ impl<B: BookName> Book<B> {
         Ok(Reached::Committed)
     }
 
-    /// A place for events.
+    /// An event to be overwritten by `settle_into`.
     pub fn blank_event(&self) -> Event
         ensures { event_of result ≡ no_event }
     {
         blank_event(self.alloc)
     }
 
-    /// What a settling comes to where nobody is parked.
+    /// The result of a settling if no goroutine is parked.
     #[inline(never)]
     fn nobody_parked(&mut self) -> Reached
         requires ending { self.old.core.ending ≡ None }
@@ -292,8 +291,8 @@ impl<B: BookName> Book<B> {
         Reached::Waiting(number)
     }
 
-    /// Who stands before the key of the goroutine that is parked first, if not only until a look at the clocks that are
-    /// published.
+    /// The goroutine that stands before the key of the goroutine that is parked first, even after a look at the published
+    /// clocks.
     #[inline(always)]
     fn first_before(&mut self, key: &Key) -> Option<u64>
         requires ending { self.old.core.ending ≡ None }
@@ -310,8 +309,8 @@ impl<B: BookName> Book<B> {
         self.look_before(key)
     }
 
-    /// The same, where somebody who is lent stands before the key by what was published of it when it was last looked at. Nobody
-    /// is looked at twice.
+    /// Like `first_before`, if a lent goroutine stands before the key by its clock as it was last looked at. No goroutine is looked
+    /// at twice.
     #[inline(never)]
     fn look_before(&mut self, key: &Key) -> Option<u64>
         requires ending { self.old.core.ending ≡ None }
@@ -331,7 +330,7 @@ impl<B: BookName> Book<B> {
         None
     }
 
-    /// Who stands before the key; none where it has the turn.
+    /// The goroutine that stands before the key; none if the key has the turn.
     #[inline(always)]
     fn blocker(&self, key: &Key) -> Option<u64>
         ensures stands { IsDesk self.now }
@@ -355,7 +354,7 @@ impl<B: BookName> Book<B> {
         self.core.stands_before(number, *key)
     }
 
-    /// Looks at the clock that is published of goroutine `number`, which is lent: it is its floor then.
+    /// Looks at the published clock of goroutine `number`, which is lent: it is its floor then.
     fn look(&mut self, number: u64)
         requires lent { HasLease self.old.core.rows number }
         requires ending { self.old.core.ending ≡ None }

@@ -8,7 +8,7 @@ use output::Piece;
 use std::marker::{Model, PhantomData};
 use word::end::End;
 
-/// Bytes of the run's output and of its trace and, where they are the last ones, how the run ended.
+/// Bytes of the run's output and of its trace and, if they are the last ones, how the run ended.
 #[derive(Drop)]
 pub struct Handed<B: RunName> {
     output: Piece,
@@ -28,7 +28,7 @@ impl<B: RunName> Model for Handed<B> {
 }
 
 impl<B: RunName> Handed<B> {
-    /// A piece of each, and the run's end where the pieces reach to it.
+    /// A piece of each, and the run's end if the pieces reach to it.
     pub fn new(output: Piece, trace: Piece, end: Option<End>) -> Handed<B>
         requires { IsHanding B.code B.limit B.traces (record { output = output; trace = trace; end = end }) }
         ensures { result ≡ record { output = output; trace = trace; end = end } }

@@ -1,4 +1,4 @@
-//! The lines of the trace that a book keeps, or none where nobody reads them.
+//! The lines of the trace that a book keeps, or none if nobody reads them.
 
 ghost use Rattle.std.specs.Prelude.{◌≡◌, ◌++◌, OnOk, length, true};
 ghost use Rattle.tracer.specs.Room.{HasRoom, longest_line};
@@ -9,7 +9,7 @@ use go_text::Memory;
 use tracer::{append_line, reserve_line};
 use word::request::Event;
 
-/// Makes room for the line of an event with at most so many partners, where lines are kept.
+/// If lines are kept, reserves capacity for the line of an event with at most `partners` partners.
 #[inline(always)]
 pub(crate) fn reserve_kept(traces: bool, lines: &mut Vec<u8>, partners: usize) -> Result<(), Memory>
     ensures items { lines.new.items ≡ lines.old.items }
@@ -21,7 +21,7 @@ pub(crate) fn reserve_kept(traces: bool, lines: &mut Vec<u8>, partners: usize) -
     Ok(())
 }
 
-/// Puts the line of an event behind the others, where lines are kept, in room that was made for it.
+/// If lines are kept, appends the line of an event, within the capacity that was reserved for it.
 #[inline(always)]
 pub(crate) fn append_kept(traces: bool, lines: &mut Vec<u8>, event: &Event)
     requires { traces ≡ true → HasRoom lines.old (longest_line (length event.now.partners.items)) }

@@ -22,8 +22,8 @@ use std::snapshot::Snapshot;
 use std::sync::Arc;
 use verifier::Verified;
 
-/// A goroutine that is lent: it makes its local steps outside the book, and publishes its clock. Of the state in which it
-/// was lent there is no copy: contracts alone see it.
+/// A goroutine that is lent: it makes its local steps outside the book, and publishes its clock. The state in which it
+/// was lent is not copied: only contracts see it.
 pub struct Lease<B: BookName> {
     alloc: Global,
     program: Arc<Verified>,
@@ -76,7 +76,7 @@ impl<B: BookName> Model for Lease<B> {
 }
 
 impl<B: BookName> Lease<B> {
-    /// At most `quantum` local steps, up to a request; answers whether the goroutine then stands at one. Its clock is
+    /// Makes at most `quantum` local steps, up to a request; returns whether the goroutine then stands at one. Its clock is
     /// published then.
     pub fn work(&mut self, quantum: u32) -> Result<bool, Memory>
         ensures asks { IfOk result (λ asking. asking ≡ is_some (asks (code_kind self.old.code) self.old.limit self.new.present)) }

@@ -27,7 +27,7 @@ impl<B: BookName> Program<B> {
         }
     }
 
-    /// It.
+    /// The program.
     pub fn into_shared(self) -> Arc<Verified>
         ensures { arc_value result ≡ B.code }
     {

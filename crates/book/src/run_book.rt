@@ -26,7 +26,7 @@ use word::request::Event;
 /// The book of this run.
 pub struct RunBook<B: RunName> {
     pub book: Book<OfRun<B>>,
-    /// Where each event is written in its turn.
+    /// The event to which each commit is written.
     event: Event,
     pub ghost ours: { IsOfRun B.code B.limit B.traces book },
 }
@@ -57,7 +57,7 @@ impl<B: RunName> RunBook<B> {
         Ok(RunBook { book, event })
     }
 
-    /// Lends the goroutine of least key of those that are awake and neither lent nor parked; none where there is none, or the run
+    /// Lends the goroutine of least key of those that are awake and neither lent nor parked; none if there is none, or if the run
     /// has ended.
     #[inline(always)]
     pub fn lend(&mut self) -> Result<Option<RunLease<B>>, Memory>
@@ -69,8 +69,8 @@ impl<B: RunName> RunBook<B> {
         self.book.lend()
     }
 
-    /// The goroutine that would be lent makes at most so many local steps where it stands, up to a request: whether it then asks;
-    /// none where there is nobody to lend.
+    /// The goroutine that would be lent makes at most `quantum` local steps where it stands, up to a request. Returns whether it then
+    /// makes one; none if no goroutine can be lent.
     #[inline(always)]
     pub fn work(&mut self, quantum: u32) -> Result<Option<bool>, Memory>
         ensures none { IfOk result (λ found. IfNone found ((to_lend self.old.book.core ≡ None) × (self.new.book.core ≡ self.old.book.core))) }
@@ -101,7 +101,7 @@ impl<B: RunName> RunBook<B> {
         self.book.bring(lease);
     }
 
-    /// Commits the next event, and answers whether there was one to commit.
+    /// Commits the next event, and returns whether there was one to commit.
     #[inline(always)]
     pub fn settle_one(&mut self) -> Result<bool, Memory>
         ensures settles { IfOk result (λ committed. SettlesOne self.old.book committed self.new.book) }
@@ -113,7 +113,7 @@ impl<B: RunName> RunBook<B> {
         Ok(matches!(reached, Reached::Committed))
     }
 
-    /// Commits all that can be committed, and answers the end, where the run has ended. A run has at most 2^62 events.
+    /// Commits all that can be committed, and returns the end if the run has ended. A run has at most 2^62 events.
     pub fn settle_all(&mut self) -> Result<Option<End>, Memory>
         ensures settles { IfOk result (λ found. SettlesAll self.old.book found self.new.book) }
         ensures memory { OnErr result (SettlesSome self.old.book self.new.book) }

@@ -3,7 +3,7 @@
 use word::end::End;
 use word::request::Event;
 
-/// What a settling comes to.
+/// The result of a settling.
 #[derive(Drop)]
 pub enum Settled {
     /// The next event of the run is committed.
@@ -14,10 +14,10 @@ pub enum Settled {
     Ended(End),
 }
 
-/// What a settling comes to where an event is written to its place.
+/// Like `Settled`, but the event is written elsewhere.
 #[derive(Drop)]
 pub enum Reached {
-    /// The next event of the run is committed, and stands in its place.
+    /// The next event of the run is committed, and was written.
     Committed,
     /// This goroutine stands before the next event: it has to come back first.
     Waiting(u64),

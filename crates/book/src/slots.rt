@@ -24,7 +24,7 @@ use verifier::Verified;
 /// How many slots there are: one for each goroutine that is alive.
 const SLOTS: usize = MAX_GOROUTINES as usize;
 
-/// The table of clocks, and who has its slots.
+/// The table of clocks, and which goroutines have its slots.
 pub(crate) struct Slots<B: BookName> {
     table: ClockTable,
     pub seat: BookSeat,
@@ -71,7 +71,7 @@ impl<B: BookName> Slots<B> {
         })
     }
 
-    /// Gives goroutine `number`, which is lent in this state, a free slot: the state's clock stands in its word. Answers the
+    /// Gives goroutine `number`, which is lent in `state`, a free slot: the state's clock stands in its word. Returns the
     /// program for the lease, and its seat.
     pub fn lend(
         &mut self,
@@ -98,7 +98,7 @@ impl<B: BookName> Slots<B> {
         lent
     }
 
-    /// The same, where the goroutine has got this slot.
+    /// Like `lend`, for the slot that the goroutine was given.
     fn lend_slot(
         &mut self,
         shared: &Arc<Verified>,
@@ -131,7 +131,7 @@ impl<B: BookName> Slots<B> {
         Ok((program, seat))
     }
 
-    /// What the word of goroutine `number`, which is lent, held at one moment of the call. It waits for nobody.
+    /// What the word of goroutine `number`, which is lent, held at one moment of the call. It does not block.
     pub fn look(&mut self, number: u64) -> u64
         requires { (terms : Loan) × IsLentOn terms (word_at (words_of self.old.seat) (place_of self.old.places number)) }
         ensures held { RowFits result (word_at (words_of self.old.seat) (place_of self.old.places number)) }
@@ -143,7 +143,7 @@ impl<B: BookName> Slots<B> {
         self.table.look(&mut self.seat, slot)
     }
 
-    /// The slot of goroutine `number`; 0 where it has none.
+    /// The slot of goroutine `number`; 0 if it has none.
     fn place(&self, number: u64) -> usize
         ensures { result ≡ place_of self.now.places number }
     {

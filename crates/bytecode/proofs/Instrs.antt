@@ -1,4 +1,4 @@
--- Instructions are the same where they compare as equal.
+-- Instructions are the same if they compare as equal.
 use Rattle.std.proofs.Common.{◌≡◌, ℤ, Bool, refl, subst, true, false, ap, Decides, arith, rules}
 use Rattle.std.proofs.lemmas.Bool.{false≢true}
 use Rattle.std.proofs.lemmas.Bool.Decides.{nat_tests, Decides-eqb}

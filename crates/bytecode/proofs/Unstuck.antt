@@ -234,7 +234,7 @@ put_all at n ws ls ks le h g =
 none_told : (ws told : List Word) (ks : List WordKind) → told ≡ [] → AllHave (ws ++ told) ks → AllHave ws ks
 none_told ws told ks e h = subst (λ l. AllHave l ks) (append-nil ws) (subst (λ t. AllHave (ws ++ t) ks) e h)
 
--- where nothing was told
+-- if the reply has no words
 all_told : (ws told : List Word) (ks : List WordKind) → told ≡ [] → AllHave ws ks → AllHave (ws ++ told) ks
 all_told ws told ks e h = subst (λ t. AllHave (ws ++ t) ks) (sym e) (subst (λ l. AllHave l ks) (sym (append-nil ws)) h)
 

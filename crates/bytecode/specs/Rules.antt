@@ -1,4 +1,4 @@
--- What the verifier asks of code, so that no test of the machine fails.
+-- What the verifier requires of code, so that no test of the machine fails.
 use Rattle.std.specs.Prelude.{◌≡◌, ℕ, zero, suc, ◌+◌, ◌<◌, ◌≤◌, ◌⊎◌, List, [], ◌∷◌, ◌++◌, length, Some, slice_get}
 use Rattle.bytecode.specs.declared.instr.WordKind.{WordKind}
 use Rattle.bytecode.specs.declared.instr.WordKind.TheVariants as kinds
@@ -50,7 +50,7 @@ IsThere code (kinds.Chan s) = s < length code.shapes
 abbrev pub AreThere : Code → List WordKind → Type 0
 AreThere code ks = (n : ℕ) (k : WordKind) → slice_get ks n ≡ Some k → IsThere code k
 
--- places are of a function of so many instructions; they lie behind a place
+-- places are within a function of `n` instructions (`AreWithin`), and lie after a place (`AreBehind`)
 abbrev pub AreWithin : List ℕ → ℕ → Type 0
 AreWithin places n = (k to : ℕ) → slice_get places k ≡ Some to → to < n
 
@@ -174,7 +174,7 @@ BrokenIn code f Locals place = Misfit code f Locals place
 BrokenIn code f Tables place = ⊥
 BrokenIn code f Main place = ⊥
 
--- a rule that code breaks outside its functions, where a shape's or a table's number stands as the place
+-- a rule that code violates outside its functions; a shape's or a table's number stands as the place
 abbrev pub BrokenBeside : Code → Rule → ℕ → Type 0
 BrokenBeside code Names place =
     ((ks : List WordKind) × (slice_get code.shapes place ≡ Some ks) × (AreThere code ks → ⊥))
@@ -186,12 +186,12 @@ BrokenBeside code Tables place =
 BrokenBeside code Main place = (place ≡ 0) × (HasMain code → ⊥)
 BrokenBeside code rule place = ⊥
 
--- a rule that is broken at a place of a function, or beside the functions, where the function's number is 0
+-- a rule that is violated at a place of a function, or outside the functions, in which case the function's number is 0
 abbrev pub Breaks : Code → Rule → ℕ → ℕ → Type 0
 Breaks code rule function place =
     ((f : Function) × (slice_get code.functions function ≡ Some f) × BrokenIn code f rule place) ⊎ ((function ≡ 0) × BrokenBeside code rule place)
 
--- a path leads to this place of this function with these kinds on the stack
+-- a path leads to this instruction of this function with these kinds on the stack
 abbrev pub At : Code → ℕ → ℕ → List WordKind → Type 0
 At code g place ks = (f : Function) × (slice_get code.functions g ≡ Some f) × (n : ℕ) × Path code f n place ks
 

@@ -89,7 +89,7 @@ impl Function {
         self.results.as_slice()
     }
 
-    /// The instructions, the first one at place 0.
+    /// The instructions, the first one at index 0.
     pub fn instrs(&self) -> &[Instr]
         ensures { result.now ≡ self.now.instrs }
     {
@@ -153,7 +153,7 @@ impl Code {
         }
     }
 
-    /// The same code with these select tables.
+    /// This code with these select tables.
     pub fn with_selects(self, selects: Vec<SelectTable>) -> Code
         ensures { result ≡ record self { selects = selects.items } }
     {

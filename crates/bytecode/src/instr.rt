@@ -29,40 +29,39 @@ pub enum Instr {
     Store(u32, u32),
     /// Of as many words as the first number says, keeps those from the second on, as many as the third says.
     Pick(u32, u32, u32),
-    /// Drops so many words.
+    /// Drops as many words as the number says.
     Discard(u32),
     /// Pops the operator's operands and pushes its value; or panics.
     Apply(Op),
     /// One assignment is completed: the clock grows by 1.
     Tick,
-    /// Goes on at this place, which lies ahead.
+    /// Goes on at this index, which lies ahead.
     Jump(u32),
-    /// Pops a truth value and, where it is false, goes on at this place, which lies ahead.
+    /// Pops a truth value and, if it is false, goes on at this index, which lies ahead.
     Unless(u32),
-    /// Goes back to this place; the clock grows by 1.
+    /// Goes back to this index; the clock grows by 1.
     Loop(u32),
     /// Pops its arguments and enters the function of this number; the clock grows by 1. Panics at 1,000 functions.
     Call(u32),
-    /// Leaves the function with its results, which the caller finds on its stack; of a goroutine's first function asks to
-    /// end.
+    /// Leaves the function with its results, which the caller finds on its stack; in a goroutine's first function, requests the end.
     Return,
-    /// Pops a size and asks for a channel of this shape, which is pushed.
+    /// Pops a size and requests a channel of this shape, which is pushed.
     Make(u32),
-    /// Pops its arguments and asks to start the function of this number.
+    /// Pops its arguments and requests the start of the function of this number.
     Go(u32),
-    /// Pops a channel of this shape and an item, and asks to send it.
+    /// Pops a channel of this shape and an item, and requests to send it.
     Send(u32),
-    /// Pops a channel of this shape and asks to receive; the item and a truth value are pushed.
+    /// Pops a channel of this shape and requests to receive; the item and a truth value are pushed.
     Receive(u32),
-    /// Pops a channel and asks to close it.
+    /// Pops a channel and requests its close.
     Close,
-    /// Pops a channel and asks how many items are in its buffer, which is pushed.
+    /// Pops a channel and requests the number of items in its buffer, which is pushed.
     Len,
-    /// Pops a channel and asks for its capacity, which is pushed.
+    /// Pops a channel and requests its capacity, which is pushed.
     Cap,
-    /// Pops the values of the print table of this number, and asks to print them.
+    /// Pops the values of the print table of this number, and requests to print them.
     Print(u32),
-    /// Pops the operands of the select table of this number, and asks to do one of its clauses; goes on where the clause
-    /// does that was done, or the default. Of a receive the item and a truth value are pushed.
+    /// Pops the operands of the select table of this number, and requests one of its clauses; goes on where the clause
+    /// that was done does, or where the default does. Of a receive the item and a truth value are pushed.
     Select(u32),
 }

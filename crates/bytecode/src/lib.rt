@@ -1,4 +1,4 @@
-//! The code of a compiled program, what each instruction does, and what the verifier asks of it.
+//! The code of a compiled program, what each instruction does, and what the verifier requires of it.
 #![tactic(auto)]
 
 mod code;

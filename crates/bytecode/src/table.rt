@@ -34,7 +34,7 @@ impl Model for Shape {
 }
 
 impl Shape {
-    /// The shape of these kinds.
+    /// The shape with these kinds.
     pub fn new(kinds: Vec<WordKind>) -> Shape
         ensures { result ≡ kinds.items }
     {
@@ -148,7 +148,7 @@ impl Model for PrintTable {
 }
 
 impl PrintTable {
-    /// The table of these parts, of a `println` where it is a line.
+    /// The table of these parts; of a `println` if `line` is true.
     pub fn new(parts: Vec<Part>, line: bool) -> PrintTable
         ensures { result ≡ record { parts = parts.items; line = line } }
     {
@@ -162,7 +162,7 @@ impl PrintTable {
         self.parts.as_slice()
     }
 
-    /// Whether it is a `println`, which puts spaces between the parts and a newline behind them.
+    /// Whether it is a `println`, which puts spaces between the parts and a newline after them.
     pub fn line(&self) -> bool
         ensures { result ≡ self.now.line }
     {
@@ -232,7 +232,7 @@ impl Clause {
         }
     }
 
-    /// The place at which it goes on.
+    /// The index at which it goes on.
     pub fn target(self) -> u32
         ensures { result ≡ clause_target self }
     {
@@ -243,7 +243,7 @@ impl Clause {
     }
 }
 
-/// The clauses of a select, in source order, and where its default goes on, where it has one.
+/// The clauses of a select, in source order, and where its default goes on, if it has one.
 pub struct SelectTable {
     clauses: Vec<Clause>,
     default: Option<u32>,
@@ -268,7 +268,7 @@ impl Model for SelectTable {
 }
 
 impl SelectTable {
-    /// The table of these clauses, with a default that goes on at this place where there is one.
+    /// The table of these clauses, with a default, if there is one, that goes on at this index.
     pub fn new(clauses: Vec<Clause>, default: Option<u32>) -> SelectTable
         ensures { result ≡ record { clauses = clauses.items; default = default } }
     {
@@ -282,14 +282,14 @@ impl SelectTable {
         self.clauses.as_slice()
     }
 
-    /// Where the default goes on; none where there is no default.
+    /// Where the default goes on; none if there is no default.
     pub fn default(&self) -> Option<u32>
         ensures { result ≡ self.now.default }
     {
         self.default
     }
 
-    /// The places at which it may go on, by their number: those of the clauses in order, and that of the default behind them.
+    /// The instruction at which it goes on, by the way's number: first the clauses in order, then the default.
     pub fn target(&self, number: usize) -> Option<u32>
         ensures { result ≡ slice_get (targets_of self.now) number }
     {

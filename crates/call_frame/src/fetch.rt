@@ -63,7 +63,7 @@ pub fn fetch(code: &Code, frame: &Frame) -> Option<(Instr, usize)>
     }
 }
 
-/// Whether an instruction that is no select asks.
+/// Whether an instruction that is no select makes a request.
 fn is_request(i: &Instr) -> bool
     ensures { result ≡ is_told i.now }
 {
@@ -74,7 +74,7 @@ fn is_request(i: &Instr) -> bool
     }
 }
 
-/// Whether a frame stands at such an instruction, which in verified code asks whatever its operands are.
+/// Whether a frame stands at such an instruction, which in verified code makes a request whatever its operands are.
 pub fn stands_at_request(code: &Code, frame: &Frame) -> bool
     ensures stands { IsTrue result ↔ StandsAtRequest code.now frame.now }
     ensures asks { IsTrue result → (callers : Frames) → AsksOrFails (code_next code.now (frame.now ∷ callers)) }

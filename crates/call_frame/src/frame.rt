@@ -41,7 +41,7 @@ impl Model for Frame {
     ghost view = { λ f. record { function = f.function; place = f.place; locals = f.locals.items; stack = f.stack.items; told = [] } };
 }
 
-/// A frame of nothing, which takes no room for words yet.
+/// A frame of nothing, without capacity for words yet.
 pub fn empty(alloc: Global) -> Frame
     ensures { result ≡ record { function = 0; place = 0; locals = []; stack = []; told = [] } }
 {
@@ -68,7 +68,7 @@ pub fn begin(
 }
 
 impl Frame {
-    /// It is this function at its first instruction, in the room that it has. Where memory is wanting it is not told what it is.
+    /// Becomes this function at its first instruction, in its own buffers. If memory runs out, its contents are unspecified.
     pub fn restart(
         &mut self,
         locals: &[WordKind],
@@ -84,8 +84,8 @@ impl Frame {
         Ok(())
     }
 
-    /// Calls a function with the words from a place of the stack on, and waits behind the call. Where memory is wanting the
-    /// frame of the call is not told.
+    /// Calls a function with the words from `at` of the stack on, and waits after the call. If memory runs out, the contents of
+    /// `called` are unspecified.
     #[inline(always)]
     pub fn enter(
         &mut self,
@@ -109,7 +109,7 @@ impl Frame {
         Ok(())
     }
 
-    /// Calls a function with an int, and waits at a place. Where memory is wanting the frame of the call is not told.
+    /// Calls a function with an int, and waits at `next`. If memory runs out, the contents of `called` are unspecified.
     #[inline(always)]
     pub fn enter_with(
         &mut self,
@@ -146,7 +146,7 @@ impl Frame {
 }
 
 impl Frame {
-    /// A frame itself was told nothing.
+    /// `told` of a frame itself is empty.
     #[inline(always)]
     pub fn quiet(&self)
         ensures { self.now.told ≡ [] }
@@ -186,7 +186,7 @@ impl Frame {
         self.stack.as_slice()
     }
 
-    /// Puts an int onto its operand stack.
+    /// Pushes an int onto its operand stack.
     #[inline(always)]
     pub fn push_number(&mut self, number: i64) -> Result<(), AllocError>
         ensures ok { OnOk result (self.new ≡ record self.old { stack = self.old.stack ++ Word.Int number ∷ [] }) }
@@ -196,7 +196,7 @@ impl Frame {
         Ok(())
     }
 
-    /// Puts an int onto its operand stack and goes to a place, and whether there was room for it.
+    /// Pushes an int onto its operand stack and goes to `at`; returns false if out of memory.
     #[inline(always)]
     pub fn leave_at(&mut self, number: i64, at: usize) -> bool
         ensures left { IsTrue result → self.new ≡ ahead self.old at (self.old.stack ++ Word.Int number ∷ []) }
@@ -211,7 +211,7 @@ impl Frame {
         }
     }
 
-    /// Puts words onto its operand stack; most often those are a received word and whether it was sent.
+    /// Pushes words onto its operand stack; most often those are a received word and whether it was sent.
     #[inline(always)]
     pub fn push_all(&mut self, words: &[Word]) -> Result<(), AllocError>
         ensures ok { OnOk result (self.new ≡ record self.old { stack = self.old.stack ++ words.now }) }
@@ -228,7 +228,7 @@ impl Frame {
         Ok(())
     }
 
-    /// Drops so many words of its operand stack, or all of fewer, and goes to a place.
+    /// Drops `count` words of its operand stack, or all if there are fewer, and goes to `place`.
     #[inline(always)]
     pub fn drop_to(&mut self, count: usize, place: usize)
         ensures { self.new ≡ record self.old { place = place; stack = below count self.old.stack } }
@@ -238,7 +238,7 @@ impl Frame {
         self.place = place;
     }
 
-    /// A second frame that is the same.
+    /// A copy of this frame.
     pub fn try_clone(&self, alloc: Global) -> Result<Frame, AllocError>
         ensures { IfOk result (λ frame. frame ≡ self.now) }
     {
@@ -252,7 +252,7 @@ impl Frame {
         })
     }
 
-    /// Whether the two are the same.
+    /// Whether the two frames are equal.
     pub fn is_same(&self, other: &Frame) -> bool
         ensures { IsTrue result ↔ (self.now ≡ other.now) }
     {

@@ -27,7 +27,7 @@ pub fn push(frame: &mut Frame, word: Word) -> Result<(), AllocError>
     Ok(())
 }
 
-/// Pushes the locals of a range, and goes on.
+/// Pushes locals `from .. to`, and goes on.
 pub fn load(frame: &mut Frame, from: usize, to: usize) -> Result<(), AllocError>
     requires place { frame.old.place + 1 < 2 ^ 64 }
     requires within { to ≤ length frame.old.locals }
@@ -40,7 +40,7 @@ pub fn load(frame: &mut Frame, from: usize, to: usize) -> Result<(), AllocError>
     Ok(())
 }
 
-/// Pops words from a place of the stack on into the locals from another on, and goes on.
+/// Pops the words from `at` of the stack on into the locals from `from` on, and goes on.
 pub fn store(frame: &mut Frame, from: usize, at: usize)
     requires place { frame.old.place + 1 < 2 ^ 64 }
     requires at { at ≤ length frame.old.stack }
@@ -52,7 +52,7 @@ pub fn store(frame: &mut Frame, from: usize, at: usize)
     frame.place += 1;
 }
 
-/// Keeps of the words from a place of the stack on those of a range, and goes on.
+/// Of the words from `at` of the stack on, keeps words `from .. to`, and goes on.
 pub fn pick(
     alloc: Global,
     frame: &mut Frame,
@@ -73,7 +73,7 @@ pub fn pick(
     Ok(())
 }
 
-/// Pops the word on the top, which stands at this place, into a local, and goes on.
+/// Pops the word on the top, which stands at `at`, into local `to`, and goes on.
 #[inline(always)]
 pub(crate) fn store_top(frame: &mut Frame, to: usize, at: usize)
     requires place { frame.old.place + 1 < 2 ^ 64 }
@@ -96,7 +96,7 @@ pub(crate) fn go_on(frame: &mut Frame)
     frame.place += 1;
 }
 
-/// Goes to a place with what lies below another place of the stack.
+/// Goes to `to` with what lies below `at` of the stack.
 #[inline(always)]
 pub fn go_to(frame: &mut Frame, to: usize, at: usize)
     ensures { frame.new ≡ goes_to frame.old to (take at frame.old.stack) }
@@ -105,7 +105,7 @@ pub fn go_to(frame: &mut Frame, to: usize, at: usize)
     frame.place = to;
 }
 
-/// Puts an operator's value in place of its operands, and goes on; or asks to panic.
+/// Replaces an operator's operands by its value, and goes on; or requests to panic.
 #[inline(always)]
 pub fn operate(frame: &mut Frame, op: Op, at: usize) -> Stepped
     requires place { frame.old.place + 1 < 2 ^ 64 }
@@ -126,7 +126,7 @@ pub fn operate(frame: &mut Frame, op: Op, at: usize) -> Stepped
     }
 }
 
-/// Goes on where the truth value on the top is true, else to a place.
+/// Goes on if the truth value on the top is true, else to `to`.
 #[inline(always)]
 pub fn choose(frame: &mut Frame, to: usize, at: usize) -> Stepped
     requires place { frame.old.place + 1 < 2 ^ 64 }
@@ -150,7 +150,7 @@ pub fn choose(frame: &mut Frame, to: usize, at: usize) -> Stepped
     }
 }
 
-/// Goes to a place where a tick may be made, with what lies below another place of the stack.
+/// Goes to `to` if a tick may be made, with what lies below `at` of the stack.
 #[inline(always)]
 pub fn tick_to(may: bool, frame: &mut Frame, to: usize, at: usize) -> Stepped
     ensures step { (callers : Frames) → Does may (frame.old ∷ callers) (Ticks (goes_to frame.old to (take at frame.old.stack) ∷ callers)) result (frame.new ∷ callers) }

@@ -5,9 +5,9 @@
 pub enum Stepped {
     /// A step that costs nothing.
     Slid,
-    /// A step that costs one, which is made below the limit alone.
+    /// A step that costs one, which is only made below the limit.
     Ticked,
-    /// None: the goroutine asks.
+    /// None: the goroutine makes a request.
     Asking,
     /// None: a test failed, which verified code doesn't meet.
     Stuck,

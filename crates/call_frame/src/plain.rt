@@ -13,7 +13,7 @@ use bytecode::Instr;
 use std::alloc::{AllocError, Global};
 use word::value::Word;
 
-/// An instruction that neither calls a function nor returns from one, and whose operands begin at a place of the stack; `may` is
+/// An instruction that neither calls a function nor returns from one, and whose operands begin at `at` of the stack; `may` is
 /// whether a tick is made.
 pub fn plain(
     alloc: Global,
@@ -65,7 +65,7 @@ pub fn plain(
     }
 }
 
-/// Pushes locals, so many from one on, where there are so many; the operands begin at a place of the stack.
+/// Pushes locals `from .. from + count`; `Stuck` if there are fewer. The operands begin at `at` of the stack.
 #[inline(always)]
 fn load_range(frame: &mut Frame, from: u32, count: u32, at: usize) -> Result<Stepped, AllocError>
     requires place { frame.old.place + 1 < 2 ^ 64 }
@@ -81,7 +81,7 @@ fn load_range(frame: &mut Frame, from: u32, count: u32, at: usize) -> Result<Ste
     Ok(Stepped::Slid)
 }
 
-/// Pops words into locals, so many from one on, where there are so many.
+/// Pops words into locals `from .. from + count`; `Stuck` if there are fewer.
 #[inline(always)]
 fn store_range(frame: &mut Frame, from: u32, count: u32, at: usize) -> Stepped
     requires place { frame.old.place + 1 < 2 ^ 64 }
@@ -96,7 +96,7 @@ fn store_range(frame: &mut Frame, from: u32, count: u32, at: usize) -> Stepped
     Stepped::Slid
 }
 
-/// Keeps of the words on the top, `of` in number, so many from one on, where there are so many.
+/// Of the `of` words on the top, keeps words `from .. from + count`; `Stuck` if there are fewer.
 #[inline(always)]
 fn pick_range(
     alloc: Global,

@@ -1,4 +1,4 @@
-//! Single instructions of the running function, where they are local steps.
+//! Single instructions of the running function that are local steps.
 
 ghost use Rattle.std.specs.Prelude.{◌≡◌, ◌+◌, ◌<◌, ◌^◌, Bool};
 ghost use Rattle.bytecode.specs.Code.{Code as CodeValue, Function as FunctionValue};
@@ -13,7 +13,7 @@ use operands::width::arity;
 use word::apply::Op;
 use word::value::Word;
 
-/// Pushes a word where there is room.
+/// Pushes a word; `Asking` if out of memory.
 #[inline(always)]
 fn push_word(frame: &mut Frame, word: Word) -> Stepped
     requires { frame.old.place + 1 < 2 ^ 64 }
@@ -70,7 +70,7 @@ fn apply_op(frame: &mut Frame, op: Op) -> Stepped
     operate(frame, op, have - some)
 }
 
-/// Goes on where the truth value on the top is true, else to a place.
+/// Goes on if the truth value on the top is true, else to `to`.
 #[inline(always)]
 pub(crate) fn unless(frame: &mut Frame, to: u32) -> Stepped
     requires { frame.old.place + 1 < 2 ^ 64 }
@@ -85,7 +85,7 @@ pub(crate) fn unless(frame: &mut Frame, to: u32) -> Stepped
     choose(frame, to as usize, have - 1)
 }
 
-/// Goes to a place ahead.
+/// Goes ahead to `to`.
 #[inline(always)]
 pub(crate) fn jump(frame: &mut Frame, to: u32) -> Stepped
     ensures step { (may : Bool) → (code : CodeValue) → (callers : Frames) → (f : FunctionValue) → Quickly may (at_instr code frame.old callers f (Instr.Jump to)) callers result frame.old frame.new }
@@ -97,7 +97,7 @@ pub(crate) fn jump(frame: &mut Frame, to: u32) -> Stepped
     Stepped::Slid
 }
 
-/// Drops so many words from the top.
+/// Drops `count` words from the top.
 #[inline(always)]
 pub(crate) fn discard(frame: &mut Frame, count: usize) -> Stepped
     requires { frame.old.place + 1 < 2 ^ 64 }
@@ -114,7 +114,7 @@ pub(crate) fn discard(frame: &mut Frame, count: usize) -> Stepped
     Stepped::Slid
 }
 
-/// Goes on where a tick may be made.
+/// Goes on if a tick may be made.
 fn tick(may: bool, frame: &mut Frame) -> Stepped
     requires { frame.old.place + 1 < 2 ^ 64 }
     ensures step { (code : CodeValue) → (callers : Frames) → (f : FunctionValue) → Quickly may (at_instr code frame.old callers f Instr.Tick) callers result frame.old frame.new }
@@ -125,7 +125,7 @@ fn tick(may: bool, frame: &mut Frame) -> Stepped
     tick_to(may, frame, next, have)
 }
 
-/// Goes back to a place where a tick may be made.
+/// Goes back to `to` if a tick may be made.
 #[inline(always)]
 pub(crate) fn loop_to(may: bool, frame: &mut Frame, to: u32) -> Stepped
     ensures step { (code : CodeValue) → (callers : Frames) → (f : FunctionValue) → Quickly may (at_instr code frame.old callers f (Instr.Loop to)) callers result frame.old frame.new }
@@ -136,8 +136,8 @@ pub(crate) fn loop_to(may: bool, frame: &mut Frame, to: u32) -> Stepped
     tick_to(may, frame, to as usize, have)
 }
 
-/// An instruction that most functions are made of, where it is a local step; `Asking` or `Stuck` stands for any other, which is
-/// not done. A tick is made where it may be.
+/// An instruction that most functions are made of, if it is a local step; `Asking` or `Stuck` stands for any other, which is
+/// not done. A tick is made if it may be.
 #[inline(never)]
 pub fn quick(f: &Function, may: bool, frame: &mut Frame, i: &Instr) -> Stepped
     requires { frame.old.place + 1 < 2 ^ 64 }

@@ -28,7 +28,7 @@ receive_done old new n k outcome ready receives o c = rw (← ready o n c (Recei
 partner_inj : (a b : Partner) → Some a ≡ Some b → a ≡ b
 partner_inj a b e = ap (λ (o : Option Partner). unwrap_or o a) e
 
--- a receive that meets one who sends
+-- a receive that meets a sender
 pub receive_met : (old new : ChannelsValue) (k clause : ℕ) (p : Partner) (outcome : Outcome) → Some p ≡ option_map partner_of (partner k true old.asleep) → IsServed old k clause p outcome new → (n : ℕ) → Receives old n k clause outcome new
 receive_met old new k clause p outcome e served n o c q = at (partner k true old.asleep) e
   where
@@ -77,7 +77,7 @@ done_is o n c q (fates.Done reply) w r new e = ap (λ (a : Reply). deed o n c q 
 done_is o n c q fates.Sleeps w r new e = cc
 done_is o n c q (fates.Panics cause k) w r new e = cc
 
--- the same, where these are the woken, the channels and the sleepers
+-- like `done_is`, if these are the woken, the channels and the sleepers
 deed_is : (o : Others) (n c : ℕ) (q : Request) (fate : Fate) (w : Vec (ℕ × Reply)) (r : Reply) (new : ChannelsValue) (ws : List (ℕ × Reply)) (channels : List Channel) (asleep : List Sleeper)
     → outcome_of fate ≡ Done r → w.items ≡ ws → new.channels ≡ channels → new.asleep ≡ asleep → deed o n c q r ws channels asleep ≡ deed_of o n c q (came fate w) new
 deed_is o n c q fate w r new ws channels asleep tells woke put left =
@@ -90,7 +90,7 @@ pub on_err_always : {A E : Type 0} (r : Result A E) (P : Type 0) → P → OnErr
 on_err_always (Ok x) P p = tt
 on_err_always (Err e) P p = p
 
--- the channels, where one of them may have been written: as many as before
+-- the channels, if one of them may have been written: as many as before
 module _ (v : Vec Channel) (ws : List Channel) where
   pub few_still : (most : ℕ) → length v.items ≤ most → length (with_items v ws).items ≤ most
   few_still most few = omega (arith, few, v.ok.0, (with_items v ws).ok.0)
@@ -121,7 +121,7 @@ module _ (old : ChannelsValue) (n k : ℕ) (item : Item) (clause : ℕ) where
       → do_send (shared_with o old) n c q k item clause ≡ send_to (shared_with o old) n c q k (channel_of old.channels k) item clause (partner k false old.asleep)
   live o c q is = rw (← is) refl
 
-  -- it meets one who receives
+  -- it meets a receiver
   pub send_met : (new : ChannelsValue) (p : Partner) (fate : Fate) (w : Vec (ℕ × Reply)) → false ≡ (channel_of old.channels k).closed → Some p ≡ option_map partner_of (partner k false old.asleep)
       → outcome_of fate ≡ Done (sent clause) → w.items ≡ (p.number, got p.case item true) ∷ [] → new.channels ≡ old.channels → new.asleep ≡ without old.asleep p.number
       → Sends old n k item clause (came fate w) new
@@ -178,7 +178,7 @@ served old k clause front p r ws channels asleep reply woke passed put gone o n 
     ∙ ap (λ (l : List (ℕ × Reply)). deed o n c q (got clause front true) l channels asleep) (sym (subst (λ (m : Partner). ws ≡ (m.number, sent m.case) ∷ []) (sym e) woke))
     ∙ ap (λ (a : Reply). deed o n c q a ws channels asleep) (sym reply)
 
--- a receive that meets nobody, where an item is in the buffer
+-- a receive that meets nobody, if an item is in the buffer
 pub popped : (old new : ChannelsValue) (k clause : ℕ) (fate : Fate) → nat_lt 0 (length (channel_of old.channels k).items) ≡ true
     → outcome_of fate ≡ Done (got clause (slice_index_or (channel_of old.channels k).items 0 []) true)
     → new.channels ≡ slice_set old.channels k (record (channel_of old.channels k) { items = drop 1 (channel_of old.channels k).items }) → new.asleep ≡ old.asleep → IsAlone old k clause fate new

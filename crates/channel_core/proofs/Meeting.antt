@@ -98,7 +98,7 @@ module _ (slot : ℕ → Option Sleeper) (c : ℕ) where
       (first_of_sleeper (on_row c sends) (λ (o : Offer). (o.chan == c) && cond sends (is_some o.item) (not (is_some o.item))) (first_offer c sends) refl (λ o os. refl)
       (λ o. on_its_row c o.chan sends (is_some o.item)) k (held (slot k)).request (placed_by slot ks)))
 
--- ---- those whom a close wakes
+-- ---- the sleepers that a close wakes
 
 abbrev pub on_channel : ℕ → ℕ → Bool
 on_channel c r = (r == row_on c false) || (r == row_on c true)
@@ -133,7 +133,7 @@ module _ (slot : ℕ → Option Sleeper) (c : ℕ) (z : Item) where
   abbrev pub told : Entry → ℕ × Reply
   told e = ((held (slot e.number)).number, close_reply z (record { case = e.case; chan = e.chan; item = e.item }))
 
-  -- the first entry is of the first sleeper whom a close wakes
+  -- the first entry is of the first sleeper that a close wakes
   abbrev pub Wakes : List Sleeper → Option Entry → Type 0
   Wakes ss None = partners c ss ≡ []
   Wakes ss (Some e) = closed_for z (partners c ss) ≡ told e ∷ closed_for z (partners c (without ss (told e).0))
@@ -185,7 +185,7 @@ length-partners c (s ∷ ss) =
     omega (arith, i, l)
 
 module _ (c : ℕ) (z : Item) (ss : List Sleeper) (w : ℕ × Reply) (e : closed_for z (partners c ss) ≡ w ∷ closed_for z (partners c (without ss w.0))) where
-  -- one more is told, and the rest is still to be
+  -- one more has its reply, and the rest is still to get one
   pub told_one : (ws all : List (ℕ × Reply)) → ws ++ closed_for z (partners c ss) ≡ all → (ws ++ w ∷ []) ++ closed_for z (partners c (without ss w.0)) ≡ all
   told_one ws all h = append_assoc ws (w ∷ []) (closed_for z (partners c (without ss w.0))) ∙ ap (λ (l : List (ℕ × Reply)). ws ++ l) (sym e) ∙ h
 

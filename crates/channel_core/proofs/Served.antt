@@ -32,7 +32,7 @@ entry_inj a b e = ap (λ (o : Option Entry). unwrap_or o a) e
 key_inj : (a b : ℕ) → Some a ≡ Some b → a ≡ b
 key_inj a b e = ap (λ (o : Option ℕ). unwrap_or o a) e
 
--- nothing of a key is found where all of it has left
+-- nothing of a key is found if all of it has left
 found_is_other : (t : ℕ → Bool) (k : ℕ) (ps : List Placed) (e : Entry) → first_by t (filter (is_not_of k) ps) ≡ Some e → e.number ≢ k
 found_is_other t k [] e h = absurd (none-some e h)
 found_is_other t k (p ∷ ps) e h = elim (cases_eq p.entry.number k) [
@@ -46,7 +46,7 @@ found_is_other t k (p ∷ ps) e h = elim (cases_eq p.entry.number k) [
 ]
 
 module _ (slot : ℕ → Option Sleeper) (key_of : ℕ → Option ℕ) (ks : List ℕ) (q : QueuesValue) (count : ℕ) (a : IsAsleep slot key_of ks (placed q) count) where
-  -- each offer is of one who is asleep
+  -- each offer is one of a sleeper
   pub offered : (t : ℕ → Bool) (e : Entry) → option_map (λ (w : Waiting). w.offer) (first (filter (λ (w : Waiting). t w.row) q.waiting)) ≡ Some e → slot e.number ≡ None → ⊥
   offered t e h none =
       found_is_other t e.number (placed q) e (ap (first_by t) (nothing_of slot key_of ks (placed q) count a e.number none) ∙ sym (first_waiting t q.waiting) ∙ h) refl

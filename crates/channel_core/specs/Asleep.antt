@@ -1,4 +1,4 @@
--- Those who are asleep, as offers in rows.
+-- The sleeping goroutines, as offers in rows.
 use Rattle.std.specs.Prelude.{◌≡◌, ℕ, ◌+◌, ◌*◌, ◌==◌, Bool, true, false, ◌||◌, not, List, [], ◌∷◌, ◌++◌, map, length, Option, Some, option_map, unwrap_or}
 use Rattle.std.specs.Option.{is_some}
 use Rattle.word.specs.Values.{Request, Exhausted, Sleeper, Offer}
@@ -25,7 +25,7 @@ row_on c false = 2 * c
 abbrev pub placed_offer : ℕ → Offer → Placed
 placed_offer key o = record { row = row_on o.chan (is_some o.item); entry = record { number = key; case = o.case; chan = o.chan; item = o.item } }
 
--- where the sleeper of a key stands, which asked this
+-- the rows and entries of the sleeper of a key that made this request
 abbrev pub placed_all : ℕ → Request → List Placed
 placed_all key q = map (placed_offer key) (offers q)
 

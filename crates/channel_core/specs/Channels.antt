@@ -38,13 +38,13 @@ shared_with o v = record {
   ending = o.ending;
 }
 
--- what is told of a sleeper and its offer: its number, the clause, and what it sends
+-- what is known of a sleeper and its offer: its number, the clause, and what it sends
 pub record Partner : Type 0 where
   pub number : ℕ
   pub case : ℕ
   pub item : Option Item
 
--- the same where the item is lent
+-- the `Partner` of a view, whose item is lent
 abbrev pub met : PartnerView → Partner
 met v = record { number = v.number; case = v.case; item = option_copied v.item }
 
@@ -57,20 +57,20 @@ came (fates.Done reply) woken = outcomes.Done reply woken
 came fates.Sleeps woken = outcomes.Sleeps
 came (fates.Panics cause k) woken = outcomes.Panics cause k
 
--- a reply that hands over this item, where it hands one over
+-- a reply that hands over this item, if it hands one over
 abbrev pub given : Reply → Item → Reply
 given (Received other ok) item = Received item ok
 given (Clause k (Some got)) item = Clause k (Some (item, got.1))
 given reply item = reply
 
--- one who is woken, and the reply
+-- a woken goroutine, and the reply with this item
 abbrev pub with_item : ℕ × Reply → Item → ℕ × Reply
 with_item one item = (one.0, given one.1 item)
 
 abbrev pub nobody : ℕ × Reply
 nobody = (0, Nothing)
 
--- goroutine n, at clock c, asked q: what it did, by its outcome
+-- goroutine n, at clock c, with request q: what it did, by its outcome
 module _ (o : Others) (n c : ℕ) (q : Request) where
   abbrev pub deed_of : Outcome → ChannelsValue → Deed
   deed_of (outcomes.Done reply woken) new = record {
@@ -95,7 +95,7 @@ Does old n q outcome new = (o : Others) (c : ℕ) → act (shared_with o old) n 
 abbrev pub DoesAt : ChannelsValue → ℕ → ℕ → Request → Outcome → ChannelsValue → Type 0
 DoesAt old n c q outcome new = (o : Others) → act (shared_with o old) n c q q ≡ deed_of o n c q outcome new
 
--- the same, where nobody is woken
+-- like `Does`, if nobody is woken
 abbrev pub DoesAlone : ChannelsValue → ℕ → Request → Fate → ChannelsValue → Type 0
 DoesAlone old n q fate new = (w : Vec (ℕ × Reply)) → w.items ≡ [] → Does old n q (came fate w) new
 
@@ -115,7 +115,7 @@ Serves old n x clause outcome new = (o : Others) (c : ℕ) (q : Request) → do_
 abbrev pub clause_at : List Case → ℕ → Case
 clause_at cases i = slice_index_or cases i (record { chan = None; item = None })
 
--- what those are told whom a close wakes, z being the zero item
+-- the replies to those that a close wakes, z being the zero item
 abbrev pub closed_for : Item → List (Sleeper × Offer) → List (ℕ × Reply)
 closed_for z ps = map (λ (p : Sleeper × Offer). (p.0.number, close_reply z p.1)) ps
 
@@ -154,7 +154,7 @@ abbrev pub IsOfOneChannel : Request → Type 0
 IsOfOneChannel (Select cases default) = ⊥
 IsOfOneChannel q = IsOfChannels q
 
--- it is told this number
+-- the reply is this number
 abbrev pub IsTold : Fate → ℤ → Type 0
 IsTold fate number = outcome_of fate ≡ Done (Value (Int number))
 

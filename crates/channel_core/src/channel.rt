@@ -56,7 +56,7 @@ impl Channel {
         self.closed
     }
 
-    /// Whether there is room in the buffer.
+    /// Whether the buffer has space for an item.
     pub(crate) fn has_room(&self) -> bool
         ensures { result ≡ nat_lt (length self.now.items) self.now.capacity }
     {
@@ -106,7 +106,7 @@ impl Channel {
         self.items.push(*self.zero.allocator(), item)
     }
 
-    /// Takes the item at the buffer's front, if there is one: a receiver is told it at this place.
+    /// Takes the item at the buffer's front, if there is one, and writes the receiver's reply to `outcome`.
     pub(crate) fn pop(&mut self, alloc: Global, clause: usize, outcome: &mut EventOutcome)
         ensures told { nat_lt 0 (length self.old.items) ≡ true → outcome_of outcome.new ≡ Done (got clause (slice_index_or self.old.items 0 []) true) }
         ensures rest { self.new ≡ record self.old { items = drop 1 self.old.items } }
@@ -115,8 +115,8 @@ impl Channel {
         self.items.drop_front();
     }
 
-    /// Puts an item at the buffer's back, and takes the one at its front, which is the same one where the buffer is
-    /// empty: a receiver is told it at this place.
+    /// Puts an item at the buffer's back, takes the one at its front (the same one if the buffer was empty), and writes
+    /// the receiver's reply to `outcome`.
     #[tactic(auto, using(crate::proofs::Deeds::is_longer))]
     pub(crate) fn pass_through(
         &mut self,

@@ -1,4 +1,4 @@
-//! The channels of a world, and those who sleep at them.
+//! The channels of a world, and the goroutines that sleep at them.
 
 ghost use Rattle.std.specs.Prelude.{◌≡◌, ℕ, ◌+◌, ◌<◌, ◌≤◌, ◌∷◌, [], ◌++◌, IfOk, IfNone, IfSome, OnErr, OnOk, Some, None, drop, nat_lt, option_copied, option_map, pos, suc, false, true, length, slice_index_or, slice_set, unwrap_or};
 ghost use Rattle.std.specs.Option.{is_some};
@@ -19,7 +19,7 @@ use word::panic::Panic;
 use word::request::{Case, EventOutcome, Reply, Request};
 use word::value::{Item, Word};
 
-/// The channels of a world, and those who sleep at them, in the order in which they fell asleep.
+/// The channels of a world, and the goroutines that sleep at them, in the order in which they fell asleep.
 pub struct Channels {
     alloc: Global,
     /// Channel c is at place c; place 0 is no channel's.
@@ -77,8 +77,8 @@ impl Channels {
         Ok(Outcome::of(&outcome, woken))
     }
 
-    /// The same, but that it is written to these places what becomes of the request, and who is woken, in the order in which they
-    /// fell asleep; the list is of no account where it isn't done. What stood there before is of no account.
+    /// Like `perform`, but writes the outcome to `outcome` and the woken goroutines to `woken`, oldest sleeper first.
+    /// `woken` counts only if the request is done. Earlier contents of both are ignored.
     pub fn meet(
         &mut self,
         number: u64,
@@ -103,8 +103,8 @@ impl Channels {
         }
     }
 
-    /// A new channel (Go: Making slices, maps and channels). It panics where the size is negative or over 65,536, and
-    /// where 65,536 channels were made.
+    /// A new channel (Go: Making slices, maps and channels). It panics if the size is negative or over 65,536, or if
+    /// 65,536 channels were made.
     pub fn make(&mut self, number: u64, size: i64, zero: Item) -> Result<Outcome, Memory>
         ensures does { IfOk result (λ outcome. Does self.old number (Make size zero) outcome self.new) }
         ensures memory { OnErr result (self.new ≡ self.old) }
@@ -112,7 +112,7 @@ impl Channels {
         self.perform(number, &Request::Make(size, zero))
     }
 
-    /// The same, where the zero item stays the caller's. It is a call, so that no other request makes room for an item.
+    /// Like `make`, but the zero item stays the caller's. It is a call, so that no other request reserves stack space for an item.
     #[inline(never)]
     fn make_asked(
         &mut self,
@@ -151,7 +151,7 @@ impl Channels {
         self.perform(number, &Request::Send(chan, item))
     }
 
-    /// The same of goroutine `number`, which asks this.
+    /// Like `send`, but writes the outcome to `outcome` and the woken goroutine to `woken`.
     #[inline(always)]
     #[tactic(auto, using(crate::proofs::Deeds::send_done))]
     fn send_asked(
@@ -176,9 +176,8 @@ impl Channels {
         self.send_now(number, chan, item, 0, outcome, woken)
     }
 
-    /// A receive by goroutine `number` (Go: Receive operator): of the buffer's front item, whose place the first sleeping
-    /// sender's item takes, else of that item, else of the zero item where the channel is closed, else it sleeps. On `nil`
-    /// it sleeps for good.
+    /// A receive by goroutine `number` (Go: Receive operator): of the buffer's front item, whose place the first sleeping sender's
+    /// item takes, else of that item, else of the zero item if the channel is closed, else it sleeps. On `nil` it sleeps for good.
     pub fn receive(&mut self, number: u64, chan: Option<u32>) -> Result<Outcome, Memory>
         ensures does { IfOk result (λ outcome. Does self.old number (Receive chan) outcome self.new) }
         ensures memory { OnErr result (self.new ≡ self.old) }
@@ -186,7 +185,7 @@ impl Channels {
         self.perform(number, &Request::Receive(chan))
     }
 
-    /// The same of goroutine `number`, which asks this.
+    /// Like `receive`, but writes the outcome to `outcome` and the woken goroutine to `woken`.
     #[inline(always)]
     #[tactic(auto, using(crate::proofs::Deeds::receive_done))]
     fn receive_asked(
@@ -222,7 +221,8 @@ impl Channels {
         Ok(Outcome::of(&outcome, woken))
     }
 
-    /// The same, with what becomes of it in these places. It is a call, so that no other request makes room for an item.
+    /// Like `close`, but writes the outcome to `outcome` and the woken goroutines to `woken`. It is a call, so that no
+    /// other request reserves stack space for an item.
     #[inline(never)]
     fn close_asked(
         &mut self,
@@ -274,8 +274,8 @@ impl Channels {
         }
     }
 
-    /// Whether a clause of a select is ready (Go: Select statements): a send if the channel is closed, has room or a receiver sleeps at
-    /// it, a receive if it is closed, holds items or a sender sleeps at it; on `nil` neither.
+    /// Whether a clause of a select is ready (Go: Select statements): a send if the channel is closed, has space in its
+    /// buffer or a receiver sleeps at it, a receive if it is closed, holds items or a sender sleeps at it; on `nil` neither.
     pub fn ready(&self, case: &Case) -> bool
         ensures { (o : Others) (n c : ℕ) (q : AnyRequest) → result ≡ is_ready (shared_with o self.now) n c q case.now.chan case.now.item }
     {
@@ -333,7 +333,7 @@ impl Channels {
         self.asleep.len()
     }
 
-    /// How many offers on a channel the goroutines that sleep make: at least as many as sleep there. Only these offers are visited.
+    /// How many offers the sleeping goroutines make on a channel: at least as many as sleep there. Only these offers are visited.
     #[tactic(auto, using(crate::proofs::Offered::partners_few))]
     pub fn offers_at(&self, chan: u32) -> usize
         ensures offers { result ≡ offers_at chan self.now.asleep }
@@ -466,7 +466,7 @@ impl Channels {
         }
     }
 
-    /// Whether there is room in a channel's buffer.
+    /// Whether a channel's buffer has space for an item.
     fn has_room(&self, chan: u32) -> bool
         ensures { result ≡ nat_lt (length (channel_of self.now.channels chan).items) (channel_of self.now.channels chan).capacity }
     {
@@ -506,7 +506,7 @@ fn close_channel(channels: &mut [Channel], chan: u32)
     }
 }
 
-/// Puts an item at the back of a channel's buffer. It is a call, so that nothing else makes room for an item.
+/// Puts an item at the back of a channel's buffer. It is a call, so that nothing else reserves stack space for an item.
 #[inline(never)]
 fn push(channels: &mut [Channel], chan: u32, item: &Item) -> Result<(), Memory>
     ensures ok { OnOk result (channels.new ≡ slice_set channels.old chan (record (channel_of channels.old chan) { items = (channel_of channels.old chan).items ++ item.now ∷ [] })) }
@@ -518,7 +518,7 @@ fn push(channels: &mut [Channel], chan: u32, item: &Item) -> Result<(), Memory>
     Ok(())
 }
 
-/// Takes the item at the front of a channel's buffer, if there is one: a receiver is told it at this place.
+/// Takes the item at the front of a channel's buffer, if there is one, and writes the receiver's reply to `outcome`.
 fn pop(
     alloc: Global,
     channels: &mut [Channel],
@@ -534,8 +534,8 @@ fn pop(
     }
 }
 
-/// Puts an item, or one of no words, at the back of a channel's buffer, and takes the one at its front, which is the same
-/// one where the buffer is empty: a receiver is told it at this place.
+/// Puts an item, or one of no words, at the back of a channel's buffer, takes the one at its front (the same one if the
+/// buffer was empty), and writes the receiver's reply to `outcome`.
 fn pass_through(
     alloc: Global,
     channels: &mut Vec<Channel>,
@@ -561,7 +561,7 @@ fn pass_through(
     }
 }
 
-/// The same of this item.
+/// Like `pass_through`, with this item.
 #[inline(never)]
 fn pass_item(
     alloc: Global,
@@ -582,7 +582,7 @@ fn pass_item(
     Ok(())
 }
 
-/// A request is told a number, and nobody is woken.
+/// The reply to a request is a number, and nobody is woken.
 #[inline(never)]
 fn tell(outcome: &mut EventOutcome, number: i64, woken: &mut Vec<Woken>)
     ensures told { IsTold outcome.new number }

@@ -1,4 +1,4 @@
-//! What became of a request to a channel.
+//! The outcome of a request to a channel.
 
 ghost use Rattle.std.specs.Prelude.{◌≡◌, ◌≢◌, ◌∷◌, [], None, OnOk, length, slice_index_or, slice_set, true};
 ghost use Rattle.word.specs.Requests.{got, sent};
@@ -14,7 +14,7 @@ use word::panic::Panic;
 use word::request::{EventOutcome, Reply};
 use word::value::Item;
 
-/// One that was asleep, and what it is told.
+/// A goroutine that was asleep, and the reply to its request.
 #[derive(Drop)]
 pub struct Woken {
     number: u64,
@@ -37,7 +37,7 @@ impl Woken {
     ghost use Rattle.word.specs.Views.{reply_of};
     ghost use Rattle.channel_core.specs.Channels.{with_item};
 
-    /// Goroutine `number`, which is told this.
+    /// Goroutine `number`, woken with this reply.
     #[inline(always)]
     pub fn new(number: u64, reply: Reply) -> Woken
         ensures { result ≡ (number, reply_of reply) }
@@ -52,14 +52,14 @@ impl Woken {
         self.number
     }
 
-    /// What it is told.
+    /// The reply.
     pub fn reply(&self) -> &Reply
         ensures { reply_of result.now ≡ self.now.1 }
     {
         &self.reply
     }
 
-    /// The item that it is told, if it is told one, is this.
+    /// Sets the item of the reply to this one, if the reply has an item.
     #[inline(always)]
     fn give(&mut self, item: &Item)
         ensures { self.new ≡ with_item self.old item.now }
@@ -67,7 +67,7 @@ impl Woken {
         give(&mut self.reply, item);
     }
 
-    /// Goroutine `number` is told this item outside of a select; no where another reply than one with an item stood here.
+    /// Makes this goroutine `number`, which receives `item` outside of a select; false if the reply here was of another form.
     #[inline(always)]
     fn receives(&mut self, number: u64, item: &Item) -> bool
         ensures { result ≡ true → self.new ≡ (number, Received item.now true) }
@@ -87,7 +87,7 @@ impl Woken {
         }
     }
 
-    /// What it is told.
+    /// The reply.
     pub fn into_reply(self) -> Reply
         ensures { reply_of result ≡ self.1 }
     {
@@ -96,7 +96,7 @@ impl Woken {
     }
 }
 
-/// What became of a request to a channel.
+/// The outcome of a request to a channel.
 #[derive(Drop)]
 pub enum Outcome {
     /// It is done: its goroutine goes on with this reply, and these were woken, in the order in which they fell asleep.
@@ -135,7 +135,7 @@ fn again(reply: &Reply) -> Reply
     }
 }
 
-/// What a sender is told, in a clause of a select, or outside of one where that is 0.
+/// The reply to a sender, in a clause of a select, or outside of one if `clause` is 0.
 #[inline(always)]
 pub(crate) fn sent(clause: usize) -> Reply
     ensures { reply_of result ≡ sent clause }
@@ -146,7 +146,7 @@ pub(crate) fn sent(clause: usize) -> Reply
     Reply::Clause(clause, None)
 }
 
-/// What a receiver of this item is told, in a clause of a select, or outside of one where that is 0.
+/// The reply to a receiver of this item, in a clause of a select, or outside of one if `clause` is 0.
 pub(crate) fn got(clause: usize, item: &Item, ok: bool) -> Reply
     ensures { reply_of result ≡ got clause item.now ok }
 {
@@ -156,7 +156,7 @@ pub(crate) fn got(clause: usize, item: &Item, ok: bool) -> Reply
     Reply::Clause(clause, Some((item.copy(), ok)))
 }
 
-/// A sender is told at this place that its item was accepted, in a clause of a select, or outside of one where that is 0.
+/// Writes to `outcome` that a sender's item was accepted, in a clause of a select, or outside of one if `clause` is 0.
 #[inline(always)]
 pub(crate) fn tell_sent(outcome: &mut EventOutcome, clause: usize)
     ensures { outcome_of outcome.new ≡ Done (sent clause) }
@@ -168,8 +168,8 @@ pub(crate) fn tell_sent(outcome: &mut EventOutcome, clause: usize)
     }
 }
 
-/// A select is told at this place that its clause of this number, which sends, was done. It is a call, so that what a sender is told
-/// outside of a select makes no room for an item.
+/// Writes to `outcome` that clause `clause` of a select, which sends, was done. It is a call, so that the reply to a
+/// sender outside of a select reserves no stack space for an item.
 #[inline(never)]
 fn tell_clause(outcome: &mut EventOutcome, clause: usize)
     ensures { outcome_of outcome.new ≡ Done (Clause clause None) }
@@ -177,8 +177,8 @@ fn tell_clause(outcome: &mut EventOutcome, clause: usize)
     *outcome = EventOutcome::Done(Reply::Clause(clause, None));
 }
 
-/// A receiver is told this item at this place, in a clause of a select, or outside of one where that is 0. A reply that has the room
-/// of an item stands there first, and then its words are written: so no item is moved.
+/// Writes to `outcome` that a receiver got `item`, in a clause of a select, or outside of one if `clause` is 0. A reply
+/// with an empty item is written first, and then the item's words: so no item is moved.
 #[tactic(auto, using(crate::proofs::Deeds::given_got))]
 pub(crate) fn tell_got(
     alloc: Global,
@@ -211,7 +211,7 @@ pub(crate) fn tell_front(
     }
 }
 
-/// A receiver is told an item of no words at this place.
+/// Writes to `outcome` that a receiver got an item of no words.
 #[inline(always)]
 fn tell_room(alloc: Global, outcome: &mut EventOutcome, clause: usize, ok: bool)
     ensures { outcome_of outcome.new ≡ Done (got clause [] ok) }
@@ -247,7 +247,7 @@ fn give(reply: &mut Reply, item: &Item)
     }
 }
 
-/// One that was asleep is woken with what it is told, alone. Those who were woken before are of no account.
+/// Wakes goroutine `number`, alone, with this reply. Earlier contents of `woken` are ignored.
 #[inline(always)]
 pub(crate) fn wake(woken: &mut Vec<Woken>, number: u64, reply: Reply) -> Result<(), Memory>
     ensures { OnOk result (woken.new.items ≡ (number, reply_of reply) ∷ []) }
@@ -258,8 +258,8 @@ pub(crate) fn wake(woken: &mut Vec<Woken>, number: u64, reply: Reply) -> Result<
     Ok(())
 }
 
-/// A receiver that was asleep is woken with this item, alone, in a clause of its select, or outside of one where that is 0. Where
-/// a receiver was woken before, alone, its item's room is used again.
+/// Wakes a receiver, alone, with this item, in a clause of its select, or outside of one if that is 0. If a receiver
+/// was woken before, alone, its item's buffer is used again.
 #[inline(always)]
 #[tactic(auto, using(crate::proofs::Deeds::one_is))]
 pub(crate) fn wake_with(
@@ -277,7 +277,7 @@ pub(crate) fn wake_with(
     wake_anew(alloc, woken, number, clause, item)
 }
 
-/// The same, with a new room for the item. It is a call, so that nothing else makes room for an item.
+/// Like `wake_with`, with a new buffer for the item. It is a call, so that nothing else reserves stack space for an item.
 #[inline(never)]
 #[tactic(auto, using(crate::proofs::Deeds::given_got))]
 fn wake_anew(
@@ -294,8 +294,8 @@ fn wake_anew(
     Ok(())
 }
 
-/// A receiver is woken with this item, outside of a select, in the place of the first who was; no where that one was told something
-/// else.
+/// Wakes a receiver with this item, outside of a select, in place of the first that was woken; false if that one's
+/// reply was of another form.
 #[inline(always)]
 fn wake_first(woken: &mut [Woken], number: u64, item: &Item) -> bool
     ensures { result ≡ true → woken.new ≡ slice_set woken.old 0 (number, Received item.now true) }
@@ -306,7 +306,7 @@ fn wake_first(woken: &mut [Woken], number: u64, item: &Item) -> bool
     woken[0].receives(number, item)
 }
 
-/// A receiver is woken with an item of no words, alone, in a clause of its select, or outside of one where that is 0.
+/// Wakes a receiver with an item of no words, alone, in a clause of its select, or outside of one if that is 0.
 #[inline(always)]
 fn wake_with_room(
     alloc: Global,
@@ -326,7 +326,7 @@ fn wake_with_room(
     )
 }
 
-/// The item that the first of those who are woken is told, if it is told one, is this.
+/// Sets the item in the reply of the first woken goroutine to this one, if that reply has an item.
 #[inline(always)]
 fn give_first(woken: &mut [Woken], item: &Item)
     ensures { woken.new ≡ slice_set woken.old 0 (with_item (slice_index_or woken.old 0 nobody) item.now) }

@@ -27,7 +27,7 @@ pub(crate) fn row_on(chan: u32, sends: bool) -> usize
     }
 }
 
-/// The offers of a sleeper of this key enter their rows: all, or none where memory is refused.
+/// The offers of a sleeper of this key enter their rows: all, or none if memory is refused.
 pub(crate) fn enter_all(queues: &mut SleepQueues, key: u64, request: &Request) -> Result<(), Memory>
     requires { filter (is_not_of key) (placed queues.old) ≡ placed queues.old }
     ensures ok { OnOk result (placed queues.new ≡ placed queues.old ++ placed_all key (request_of request.now)) }
@@ -42,7 +42,7 @@ pub(crate) fn enter_all(queues: &mut SleepQueues, key: u64, request: &Request) -
     }
 }
 
-/// The same, but where memory is refused some may have entered.
+/// Like `enter_all`, but if memory is refused some may have entered.
 fn try_enter_all(queues: &mut SleepQueues, key: u64, request: &Request) -> Result<(), Memory>
     ensures ok { OnOk result (placed queues.new ≡ placed queues.old ++ placed_all key (request_of request.now)) }
     ensures others { filter (is_not_of key) (placed queues.new) ≡ filter (is_not_of key) (placed queues.old) }
@@ -93,7 +93,7 @@ fn offer(
     )
 }
 
-/// An offer enters a row, which is made where it is not there.
+/// An offer enters a row, which is made if it is not there.
 fn enter(queues: &mut SleepQueues, row: usize, offer: OfferView<'_>) -> Result<(), Memory>
     ensures ok { OnOk result (placed queues.new ≡ placed queues.old ++ record { row = row; entry = view_of offer.entry } ∷ []) }
     ensures memory { OnErr result (placed queues.new ≡ placed queues.old) }
@@ -121,7 +121,7 @@ pub(crate) fn leave_all(queues: &mut SleepQueues, key: u64)
     leave_counted::<Brand>(queues, key, Blank::new(1));
 }
 
-/// The same, with the steps that it takes counted, which costs nothing.
+/// Like `leave_all`, with the steps that it takes counted, which costs nothing.
 fn leave_counted<L: Ledger>(queues: &mut SleepQueues, key: u64, blank: Blank)
     requires name { blank.name ≡ L.name }
     requires parts { blank.parts ≡ L.parts }

@@ -22,7 +22,7 @@ use std::snapshot::Snapshot;
 use word::request::{Reply, Request};
 use word::value::Item;
 
-/// A goroutine that sleeps. What it asked contracts alone still see: what it offers stands in rows.
+/// A goroutine that sleeps. Only contracts still see its request: what it offers stands in rows.
 #[derive(Drop)]
 pub(crate) struct Sleeper {
     number: u64,
@@ -67,7 +67,7 @@ pub struct PartnerView<'a> {
     pub item: Option<&'a Item>,
 }
 
-/// Those who are asleep, in the order in which they fell asleep. Whom a request meets is found without a search.
+/// The sleeping goroutines, in the order in which they fell asleep. The one that a request meets is found without a search.
 #[derive(Drop)]
 pub(crate) struct Sleepers {
     alloc: Global,
@@ -181,7 +181,7 @@ impl Sleepers {
         }
     }
 
-    /// Takes out all who have an offer on a channel, and tells what a close tells them.
+    /// Takes out all that have an offer on a channel, and returns them with the replies that a close gives them.
     pub(crate) fn close(&mut self, chan: u32, zero: &Item) -> Result<Vec<Woken>, Memory>
         ensures woken { IfOk result (λ woken. woken.items ≡ closed_for zero.now (partners chan self.old)) }
         ensures left { IfOk result (λ woken. self.new ≡ without_all self.old woken.items) }
@@ -199,8 +199,8 @@ impl Sleepers {
         Ok(woken)
     }
 
-    /// The first who has an offer on a channel, and what a close of it tells by its first one: a receiver the zero item, a
-    /// sender that its item is not accepted.
+    /// The first that has an offer on a channel, with the reply that a close gives to its first offer there: a receiver
+    /// gets the zero item, a sender learns that its item is not accepted.
     fn first_at_close(&self, chan: u32, zero: &Item) -> Option<Woken>
         ensures none { IfNone result (partners chan self.now ≡ []) }
         ensures some { IfSome result (λ w. closed_for zero.now (partners chan self.now) ≡ w ∷ closed_for zero.now (partners chan (without self.now w.0))) }
@@ -217,8 +217,8 @@ impl Sleepers {
     }
 }
 
-/// The sleeper of a key, which has this number and asks this, enters its rows: the key that its number had before. All or
-/// nothing is done.
+/// The sleeper of a key, which has this number and made this request, enters its rows: the key that its number had
+/// before. All or nothing is done.
 fn place(
     queues: &mut SleepQueues,
     places: &mut NumberedKeys,
@@ -244,7 +244,7 @@ fn place(
     }
 }
 
-/// What a close tells one that offers to send, or to receive, by a clause of its select, or outside of one where that is 0.
+/// The reply of a close to an offer to send or receive, in a clause of a select, or outside of one if `case` is 0.
 fn reply_at_close(case: usize, sends: bool, zero: &Item) -> Reply
     ensures { reply_of result ≡ cond sends Closed (got case zero.now false) }
 {

@@ -1,4 +1,4 @@
--- A flaw's node is one of the file's.
+-- A violation's node is one of the file's.
 use Rattle.std.proofs.lemmas.Option.{same_Some}
 use Rattle.std.proofs.Common.{◌≡◌, ℕ, zero, suc, ◌+◌, ◌<◌, inl, inr, List, [], ◌∷◌, ◌++◌, Option, Some, None, sum_by, arith}
 use Rattle.std.proofs.lemmas.List.Sums.{sum_by-cons}

@@ -1,4 +1,4 @@
--- Files of which the definitions tell what is so by computation alone.
+-- Files of which the definitions say what is so by computation alone.
 use Rattle.std.proofs.Common.{◌≡◌, ℕ, true, false, List, [], ◌∷◌, Some, None, refl, codes}
 use Rattle.go_text.specs.declared.rule.Rule.TheVariants as rules
 use Rattle.syntax.specs.declared.node.Direction.TheVariants as directions

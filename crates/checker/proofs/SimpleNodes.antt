@@ -1,4 +1,4 @@
--- A flaw's node is one of the simple statement's.
+-- A violation's node is one of the simple statement's.
 use Rattle.std.proofs.Common.{ℕ, zero, suc, ◌+◌, ◌<◌, ◌≤◌, inl, inr, List, [], ◌∷◌, Option, Some, None, length, sum_by, arith, pos, true}
 use Rattle.std.specs.Option.{is_none}
 use Rattle.std.specs.Result.{result_ok}

@@ -17,7 +17,7 @@ use std::alloc::Global;
 use syntax::Tree;
 use typing_rules::flaw::Flaw;
 
-/// The refusal of a tree with this flaw, with the place of the node.
+/// The error for a tree with this violation, with the location of the node.
 fn fault_of(tree: &Tree, flaw: Flaw) -> Fault
     requires node { node_of flaw < size (tree_of tree.now) }
     requires flaw { FileHas (tree_of tree.now) flaw }
@@ -42,8 +42,8 @@ fn fault_of(tree: &Tree, flaw: Flaw) -> Fault
 /// does not contain itself and that it is at most 16 words wide; then the heads of its functions, then that it has a `main`,
 /// then the bodies of the functions, where statements come in order, and operands before their operators.
 ///
-/// Errors: `Typing` with a rule that is broken, or `Limit` with a limit that is exceeded, each at the node named; of several
-/// the first one in this order; `Memory`.
+/// Errors: `Typing` with a rule that is violated, or `Limit` with a limit that is exceeded, each at the node named; of
+/// several the first one in this order; `Memory`.
 pub fn check(alloc: Global, tree: Tree) -> Result<Typed, Fault>
     ensures tree { IfOk result (λ typed. tree_in typed ≡ tree) }
     ensures typed { IfOk result (λ _. IsTyped (tree_of tree)) }

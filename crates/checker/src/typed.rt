@@ -11,7 +11,7 @@ use std::alloc::{AllocError, Global};
 use syntax::Tree;
 use type_table::table::TypeTable;
 
-/// A tree that breaks no typing rule and exceeds no limit.
+/// A tree that violates no typing rule and exceeds no limit.
 pub struct Typed {
     tree: Tree,
     ghost typed: { IsTyped (tree_of tree) },
@@ -56,7 +56,7 @@ impl Typed {
 
     /// What the tree's file declares.
     ///
-    /// Errors: want of memory.
+    /// Errors: out of memory.
     pub fn table(&self, alloc: Global) -> Result<TypeTable<'_>, AllocError>
         ensures { IfOk result (λ table. globals_in table ≡ globals_of (tree_of (tree_in self.now)).tops) }
     {

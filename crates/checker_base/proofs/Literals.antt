@@ -20,12 +20,12 @@ use Rattle.typing_rules.specs.Calls.{IsFunction, callee, parameters_of, result_o
 use Rattle.checker_base.specs.Views.{known_kind, kind_at, CallWith, Tells}
 use Rattle.typing_rules.specs.Expressions.{ExpressionHas, ExpressionsHave, FieldsHave, PassedHave, ValuesFail, ValueHas, YieldHas, field_kinds, nodes_of}
 
--- P of the flaw that is told; where none is, P says what Q says of the rest
+-- P of the violation that is reported; if none is, P says what Q says of the rest
 abbrev pub Narrows : Option Flaw → (Flaw → Type 0) → (Flaw → Type 0) → Type 0
 Narrows None P Q = (flaw : Flaw) → (P flaw → Q flaw) × (Q flaw → P flaw)
 Narrows (Some flaw) P Q = P flaw
 
--- one more value is told of
+-- one more value is reported on
 pub narrows-next : (P Q R : Flaw → Type 0) (told : Option Flaw) → ((flaw : Flaw) → (P flaw → Q flaw ⊎ R flaw) × (Q flaw ⊎ R flaw → P flaw)) → Tells Q told → Narrows told P R
 narrows-next P Q R None both no_flaw = λ flaw. (λ p. elim ((both flaw).0 p) [ inl q ↦ absurd (no_flaw flaw q) | inr r ↦ r ], λ r. (both flaw).1 (inr r))
 narrows-next P Q R (Some flaw) both has = (both flaw).1 (inl has)

@@ -1,4 +1,4 @@
--- What expressions are worth, and what is refused, as the definitions see it.
+-- The types and constant values of expressions, and what is refused, as the definitions see them.
 use Rattle.std.specs.Prelude.{◌≤◌, ◌^◌, ℕ, zero, suc, ◌+◌, false, List, [], ◌∷◌, map, nat_abs, Option, Some, None, Result, Ok, Err}
 use Rattle.syntax.specs.Tree.{Expression}
 use Rattle.typing_rules.specs.declared.flaw.Flaw.{Flaw}
@@ -41,7 +41,7 @@ IsSmall worth = Unit {0}
 abbrev pub nodes_in : Operand → Nodes
 nodes_in operand = record { first = operand.first; end = operand.node + 1 }
 
--- P of the flaw, if it is one; want of memory says nothing
+-- P of the violation, if there is one; holds if out of memory
 abbrev pub Refuses : (Flaw → Type 0) → Refusal → Type 0
 Refuses P Memory = Unit {0}
 Refuses P (Flawed flaw) = P flaw
@@ -65,7 +65,7 @@ kind_at (kind ∷ rest) (suc number) = kind_at rest number
 abbrev pub CallWith : Globals → Scope → ℕ → List ℕ → List Expression → Flaw → Type 0
 CallWith globals scope first function values flaw = CallHas globals scope first function (record { values = values; trailing = false }) flaw
 
--- P of the flaw that is told; where none is, P of none
+-- P of the violation that is reported; if none is, P of no violation
 abbrev pub Tells : (Flaw → Type 0) → Option Flaw → Type 0
 Tells P None = (flaw : Flaw) → ¬ (P flaw)
 Tells P (Some flaw) = P flaw

@@ -72,7 +72,7 @@ fn shifted(left: i128, count: i128) -> Option<i128>
     product(left, power(count.unsigned_abs() as u32) as i128)
 }
 
-/// The value of an operator between two constants that makes an int, where the right one is neither a zero divisor nor
+/// The value of an operator between two constants that makes an int, if the right one is neither a zero divisor nor
 /// a wrong count.
 pub fn binary(operator: BinaryOperator, left: i128, right: i128) -> Option<i128>
     requires left { nat_abs left ≤ 2 ^ 100 }

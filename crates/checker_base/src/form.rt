@@ -207,7 +207,7 @@ pub(crate) fn buffer_size(operand: Operand<'_>) -> Result<(), Flaw>
     }
 }
 
-/// Checks that what is made is a channel, where the nodes of the `make` are those from `first` to `node`.
+/// Checks that what is made is a channel; the nodes of the `make` are those from `first` to `node`.
 pub(crate) fn made<'a>(
     kind: ValueType<'a>,
     first: NodeId,

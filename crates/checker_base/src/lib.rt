@@ -1,4 +1,4 @@
-//! What expressions are worth to the typing rules, and what is wrong with them.
+//! The types and constant values of expressions, and the violations of the typing rules in them.
 #![tactic(auto)]
 
 pub mod callee;

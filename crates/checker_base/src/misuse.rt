@@ -1,4 +1,4 @@
-//! What is wrong where an operator does not go with its operands.
+//! What is wrong when an operator does not fit its operands.
 
 ghost use Rattle.std.specs.Prelude.{◌≡◌, ℕ, ◌+◌};
 ghost use Rattle.typing_rules.specs.Flaws.{Nodes, IsMisuse};
@@ -17,7 +17,7 @@ pub struct Operator {
     pub own: NodeId,
 }
 
-/// What is wrong where an operator does not go with its operands.
+/// What is wrong when an operator does not fit its operands.
 pub fn misused(misuse: Misuse, at: Operator) -> Flaw
     ensures { (left right : Nodes) → left.first ≡ at.left_first → left.end ≡ at.left + 1 → right.first ≡ at.right_first → right.end ≡ at.right + 1 → (end : ℕ) → end ≡ at.own + 1 → IsMisuse misuse left right end result }
 {

@@ -79,7 +79,7 @@ fn values_size(values: &[ExpressionNode]) -> NodeId
 
 /// Checks an expression, whose nodes have numbers from `first` on.
 ///
-/// Errors: the first flaw, that of an operand before that of its operator.
+/// Errors: the first violation, that of an operand before that of its operator.
 #[cycle(checked)]
 pub fn checked<'a>(
     table: &TypeTable<'a>,
@@ -137,7 +137,7 @@ pub fn checked<'a>(
 
 /// Checks a composite literal of this name and these values, which have nodes from `first` on ("Composite literals").
 ///
-/// Errors: the first flaw, that of the name before those of the values.
+/// Errors: the first violation, that of the name before those of the values.
 #[cycle(checked)]
 fn composite<'a>(
     table: &TypeTable<'a>,
@@ -173,7 +173,7 @@ fn composite<'a>(
 /// Checks that values, which have nodes from `first` on, agree in number and type with those that are wanted, and returns
 /// the number after them.
 ///
-/// Errors: the first flaw of a value, else a wrong number, else the first value that is not of the type that is wanted.
+/// Errors: the first violation in a value, else a wrong number, else the first value that is not of the type that is wanted.
 #[cycle(checked)]
 fn passed<'a>(
     table: &TypeTable<'a>,
@@ -225,7 +225,7 @@ fn fit<'a>(
 
 /// Checks a call, whose nodes have numbers from `first` on ("Calls").
 ///
-/// Errors: the first flaw, that of the function's name before those of the values.
+/// Errors: the first violation, that of the function's name before those of the values.
 #[cycle(checked)]
 pub fn call<'a>(
     table: &TypeTable<'a>,
@@ -371,7 +371,7 @@ fn make_sized<'a>(
     made(kind, first, size.node + 1)
 }
 
-/// What an integer is worth, if it is not too large.
+/// The constant value of an integer literal; `None` if it is too large.
 pub fn worth_literal<'a>(value: Option<u128>) -> Option<Worth<'a>>
     ensures worth { (types : List (List ℕ)) → option_map (worth_of types) result ≡ option_map Constant (literal value) }
     ensures small { IfSome result IsSmall }
@@ -382,7 +382,7 @@ pub fn worth_literal<'a>(value: Option<u128>) -> Option<Worth<'a>>
     }
 }
 
-/// What a composite literal of this name is worth, if the name is a struct type's.
+/// The type of a composite literal of the type `name`; `None` if that is no struct type.
 pub fn worth_composite<'a>(
     table: &TypeTable<'a>,
     visible: &Visible<'a>,
@@ -397,7 +397,7 @@ pub fn worth_composite<'a>(
     }
 }
 
-/// What a field of an operand is worth, if the operand is worth something.
+/// The type of the operand's field `field`; `None` if there is none.
 pub fn worth_selected<'a>(
     table: &TypeTable<'a>,
     whole: Option<Worth<'_>>,
@@ -412,7 +412,7 @@ pub fn worth_selected<'a>(
     }
 }
 
-/// What an operator makes of an operand, if the operand is worth something.
+/// The type or constant value of a unary operation; `None` if the operand has none or the operator doesn't apply.
 pub fn worth_before<'a>(operator: UnaryOperator, operand: Option<Worth<'_>>) -> Option<Worth<'a>>
     requires { IfSome operand IsSmall }
     ensures worth { (types : List (List ℕ)) → option_map (worth_of types) result ≡ option_and_then (λ a. result_ok (unary_worth operator a)) (option_map (worth_of types) operand.entry) }
@@ -424,7 +424,7 @@ pub fn worth_before<'a>(operator: UnaryOperator, operand: Option<Worth<'_>>) -> 
     }
 }
 
-/// What an operator makes of two operands, if both are worth something.
+/// The type or constant value of a binary operation; `None` if an operand has none or the operator doesn't apply.
 pub fn worth_between<'a>(
     table: &TypeTable<'_>,
     operator: BinaryOperator,
@@ -442,7 +442,7 @@ pub fn worth_between<'a>(
     }
 }
 
-/// What a call of this name is worth, if it is one of a function with a result.
+/// The type of a call of `function`; `None` if that is no function with a result.
 pub fn worth_called<'a>(
     table: &TypeTable<'a>,
     visible: &Visible<'a>,
@@ -460,7 +460,7 @@ pub fn worth_called<'a>(
     }
 }
 
-/// What a receive is worth, if its operand is a channel.
+/// The type of a receive; `None` if its operand is no channel.
 pub fn worth_received<'a>(table: &TypeTable<'_>, from: Option<Worth<'a>>) -> Option<Worth<'a>>
     ensures worth { option_map (worth_of (types_of table.now)) result ≡ option_map Typed (element_of (option_map (worth_of (types_of table.now)) from.entry)) }
     ensures small { IfSome result IsSmall }
@@ -473,7 +473,7 @@ pub fn worth_received<'a>(table: &TypeTable<'_>, from: Option<Worth<'a>>) -> Opt
     }
 }
 
-/// What a `make` of this type is worth, if the type is a channel's.
+/// The type of a `make` of the type `written`; `None` if that is no channel type.
 pub fn worth_made<'a>(
     table: &TypeTable<'a>,
     visible: &Visible<'a>,
@@ -490,7 +490,7 @@ pub fn worth_made<'a>(
     }
 }
 
-/// What an expression is worth: `None` where it, or a part of it, has a flaw.
+/// The type or constant value of an expression; `None` if it, or a part of it, violates a typing rule.
 pub fn worth<'a>(
     table: &TypeTable<'a>,
     visible: &Visible<'a>,

@@ -96,7 +96,7 @@ pub fn channel<'a>(
     }
 }
 
-/// Checks that one may send on a channel, or close it, where the operation's own node is `node`.
+/// Checks that one may send on a channel, or close it; the operation's own node is `node`.
 pub fn sent(worth: Worth<'_>, node: NodeId) -> Result<(), Flaw>
     ensures none { IfOk result (λ _. (types : List (List ℕ)) → (w : Option OneWorth) → w ≡ Some (worth_of types worth.entry) → (end : ℕ) → end ≡ node + 1 → (flaw : OneFlaw) → ¬ (SentHas w end flaw)) }
     ensures one { IfErr result (λ flaw. (types : List (List ℕ)) → (w : Option OneWorth) → w ≡ Some (worth_of types worth.entry) → (end : ℕ) → end ≡ node + 1 → SentHas w end flaw) }
@@ -109,7 +109,7 @@ pub fn sent(worth: Worth<'_>, node: NodeId) -> Result<(), Flaw>
     }
 }
 
-/// Checks that one may receive from a channel, where the operation's own node is `node`.
+/// Checks that one may receive from a channel; the operation's own node is `node`.
 pub fn received(worth: Worth<'_>, node: NodeId) -> Result<(), Flaw>
     ensures none { IfOk result (λ _. (types : List (List ℕ)) → (w : Option OneWorth) → w ≡ Some (worth_of types worth.entry) → (end : ℕ) → end ≡ node + 1 → (flaw : OneFlaw) → ¬ (ReceivedHas w end flaw)) }
     ensures one { IfErr result (λ flaw. (types : List (List ℕ)) → (w : Option OneWorth) → w ≡ Some (worth_of types worth.entry) → (end : ℕ) → end ≡ node + 1 → ReceivedHas w end flaw) }

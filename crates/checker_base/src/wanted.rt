@@ -1,4 +1,4 @@
-//! The types that the values of a composite literal or a call are to have.
+//! The types that the values of a composite literal or a call must have.
 
 ghost use Rattle.std.specs.Prelude.{◌≡◌, ℕ, ◌+◌, List, map, length, slice_get, option_copied, option_map, Option, Some, None, IfSome};
 ghost use Rattle.type_table.specs.Views.{kind_of};
@@ -15,7 +15,7 @@ use type_table::table::TypeTable;
 use type_table::value_type::ValueType;
 use typing_rules::flaw::Flaw;
 
-/// The types that values are to have, in order.
+/// The types that values must have, in order.
 #[derive(Clone, Copy)]
 pub(crate) enum Wanted<'w> {
     /// The types of a struct's fields.

@@ -1,4 +1,4 @@
-//! What an expression is worth to the typing rules.
+//! The type or constant value of an expression, for the typing rules.
 
 ghost use Rattle.std.specs.Prelude.{◌≡◌, ℕ, ◌^◌, ◌≤◌, nat_abs, List, option_map, IfSome, IfOk};
 ghost use Rattle.std.specs.Option.{is_some};
@@ -22,8 +22,8 @@ use typing_rules::flaw::Misuse;
 /// The greatest size of a constant, 2^100.
 const LARGEST: u128 = 1 << 100;
 
-/// What an expression is worth: a value of a type that is known when the program runs, an untyped constant ("Constants" of
-/// the Go specification), or the word `nil`.
+/// The type or constant value of an expression: a value of a type that is known when the program runs, an untyped constant
+/// ("Constants" of the Go specification), or the word `nil`.
 #[derive(Clone, Copy)]
 pub enum Worth<'a> {
     Typed(ValueType<'a>),
@@ -38,7 +38,7 @@ pub fn is_int(value: i128) -> bool
     i128::from(i64::MIN) <= value && value <= i128::from(i64::MAX)
 }
 
-/// The value of a literal: `None` where its size is over 2^100.
+/// The value of a literal: `None` if its size is over 2^100.
 pub fn literal(value: Option<u128>) -> Option<i128>
     ensures value { result ≡ literal value }
     ensures small { IfSome result (λ v. nat_abs v ≤ 2 ^ 100) }
@@ -49,7 +49,7 @@ pub fn literal(value: Option<u128>) -> Option<i128>
     }
 }
 
-/// What a name is worth as an operand.
+/// The type of a name as an operand, or `nil`.
 pub fn named_worth<'a>(
     table: &TypeTable<'a>,
     visible: &Visible<'a>,
@@ -71,7 +71,7 @@ pub fn named_worth<'a>(
     }
 }
 
-/// The number of the struct that a literal's name stands for; where a variable hides it, none.
+/// The number of the struct that a literal's name stands for; `None` if a variable shadows it.
 pub(crate) fn literal_struct(
     table: &TypeTable<'_>,
     visible: &Visible<'_>,
@@ -85,7 +85,7 @@ pub(crate) fn literal_struct(
     }
 }
 
-/// What a field of an operand is worth ("Selectors" of the Go specification).
+/// The type of an operand's field ("Selectors" of the Go specification).
 pub(crate) fn selected_worth<'a>(
     table: &TypeTable<'a>,
     whole: Worth<'_>,
@@ -220,7 +220,7 @@ fn fit_operator(
     }
 }
 
-/// What an operator makes of `nil` beside a value of this type.
+/// The type of an operation on `nil` and a value of the type `kind`.
 fn beside_nil<'a>(
     operator: BinaryOperator,
     kind: ValueType<'_>,
@@ -236,9 +236,9 @@ fn beside_nil<'a>(
     }
 }
 
-/// What an operator before an operand makes of it.
+/// The type or constant value of a unary operation.
 ///
-/// Errors: `Operands`, `Size`, and `LeftNil` where the operand is `nil`.
+/// Errors: `Operands`, `Size`, and `LeftNil` if the operand is `nil`.
 pub fn unary_worth<'a>(operator: UnaryOperator, operand: Worth<'_>) -> Result<Worth<'a>, Misuse>
     requires { IsSmall operand }
     ensures worth { (types : List (List ℕ)) → made_of types result ≡ unary_worth operator (worth_of types operand.entry) }

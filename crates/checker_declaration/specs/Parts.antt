@@ -27,11 +27,11 @@ IsWithin structs number s = (s ≡ number) ⊎ Holds structs number s
 
 -- ---- widths
 
--- a value of the type takes so many words, where all over 16 are one
+-- a value of the type takes `w` words, or over 16 if `w` is 17
 abbrev pub IsKindWide : Structs → ℕ → Option ValueType → ℕ → Type 0
 IsKindWide structs depth kind w = (v : ℕ) × (kind_width (width_within structs depth) kind ≡ Some v) × (w ≡ min v 17)
 
--- these are the widths of structs, as far as they are known, which lie within one another at most so deep
+-- these are the known widths of structs that lie within one another at most `depth` deep
 abbrev pub AreKnown : Structs → ℕ → List (Option ℕ) → Type 0
 AreKnown structs depth known = (s w : ℕ) → slice_get known s ≡ Some (Some w) → IsWide structs depth s w
 

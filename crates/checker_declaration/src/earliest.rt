@@ -1,4 +1,4 @@
-//! Which of several flaws of struct types is told.
+//! Which of several violations of struct types is reported.
 
 ghost use Rattle.std.specs.Prelude.{◌≡◌, ◌+◌, ◌^◌, ◌<◌, map, sum_by, IfSome, IfOk};
 ghost use Rattle.syntax.specs.Measures.{top_size};
@@ -18,7 +18,7 @@ use syntax::{NodeId, TopNode};
 use type_table::name_list::NameList;
 use typing_rules::flaw::Flaw;
 
-/// The node of a flaw.
+/// The node of a violation.
 fn node_of(flaw: Flaw) -> NodeId
     ensures { result ≡ node_of flaw }
 {
@@ -59,8 +59,7 @@ fn wide_node(
     }
 }
 
-/// This flaw of the struct types, or that one contains itself, if its declaration stands before. The struct types have these
-/// fields.
+/// This violation of the struct types, or that one contains itself, if its declaration comes first. The struct types have these fields.
 fn held_before(
     alloc: Global,
     tops: &[TopNode],
@@ -78,8 +77,7 @@ fn held_before(
     }
 }
 
-/// This flaw of the struct types, or that one is too wide, if its declaration stands before. The struct types have these
-/// fields.
+/// This violation of the struct types, or that one is too wide, if its declaration comes first. The struct types have these fields.
 fn wide_before(
     alloc: Global,
     tops: &[TopNode],
@@ -97,10 +95,10 @@ fn wide_before(
     }
 }
 
-/// What is told of the struct types, of which this is wrong: that one contains itself or is too wide, if its declaration stands
-/// before.
+/// The violation to report of the struct types, which have this one: that one contains itself or is too wide, if its declaration comes
+/// first.
 ///
-/// Errors: want of memory.
+/// Errors: out of memory.
 pub(crate) fn earliest(
     alloc: Global,
     types: &NameList<'_>,

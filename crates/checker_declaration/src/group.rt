@@ -23,8 +23,7 @@ use type_table::value_type::{ValueType, global_type_in};
 use typing_rules::flaw::Flaw;
 use typing_rules::role::Role;
 
-/// The rule that a name breaks after others of the same struct or function ("Declarations and scope" of the Go
-/// specification).
+/// The rule that a name violates after others of the same struct or function ("Declarations and scope" of the Go specification).
 fn broken_by(role: Role, before: &NameList<'_>, name: &[u8]) -> Option<Rule>
     ensures { result ≡ broken_by role before.now name.now }
 {
@@ -69,7 +68,7 @@ fn names<'a>(
     crate::group::names(role, before, node, rest)
 }
 
-/// Puts what these names declare at the end.
+/// Appends what the names declare.
 fn declare<'a>(
     entries: &mut Vec<FieldEntry<'a>>,
     kind: ValueType<'a>,
@@ -143,7 +142,7 @@ pub(crate) struct Listed<'a> {
 /// Checks all fields of a struct, or all parameters of a function, whose nodes have numbers from `first` on. The struct types
 /// of the file have these names.
 ///
-/// Errors: the first flaw, that of names before that of their type; `Memory`.
+/// Errors: the first violation, that of names before that of their type; `Memory`.
 pub(crate) fn all_groups<'a>(
     alloc: Global,
     role: Role,

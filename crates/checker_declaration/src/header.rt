@@ -121,7 +121,7 @@ fn entry<'a>(
     })
 }
 
-/// Checks the head of a function, before which there are so many others, whose nodes have numbers from `first` on to `node`.
+/// Checks the head of a function, of number `number`, whose nodes have numbers from `first` on to `node`.
 fn header<'a>(
     alloc: Global,
     types: &NameList<'_>,
@@ -177,8 +177,8 @@ fn top_header<'a>(
 
 /// Checks the heads of a file's functions. Its struct types and its functions have these names.
 ///
-/// Errors: the first flaw, in the order of the functions; of a function that of its name before those of its parameters and
-/// its result; `Memory`.
+/// Errors: the first violation, in the order of the functions; of a function that of its name before those of its parameters and its
+/// result; `Memory`.
 pub(crate) fn headers<'a>(
     alloc: Global,
     types: &NameList<'_>,

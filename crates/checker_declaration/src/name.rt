@@ -26,7 +26,7 @@ pub(crate) fn is_among(names: &NameList<'_>, name: &[u8]) -> bool
     names.number_of(name).is_some()
 }
 
-/// Whether the first of these names that is the same is not the one with this number.
+/// Whether the first of the names that equals `name` is not number `number`.
 fn is_repeated(names: &NameList<'_>, number: usize, name: &[u8]) -> bool
     ensures { result ≡ is_repeated names.now number name.now }
 {
@@ -36,14 +36,14 @@ fn is_repeated(names: &NameList<'_>, number: usize, name: &[u8]) -> bool
     }
 }
 
-/// Whether a struct type, before which there are so many others, can't have the name. The types have these names.
+/// Whether struct type number `number` can't have the name. The types have these names.
 pub(crate) fn is_type_taken(types: &NameList<'_>, number: usize, name: &[u8]) -> bool
     ensures { result ≡ is_type_taken types.now number name.now }
 {
     is_unfit(name) || is_repeated(types, number, name)
 }
 
-/// Whether a function, before which there are so many others, can't have the name. The types and functions have these names.
+/// Whether function number `number` can't have the name. The types and functions have these names.
 pub(crate) fn is_function_taken(
     types: &NameList<'_>,
     functions: &NameList<'_>,

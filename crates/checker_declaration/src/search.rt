@@ -77,7 +77,7 @@ impl Search {
         Ok(())
     }
 
-    /// Closes those that were opened since there were so many: none of them lies in one that is still open.
+    /// Closes those that were opened after the first `count`: none of them lies in one that is still open.
     fn close(&mut self, count: usize) {
         for place in count..self.open.len() {
             let _place = place;
@@ -120,7 +120,7 @@ impl Search {
         }
     }
 
-    /// Looks at one field more of the last struct type, or ends with it; answers whether there was one.
+    /// Looks at one more field of the last struct type, or ends with it; returns whether there was one.
     fn step(&mut self, all: &[Parts<'_>]) -> Result<bool, AllocError> {
         let Some(frame) = self.frames.pop() else {
             return Ok(false);
@@ -139,7 +139,7 @@ impl Search {
         Ok(true)
     }
 
-    /// Looks at a struct type, if it is new, and at all that lies in it: at most so many steps.
+    /// Looks at a struct type, if it is new, and at all that lies in it, in at most `steps` steps.
     fn visit(&mut self, all: &[Parts<'_>], number: usize, steps: usize) -> Result<(), AllocError> {
         if let Mark::New = self.mark(number) {
             self.enter(number)?;
@@ -154,7 +154,7 @@ impl Search {
     }
 }
 
-/// The type of the field at this place of a struct type, if there is one; `None` within where it is not known.
+/// The type of the field at this index of a struct type, if there is one; `None` within if it is not known.
 fn kind_at<'a>(all: &[Parts<'a>], number: usize, place: usize) -> Option<Option<ValueType<'a>>> {
     match parts_at(all, number)?.fields.get(place) {
         Some(part) => Some(part.kind),
@@ -162,7 +162,7 @@ fn kind_at<'a>(all: &[Parts<'a>], number: usize, place: usize) -> Option<Option<
     }
 }
 
-/// So many struct types of which nothing is known.
+/// `count` struct types of which nothing is known.
 fn new_marks(alloc: Global, count: usize) -> Result<Vec<Mark>, AllocError> {
     Vec::from_elem(alloc, Mark::New, count)
 }

@@ -1,4 +1,4 @@
-//! The check of struct types by themselves.
+//! The check of each struct type on its own.
 
 ghost use Rattle.std.specs.Prelude.{◌≡◌, ℕ, ◌+◌, ◌++◌, ◌^◌, ◌<◌, ◌≤◌, ◌||◌, length, map, sum_by, IfOk, IfErr};
 ghost use Rattle.syntax.specs.Measures.{declared_size, top_size};
@@ -48,7 +48,7 @@ fn fields<'a>(
     })
 }
 
-/// Checks a struct type, before which there are so many others, whose nodes have numbers from `first` on to `node`.
+/// Checks struct type number `number`, whose nodes have numbers from `first` on to `node`.
 fn struct_entry<'a>(
     alloc: Global,
     types: &NameList<'_>,
@@ -100,9 +100,9 @@ fn top_struct<'a>(
     }
 }
 
-/// Checks the struct types of a file by themselves. They have these names.
+/// Checks each struct type of a file on its own. The types have these names.
 ///
-/// Errors: the first flaw, in the order of the types; of a type that of its name before those of its fields; `Memory`.
+/// Errors: the first violation, in the order of the types; of a type that of its name before those of its fields; `Memory`.
 pub(crate) fn structs<'a>(
     alloc: Global,
     types: &NameList<'_>,

@@ -53,8 +53,8 @@ fn checked_types<'a>(
 
 /// Checks the struct types of a file, which have these names.
 ///
-/// Errors: the first flaw in the order of the types; of a type those of its name and its fields, and then that it contains
-/// itself; `Memory`.
+/// Errors: the first violation in the order of the types; of a type those of its name and its fields, and then that it contains itself;
+/// `Memory`.
 fn sized_types<'a>(
     alloc: Global,
     types: &NameList<'_>,
@@ -82,7 +82,7 @@ fn sized_types<'a>(
 
 /// Checks the declarations of a file, without the bodies of functions, and returns what is declared.
 ///
-/// Errors: the first flaw: those of struct types, in order, and then those of functions, in order; `Memory`.
+/// Errors: the first violation: those of struct types, in order, and then those of functions, in order; `Memory`.
 pub fn table_of<'a>(alloc: Global, tops: &'a [TopNode]) -> Result<TypeTable<'a>, Refusal>
     requires small { sum_by top_size (map top_of tops.now) < 2 ^ 32 }
     ensures globals { IfOk result (λ table. globals_in table ≡ globals_of (map top_of tops.now)) }

@@ -69,7 +69,7 @@ before-by : (b : Bool) (g : Globals) (s : Scope) (name : List ℕ) (kind : Optio
 before-by true g s name kind names values f d e h = rw d (names-before g.structs s kind name names values f (once-named (is_blank name) (is_none (own_variable s name)) (has_name names name) (has_twice names) d e) h)
 before-by false g s name kind names values f d e h = rw d h
 
--- what is wrong with the rest of the names is the same behind the first one
+-- what is wrong with the rest of the names is the same after the first one
 pub names-after : (g : Globals) (s : Scope) (name : List ℕ) (kind : Option ValueType) (names : List (List ℕ)) (values : List Given) (f : Flaw)
     → has_twice (name ∷ names) ≡ false → NamesFail (after_name g s name kind) names values f → NamesFail s names values f
 names-after g s name kind names values f = after-by (is_declarable s name) g s name kind names values f refl
@@ -84,7 +84,7 @@ declarable-free s name e = and-right (not (is_blank name)) (is_none (own_variabl
 
 pub ruleset free_names = (declarable-free)
 
--- what is wrong with names is wrong with the first one, or behind it with the rest
+-- what is wrong with names is wrong with the first one, or after it with the rest
 pub names-none : (g : Globals) (s after : Scope) (name : List ℕ) (kind : Option ValueType) (value : Given) (names all : List (List ℕ)) (values every : List Given) (f : Flaw)
     → all ≡ name ∷ names → every ≡ value ∷ values → has_twice all ≡ false → after ≡ after_name g s name kind
     → (GoesHas (is_none (own_variable s name)) value (kind_of (own_variable s name)) f → ⊥) → (NamesFail after names values f → ⊥) → NamesFail s all every f → ⊥

@@ -54,7 +54,7 @@ defined-after g s new first count names these right values e n v h = rw (h, e, v
 unequal : (a b : ℕ) → a ≡ b → (a == b) ≡ false → ⊥
 unequal a b e d = search rules
 
--- so many values for so many variables of one type
+-- n values for n variables of one type
 pub typed-given-none : (k : Option ValueType) (names n : ℕ) (values every : List Given) (end : ℕ) (f : Flaw)
     → every ≡ values → length values ≡ names → n ≡ names → (AllFail k n values f → ⊥) → TypedHave k names every end f → ⊥
 typed-given-none k names n values every end f v l d goes (inl x) = unequal (length values) names l (rw v at x.0)

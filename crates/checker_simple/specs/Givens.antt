@@ -1,4 +1,4 @@
--- What places are given, as it is in memory.
+-- What lvalues are given, as it is in memory.
 use Rattle.std.specs.Prelude.{ℕ, ◌+◌, Bool, false, List, [], ◌∷◌, map, option_map, Some}
 use Rattle.syntax.specs.declared.node.PlaceNode.{PlaceNode}
 use Rattle.syntax.specs.Tree.{Expression, Place, Receive}
@@ -18,7 +18,7 @@ given_of types operand = record {
   nodes = record { first = operand.first; end = operand.node + 1 };
 }
 
--- one receive stands alone
+-- one receive as a statement
 abbrev pub is_one_receive : List Expression → Bool
 is_one_receive (value ∷ []) = is_receive value
 is_one_receive values = false
@@ -27,7 +27,7 @@ is_one_receive values = false
 abbrev pub places_at : List (Bor PlaceNode) → List Place
 places_at places = map (λ (place : Bor PlaceNode). place_of place.now) places
 
--- the places to which a statement assigns
+-- the lvalues to which a statement assigns
 abbrev pub places_in : Targets → List Place
 places_in (targets.All places) = map place_of places.now
 places_in (targets.OneOrTwo one other) = and_also (place_of one.now) (option_map place_of other.now)

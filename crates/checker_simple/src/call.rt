@@ -1,4 +1,4 @@
-//! Calls whose results nobody takes ("Calls", "Go statements" of the Go specification).
+//! Calls whose results are not used ("Calls", "Go statements" of the Go specification).
 
 ghost use Rattle.std.specs.Prelude.{◌≡◌, ◌+◌, ◌^◌, ◌<◌, IfOk, IfErr};
 ghost use Rattle.syntax.specs.Measures.{arguments_size};
@@ -14,7 +14,7 @@ use syntax::{ArgumentsNode, Name, NodeId};
 use type_table::scope::Visible;
 use type_table::table::TypeTable;
 
-/// Checks a call whose result nobody takes, with nodes from `first` on, and returns the number after them.
+/// Checks a call whose result is not used, with nodes from `first` on, and returns the number after them.
 pub fn call_alone(
     table: &TypeTable<'_>,
     visible: &Visible<'_>,

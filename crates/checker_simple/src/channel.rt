@@ -54,7 +54,7 @@ pub(crate) fn send<'a>(
     Ok(item.node + 2)
 }
 
-/// Checks a receive that stands alone, whose nodes have numbers from `first` on, and returns the number after them.
+/// Checks a receive as a statement, whose nodes have numbers from `first` on, and returns the number after them.
 pub(crate) fn receive_alone(
     table: &TypeTable<'_>,
     visible: &Visible<'_>,

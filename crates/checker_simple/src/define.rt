@@ -19,8 +19,8 @@ use syntax::{Name, NodeId};
 use type_table::scope::Visible;
 use type_table::table::TypeTable;
 
-/// Checks the names of a `:=` and what they are given, where its own node is the one after that, and declares those that
-/// are new.
+/// Checks the names of a `:=` and what they are given, and declares those that are new. The own node of the `:=` is the one after what is
+/// given.
 fn define_given<'a>(
     table: &TypeTable<'a>,
     visible: &mut Visible<'a>,

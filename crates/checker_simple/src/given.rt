@@ -41,7 +41,7 @@ pub struct Given<'a> {
     pub end: NodeId,
 }
 
-/// Checks that a value goes to a place of a type, if that is known.
+/// Checks that a value is assignable to a type, if that is known.
 pub fn fits<'a>(
     table: &TypeTable<'a>,
     kind: Option<ValueType<'a>>,
@@ -59,7 +59,7 @@ pub fn fits<'a>(
     }
 }
 
-/// Checks that a value goes to a place that takes its type, and returns that.
+/// Checks that a value is assignable to a variable that takes its type, and returns that type.
 pub fn fits_any<'a>(operand: Operand<'a>) -> Result<ValueType<'a>, Flaw>
     ensures kind { IfOk result (λ kind. (types : List (List ℕ)) → default_type (Some (worth_of types operand.entry.worth)) ≡ Some (kind_of types kind)) }
     ensures none { IfOk result (λ _. (types : List (List ℕ)) → (k : Option OneType) → (flaw : OneFlaw) → ¬ (GoesHas true (given_of types operand.entry) k flaw)) }
@@ -155,8 +155,8 @@ fn is_one_receive(source: Source<'_>) -> bool
     }
 }
 
-/// Checks what gives so many places values, whose nodes have numbers from `first` on, and returns what it gives them: a
-/// receive gives two of them the item and whether it was sent.
+/// Checks what gives `places` lvalues their values, whose nodes have numbers from `first` on, and returns what it gives: a receive gives
+/// two of them the item and whether it was sent.
 pub fn given_by<'a>(
     alloc: Global,
     table: &TypeTable<'a>,
@@ -183,7 +183,7 @@ pub fn given_by<'a>(
     Ok(given)
 }
 
-/// Checks that there are as many values as places, where the own node of what gives them is `node`.
+/// Checks that there are as many values as lvalues; `node` is the own node of what gives the values.
 pub fn numbers_agree(values: usize, places: usize, node: NodeId) -> Result<(), Flaw>
     ensures same { IfOk result (λ _. values ≡ places) }
     ensures none { IfOk result (λ _. (end : ℕ) → end ≡ node + 1 → (flaw : OneFlaw) → ¬ (NumbersHave values places end flaw)) }

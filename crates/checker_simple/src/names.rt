@@ -32,7 +32,7 @@ pub(crate) enum Names<'a> {
     OneOrTwo(&'a Name, &'a Option<Name>),
 }
 
-/// These names in order, each where it lies.
+/// The names in order, by reference.
 pub(crate) fn references<'a>(alloc: Global, names: Names<'a>) -> Result<Vec<&'a Name>, AllocError>
     ensures { IfOk result (λ all. names_at all.items ≡ names_in names.entry) }
 {
@@ -206,7 +206,7 @@ fn define<'a>(
     Ok(())
 }
 
-/// Checks that a value goes to a name of a declaration, and declares the name where it is new in its block, and not `_`.
+/// Checks that a value is assignable to a name of a declaration, and declares the name if it is new in its block and not `_`.
 fn take_name<'a>(
     table: &TypeTable<'a>,
     visible: &mut Visible<'a>,

@@ -44,7 +44,7 @@ fn path<'a>(
     }
 }
 
-/// Checks a place, which is the node `first`, and returns its type; `_` has none.
+/// Checks an lvalue, which is the node `first`, and returns its type; `_` has none.
 #[tactic(auto, using(crate::proofs::Paths::path_types))]
 pub fn place<'a>(
     table: &TypeTable<'a>,
@@ -76,7 +76,7 @@ pub fn place<'a>(
     }
 }
 
-/// Checks a place that is read too, which is the node `first`, and returns its type.
+/// Checks an lvalue that is read too, which is the node `first`, and returns its type.
 #[tactic(auto, using(crate::proofs::Paths::path_types))]
 pub fn read_place<'a>(
     table: &TypeTable<'a>,
@@ -101,7 +101,7 @@ pub enum Targets<'a> {
     OneOrTwo(&'a PlaceNode, &'a Option<PlaceNode>),
 }
 
-/// These places in order, each where it lies.
+/// The lvalues in order, by reference.
 pub fn references<'a>(alloc: Global, places: Targets<'a>) -> Result<Vec<&'a PlaceNode>, AllocError>
     ensures { IfOk result (λ all. places_at all.items ≡ places_in places.entry) }
 {
@@ -141,7 +141,7 @@ pub fn places<'a>(
     places(table, visible, first + 1, rest)
 }
 
-/// The type of a place, if it is known.
+/// The type of an lvalue, if it is known.
 fn place_type<'a>(
     table: &TypeTable<'a>,
     visible: &Visible<'a>,
@@ -155,7 +155,7 @@ fn place_type<'a>(
     }
 }
 
-/// Checks that a value goes to a place.
+/// Checks that a value is assignable to an lvalue.
 pub fn place_takes<'a>(
     table: &TypeTable<'a>,
     visible: &Visible<'a>,

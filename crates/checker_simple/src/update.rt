@@ -44,8 +44,8 @@ pub(crate) fn step(
     }
 }
 
-/// Checks that an operator goes with a place of a type and a value, and that what it makes goes to the place; the statement's
-/// node is the next one.
+/// Checks that an operator accepts an lvalue of a type and a value, and that the result is assignable to the lvalue; the statement's node
+/// is the next one.
 fn updates<'a>(
     table: &TypeTable<'a>,
     operator: BinaryOperator,

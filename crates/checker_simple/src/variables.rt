@@ -42,7 +42,7 @@ fn all_fit<'a>(
     all_fit(table, kind, rest)
 }
 
-/// Checks what so many variables of a type are given by a statement whose own node is the one after that.
+/// Checks what `names` variables of a type are given, by a statement whose own node comes next.
 fn typed_given<'a>(
     table: &TypeTable<'a>,
     kind: ValueType<'a>,
@@ -56,8 +56,7 @@ fn typed_given<'a>(
     all_fit(table, kind, given.values.as_slice())
 }
 
-/// Checks what so many variables of a type are given, if that is anything, with nodes from `first` on, and returns the
-/// number after them.
+/// Checks what `names` variables of a type are given, if anything, with nodes from `first` on, and returns the number after them.
 fn typed_right<'a>(
     alloc: Global,
     table: &TypeTable<'a>,
@@ -122,8 +121,8 @@ fn declare_all<'a>(
     declare_all(table, visible, kind, rest)
 }
 
-/// Checks the names of a `var` without a type and what they are given, where its own node is the one after that, and
-/// declares them.
+/// Checks the names of a `var` without a type and what they are given, and declares them. The own node of the `var` is the one after what
+/// is given.
 fn declare_given<'a>(
     table: &TypeTable<'a>,
     visible: &mut Visible<'a>,

@@ -7,7 +7,7 @@ use Rattle.syntax.specs.View.{clause_of, clauses}
 use Rattle.syntax.specs.declared.node.ClauseNode.{ClauseNode}
 use Rattle.typing_rules.specs.Statements.{default_count}
 
--- where there are two defaults up to a clause, there are in all
+-- if there are two defaults up to a clause, there are in all
 pub two_defaults : (all : List ClauseNode) (i before now : ℕ) (one : ClauseNode)
     → i < length all → one ≡ get_or all i one
     → ((rest : Clauses) → now + default_count rest ≡ before + default_count (Clause (clause_of one).comm (clause_of one).body rest))

@@ -6,7 +6,7 @@ use Rattle.typing_rules.specs.declared.flaw.Flaw.{Flaw}
 use Rattle.type_table.specs.Scopes.{Globals, Scope}
 use Rattle.typing_rules.specs.Statements.{IfSimpleHas, IfTestHas, after_any, ForClausesHave}
 
--- where nothing is wrong with the three parts, nothing is with all of them
+-- if nothing is wrong with the three parts, nothing is with all of them
 pub clauses_free : (g : Globals) (s inner : Scope) (first middle behind : ℕ) (simple : Option Simple) (condition : Option Expression) (post : Option Simple) (f : Flaw)
     → inner ≡ after_any g s simple → middle ≡ first + if_any simple_size simple → behind ≡ middle + if_any expression_size condition
     → (IfSimpleHas g s first simple f → ⊥) → (IfTestHas g inner middle condition f → ⊥) → (IfSimpleHas g inner behind post f → ⊥)

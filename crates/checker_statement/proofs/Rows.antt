@@ -62,7 +62,7 @@ with_c = record { variables = both ∷ []; outer = 0; words = 1 }
 abbrev with_sender : Scope
 with_sender = record { variables = record { name = codes "c"; kind = Some (ChannelType directions.Send IntType); place = 0 } ∷ []; outer = 0; words = 1 }
 
--- ---- what is visible behind statements, and the words that are taken
+-- ---- what is visible after statements, and the words that are taken
 
 -- { x := 1; { x := 1; y := 1 } }
 abbrev nested : Statements
@@ -156,7 +156,7 @@ clause = refl
 breaking : terminates (Select (Clause (Some (CommReceive c)) returns (Clause None (alone Break) NoClause))) ≡ false
 breaking = refl
 
--- empty statements behind a return, and others
+-- empty statements after a return, and others
 semicolons : last_terminates false (Then (Return NoValue) (Then Empty (alone Empty))) ≡ true
 semicolons = refl
 
@@ -169,7 +169,7 @@ more = refl
 hidden : StatementsHave plain nothing_declared 0 (Then (Block (alone new_x)) (alone to_x)) (Broken rules.Visible 4)
 hidden = inr (inl (inl (inl (inl (refl, (refl, refl))))))
 
--- x := 1; x := 1 breaks rule 9 at the second one, and { x := 1 } behind x := 1 does not
+-- x := 1; x := 1 violates rule 9 at the second one, and { x := 1 } after x := 1 does not
 again : StatementsHave plain nothing_declared 0 (Then new_x (alone new_x)) (Broken rules.NewName 3)
 again = inr (inl (inr (inr (inl (inr (refl, (refl, refl)))))))
 
@@ -189,7 +189,7 @@ no_channel = inl (inr (inl (inr (inl (refl, (refl, refl))))))
 sender : StatementHas plain with_sender 0 (For (Range NoTarget c) NoStatement) (Broken rules.Direction 2)
 sender = inl (inr (inl (inr (inr (refl, (refl, refl))))))
 
--- for _ := range c { x := 1 } breaks rule 9 at the `for`, behind its body
+-- for _ := range c { x := 1 } violates rule 9 at the `for`, after its body
 no_name : StatementHas plain with_c 0 (For (Range (DefineTarget (codes "_")) c) (alone new_x)) (Broken rules.NewName 4)
 no_name = inl (inr (inr (inr (refl, (refl, refl)))))
 
@@ -220,7 +220,7 @@ too_little = inr (refl, refl)
 other_type : StatementHas counting nothing_declared 0 (Return (ReturnedValue truth)) (Broken rules.Assignable 0)
 other_type = inr (refl, (refl, refl))
 
--- x, y := (<-c) breaks rule 8 at the `:=`, behind the parentheses
+-- x, y := (<-c) violates rule 8 at the `:=`, after the parentheses
 in_parentheses : StatementHas plain with_c 0 (Alone (Define pair (Parenthesized (Receive c) ∷ []))) (Broken rules.Numbers 3)
 in_parentheses = inr (inl (refl, (refl, refl)))
 

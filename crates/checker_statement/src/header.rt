@@ -34,8 +34,8 @@ use type_table::table::TypeTable;
 use type_table::value_type::ValueType;
 use typing_rules::flaw::Flaw;
 
-/// The flaw of a statement that breaks a rule as a whole: at its own node, which is the last of those from `first` on. That
-/// takes a count of its nodes, so it is asked for only where the statement is refused.
+/// The violation of a rule by a statement as a whole: at its own node, which is the last of those from `first` on. That takes a count of
+/// its nodes, so it is called only if the statement is refused.
 pub(crate) fn broken_at(whole: &StatementNode, first: NodeId, rule: Rule) -> Flaw
     requires small { first + statement_size (statement_of whole.now) < 2 ^ 32 }
     requires own { 0 < statement_size (statement_of whole.now) }

@@ -35,7 +35,7 @@ use typing_rules::flaw::Flaw;
 /// What a statement stands in.
 #[derive(Clone, Copy)]
 pub struct Inside<'a> {
-    /// The type of the result of its function: `None` where that has no result.
+    /// The type of the result of its function: `None` if it has no result.
     pub result: Option<ValueType<'a>>,
     /// Whether it is within a `for` or a `select`, so that a `break` may stand there ("Break statements" of the Go
     /// specification).
@@ -127,7 +127,7 @@ fn optional_comm<'a>(
     }
 }
 
-/// How many defaults a `select` has up to this clause, where it had so many before it.
+/// How many defaults a `select` has up to this clause, after `defaults` before it.
 fn with_clause(defaults: usize, one: &ClauseNode) -> usize
     requires few { defaults < 2 }
     ensures count { (rest : Clauses) → result + default_count rest ≡ defaults + default_count (Clause (clause_of one.now).comm (clause_of one.now).body rest) }
@@ -192,8 +192,8 @@ fn statement<'a>(
 /// Checks statements, whose nodes have numbers from `first` on, and returns the number after them. What they declare is
 /// then visible ("Blocks", "Declarations and scope" and "Statements" of the Go specification).
 ///
-/// Errors: the first flaw, in the order of the statements, the header of each before its blocks; `Memory` where a request
-/// for memory was refused, or the frame would have over 2^64 words.
+/// Errors: the first violation, in the order of the statements, the header of each before its blocks; `Memory` if an allocation failed,
+/// or the frame would have over 2^64 words.
 #[cycle(statement)]
 pub fn statements<'a>(
     alloc: Global,
@@ -361,8 +361,8 @@ fn for_statement<'a>(
     Ok(end + 2)
 }
 
-/// Checks a `select`, whose nodes have numbers from `first` on, and returns the number after them ("Select statements" of
-/// the Go specification). A second default is told where it is met.
+/// Checks a `select`, whose nodes have numbers from `first` on, and returns the number after them ("Select statements" of the Go
+/// specification). A second default is reported at its clause.
 #[cycle(statement)]
 fn select<'a>(
     alloc: Global,

@@ -40,7 +40,7 @@ fn branch_breaks_out(branch: &IfNode) -> bool
     some_breaks_out(branch.body.as_slice()) || otherwise_breaks_out(&branch.otherwise)
 }
 
-/// The same of what stands after the block of an `if`.
+/// Like `breaks_out`, for what comes after the block of an `if`.
 #[cycle(breaks_out)]
 fn otherwise_breaks_out(otherwise: &ElseNode) -> bool
     ensures { result ≡ otherwise_breaks_out (otherwise_of otherwise.now) }

@@ -63,7 +63,7 @@ one_function_more n f fs e =
     let next : n + 1 ≡ suc n = omega arith in
     ap (λ m. function_lines (take m fs)) next ∙ more_functions n f fs e
 
--- lines behind what was written
+-- lines after what was written
 pub appended : (old head lines line text : List ℕ) → text ≡ old ++ (head ++ lines) ++ line → text ≡ old ++ (head ++ (lines ++ line))
 appended old head lines line text e =
     e ∙ append_assoc old (head ++ lines) line ∙ ap (λ (xs : List ℕ). old ++ xs) (append_assoc head lines line)

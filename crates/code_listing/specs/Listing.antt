@@ -66,7 +66,7 @@ instr_text instrs.Cap = codes "cap"
 instr_text (instrs.Print q) = codes "print " ++ decimal q
 instr_text (instrs.Select q) = codes "select " ++ decimal q
 
--- what is listed behind an instruction's name
+-- what is listed after an instruction's name
 abbrev pub operands_text : Operands → List ℕ
 operands_text operands.Nothing = []
 operands_text (operands.Number n) = codes " " ++ signed_decimal n
@@ -76,7 +76,7 @@ operands_text (operands.One a) = codes " " ++ decimal a
 operands_text (operands.Two a b) = codes " " ++ decimal a ++ codes " " ++ decimal b
 operands_text (operands.Three a b c) = codes " " ++ decimal a ++ codes " " ++ decimal b ++ codes " " ++ decimal c
 
--- on the right of six places, or of more where it is longer
+-- on the right of six places, or of more if it is longer
 abbrev pub right_aligned : List ℕ → List ℕ
 right_aligned text = replicate (6 - length text) 32 ++ text
 

@@ -1,4 +1,4 @@
-//! The listing of a code.
+//! The listing of a program's code.
 
 ghost use Rattle.std.specs.Prelude.{◌≡◌, ◌++◌, IfOk, OnOk, Some, string_bytes};
 ghost use Rattle.std.specs.Fmt.{DisplaysOnOk};
@@ -42,7 +42,7 @@ fn op_name(op: Op) -> &'static str
     }
 }
 
-/// What is listed behind an instruction's name.
+/// What is listed after an instruction's name.
 #[derive(Clone, Copy)]
 enum Operands {
     Nothing,
@@ -118,7 +118,7 @@ impl fmt::Display for InstrText {
 }
 
 /// The text of a code: for each function, in order, a line with its name and how many words its parameters, its locals and
-/// its results take, and a line for each instruction, behind its place.
+/// its results take, and a line for each instruction, after its place.
 pub fn listing(alloc: Global, code: &Code) -> Result<Vec<u8>, Memory>
     ensures { IfOk result (λ text. text.items ≡ listing_of code.now) }
 {
@@ -156,7 +156,7 @@ fn list_heading(text: &mut String, function: &Function) -> Result<(), AllocError
     )
 }
 
-/// Appends the line of the instruction at a place.
+/// Appends the line of the instruction at `place`.
 fn list_instr(text: &mut String, place: usize, instr: Instr) -> Result<(), AllocError>
     ensures { OnOk result (string_bytes text.new ≡ string_bytes text.old ++ instr_line place instr) }
 {

@@ -21,7 +21,7 @@ use Rattle.codegen_base.proofs.Static.{IsPlaced}
 use Rattle.codegen_fine.proofs.Layouts.{declarable_parts, declarable_alike}
 use Rattle.codegen.proofs.Given.{Well, AllWell}
 
--- ---- names that are new behind a declaration were new before it
+-- ---- names that are new after a declaration were new before it
 
 earlier : (a b : Option Variable) → later a b ≡ None → a ≡ None
 earlier a None e = e

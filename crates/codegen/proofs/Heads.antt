@@ -14,7 +14,7 @@ use Rattle.codegen_base.specs.Layouts.{Layout, declaring, with_parameters}
 use Rattle.codegen.specs.Codes.{HasKnownResult, IsKnown}
 
 module _ (globals : Globals) (elements : List Element) where
-  -- parameters behind others
+  -- parameters after others
   parameters_behind : (first rest : List Field) (layout : Layout) → with_parameters globals elements (first ++ rest) layout ≡ with_parameters globals elements rest (with_parameters globals elements first layout)
   parameters_behind [] rest layout = refl
   parameters_behind (field ∷ first) rest layout = parameters_behind first rest (declaring globals elements (known field.kind) field.name layout)
@@ -24,7 +24,7 @@ module _ (globals : Globals) (elements : List Element) where
   same_fields o [] rest layout = refl
   same_fields o (name ∷ names) rest layout = same_fields o names rest (declaring globals elements (known o) name layout)
 
-  -- a group of parameters of one type, and those behind it
+  -- a group of parameters of one type, and those after it
   pub parameters_grouped : (types : List (List ℕ)) (group : Declared) (rest : List Declared) (kind : ValueType) (names : List (List ℕ)) (l0 l1 l2 : Layout) → kind ≡ known (type_in types nothing_declared group.type_expression) → names ≡ group.names
       → l1 ≡ with_parameters globals elements (all_fields (Some kind) names) l0 → l2 ≡ with_parameters globals elements (fields_declared types rest) l1 → l2 ≡ with_parameters globals elements (fields_declared types (group ∷ rest)) l0
   parameters_grouped types group rest kind names l0 l1 l2 of are first behind =

@@ -49,7 +49,7 @@ module _ (structs : Structs) (elements : List Element) where
   like_size : (kind : ValueType) (v : Value) → words_like (zero_words structs kind) v ≡ v → length v ≡ length (zero_words structs kind)
   like_size kind v like = sym (ap length like) ∙ like_length (zero_words structs kind) v
 
-  -- values fit the kinds of their words, and what is behind is zero
+  -- values fit the kinds of their words, and what comes after is zero
   values_fitted : (types : List ValueType) (vs : List Value) (zs : Words) → AreLike structs types vs → words_like (map zero_of (all_kinds structs elements types) ++ zs) (words vs) ≡ words vs ++ zs
   values_fitted [] [] zs like = like_none zs
   values_fitted [] (v ∷ vs) zs like = absurd like

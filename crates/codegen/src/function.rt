@@ -62,7 +62,7 @@ fn begin(alloc: Global, emitter: &mut Emitter<'_>)
     emitter.layout = Layout::new(alloc);
 }
 
-/// Declares the parameters of a function, and answers how many words they take.
+/// Declares the parameters of a function, and returns how many words they take.
 fn begin_function<'a>(
     context: &Context<'_, 'a>,
     emitter: &mut Emitter<'a>,
@@ -103,7 +103,7 @@ fn finished<'a>(
 
 /// The code of a function, whose tables are appended.
 ///
-/// Errors: want of memory.
+/// Errors: out of memory.
 pub(crate) fn function_code<'a>(
     context: &Context<'_, 'a>,
     blank: &'a Blank,

@@ -20,7 +20,7 @@ use syntax::{DeclaredNode, Name, TypeNode};
 use type_table::table::TypeTable;
 use type_table::value_type::{ValueType, global_type_in};
 
-/// A type that stands outside of functions; where a name in it is no type's, an int.
+/// A type outside of functions; an int if a name in it is no type's.
 fn written<'a>(table: &TypeTable<'a>, kind: &'a TypeNode) -> ValueType<'a>
     ensures { kind_of (types_of table.now) result ≡ known (type_in (types_of table.now) nothing_declared (type_of kind.now)) }
 {
@@ -60,7 +60,7 @@ fn declare_names<'t, 'm, 'a>(
 
 /// Declares parameters.
 ///
-/// Errors: want of memory.
+/// Errors: out of memory.
 pub(crate) fn declare_parameters<'t, 'm, 'a>(
     context: &'t Context<'t, 'a>,
     layout: &'m mut Layout<'a>,

@@ -114,7 +114,7 @@ fn file_code<'a>(
 
 /// The code of a checked file, and its marks.
 ///
-/// Errors: want of memory, as which a number of the code of 2^32 or more counts.
+/// Errors: out of memory, as which a number of the code of 2^32 or more counts.
 pub(crate) fn code_of(alloc: Global, typed: &Typed) -> Result<(Code, Marks), AllocError>
     ensures code { IfOk result (λ made. made.0 ≡ code_of (tree_of (tree_in typed.now))) }
     ensures typed { IfOk result (λ _. IsTyped (tree_of (tree_in typed.now))) }

@@ -124,7 +124,7 @@ module _ (structs : Structs) where
   IsSpot scope (Into name at) kind spot =
       (v : Variable) × (last_named scope.variables name ≡ Some v) × Holds structs (known v.kind) at.from at.kind × (zero_words structs at.kind ≡ zero_words structs kind) × (spot ≡ Local (v.place + at.from) (words_in structs at.kind))
 
-  -- the scope behind a destination
+  -- the scope after a destination
   abbrev pub behind_destination : Destination → Scope → Scope
   behind_destination (New name kind) scope = declared structs scope (Some kind) name
   behind_destination Nowhere scope = scope

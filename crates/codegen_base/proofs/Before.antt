@@ -22,7 +22,7 @@ use Rattle.codegen_base.specs.Generated.{pushes_comm, pushes_clauses}
 use Rattle.plan.specs.Plan.{Plan, Skip, Do, Seq, IfElse, reaches_end, size, table_count}
 use Rattle.plan.proofs.Tables.{Numbered, Tabled}
 
--- the second plan stands behind instructions and choices without selects
+-- the second plan stands after instructions and choices without selects
 pub data Before : Plan → Plan → Type 0 where
   Here : (rest : Plan) → Before rest rest
   Step : (i : Instr) (rest p : Plan) → Before rest p → Before rest (Do i p)

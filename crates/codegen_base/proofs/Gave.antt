@@ -49,7 +49,7 @@ module _ {A : Type 0} (next : A → Next A) where
       through b d e halts t (subst (λ x. Slips next x e) (ap (onward b) (sym is' ∙ is)) s)
 
 module _ (globals : Globals) (code : Code) where
-  -- what the code was told, and the results of the functions that it called, from one state to another; before the first of them it
+  -- the replies that the code got, and the results of the functions that it called, from one state to another; before the first of them it
   -- may still have a way to go
   abbrev pub Gave : Frames → List Given → Frames → Type 0
   Gave c [] d = Slips (code_next code) d c

@@ -1,5 +1,5 @@
--- A goroutine of the source and one of the code that are near each other stay so, whatever they do and are told: by what is so of each
--- task alone.
+-- A goroutine of the source and one of the code that are near each other stay so, whatever they do and whatever replies they
+-- get: by what is so of each task alone.
 use Rattle.std.proofs.Common.{◌≡◌, ℕ, suc, Bool, true, false, cond, List, [], ◌∷◌, ◌++◌, length, Some, refl, sym, ap, subst, slice_get, map, ◌∙◌}
 use Rattle.std.specs.Prelude.{nat_lt}
 use Rattle.syntax.specs.Tree.{Function, File}

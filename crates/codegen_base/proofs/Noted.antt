@@ -53,7 +53,7 @@ there_is (x ∷ all) e n is = go (same_element e x) refl is (λ m h. there_is al
   go true same is more = subst (λ k. slice_get (x ∷ all) k ≡ Some e) (same_Some 0 n is) (ap Some (sym (element_same e x same)))
   go false same is more = let s = suc_of (found_at all e) n is in subst (λ k. slice_get (x ∷ all) k ≡ Some e) s.2 (more s.0 s.1)
 
--- more elements behind change no place
+-- elements added at the end change no place
 place_stays : (all more : List Element) (e : Element) (n : ℕ) → found_at all e ≡ Some n → found_at (all ++ more) e ≡ Some n
 place_stays [] more e n is = absurd cc
 place_stays (x ∷ all) more e n is = go (same_element e x) is (λ m h. place_stays all more e m h) where

@@ -42,7 +42,7 @@ assigns_before (spot ∷ []) rest = before_on (stores spot (Do instrs.Tick rest)
 assigns_before (spot ∷ (other ∷ others)) rest =
     let spots = last_counts (singles (spot ∷ (other ∷ others))) in before_on (stores_all spots (Do instrs.Tick rest)) (Do instrs.Tick rest) rest (all_before spots (Do instrs.Tick rest)) (ticks_before rest)
 
--- ---- one behind the other
+-- ---- one after the other
 
 pub both_stand : (first second : Plan → Plan) → Stands first → Stands second → Stands (λ rest. first (second rest))
 both_stand first second x y rest = before_on (first (second rest)) (second rest) rest (x (second rest)) (y rest)

@@ -124,7 +124,7 @@ module _ {globals : Globals} {program : Compiled globals} {coded : Coded program
     go signs.Complement (inl (e, it, ik)) ev = absurd cc
     go signs.Complement (inr (e, it, ik)) ev = int_by signs.Complement (λ n to on1. applied_goes ops.Com (Int n) IntType to refl refl on1) it ik ev
 
-  -- ---- one value behind the other
+  -- ---- one value after the other
 
   joins : (o p : Worked Value) (kind : ValueType) (zeros : List Word) (push : Plan) (rest : Plan) (out : Option ℕ) (place : ℕ) (stack : List Word) → EK o kind push out place stack stack
       → ((v : Value) (to : ℕ) → ST push to out → EL p zeros rest out to (stack ++ v) (stack ++ v)) → EL (joined o p) (zero_words globals.structs kind ++ zeros) rest out place stack stack
@@ -150,7 +150,7 @@ module _ {globals : Globals} {program : Compiled globals} {coded : Coded program
       ap (λ (l : List (List WordKind)). slice_get l (shape_of elements t)) program.shapes
       ∙ shape_there globals.structs elements t (worth_noted elements globals program.fields_noted program.results_noted scope noted e makes (ChannelType d t) is).1
 
-  -- the values of all lie on the stack, one behind the other
+  -- the values of all lie on the stack, one after the other
   abbrev pub LA : List ValueType → Plan → Option ℕ → List Word → List Value → Frames → Type 0
   LA types rest out base vs d = (to : ℕ) × AreLike globals.structs types vs × (d ≡ SP to (base ++ all_words_of vs)) × ST rest to out
 
@@ -377,7 +377,7 @@ module _ {globals : Globals} {program : Compiled globals} {coded : Coded program
         (λ v like to on1. let n = is_int globals.structs v like in
         subst (λ (x : Value). EK (made globals kind (number_in (word_in x))) k rest out to (stack ++ x) stack) (sym n.1) (made_goes kind k n.0 rest out to stack makes.0 is on1))
 
-    -- values, one behind the other
+    -- values, one after the other
     pub all_goes : (values : Expressions) (types : List ValueType) (first : ℕ) → Free (ExpressionsHave globals s first values) → ExpressionsMake globals.types elements values → AllFit globals s values types → (rest : Plan) (out : Option ℕ) (place : ℕ) (stack : List Word) → ST (emits_all globals elements scope types values rest) place out
         → Follows context (values_of globals env values) (LA types rest out stack) (SP place stack)
     all_goes NoMore [] first free makes fit rest out place stack on = stays context [] (LA [] rest out stack) (SP place stack) (place, tt, ap (SP place) (sym (append-nil stack)), on)

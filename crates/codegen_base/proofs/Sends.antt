@@ -57,7 +57,7 @@ module _ {globals : Globals} {program : Compiled globals} {coded : Coded program
   abbrev LI : List Word → Plan → Option ℕ → List Word → Value → Frames → Type 0
   LI zeros rest out base v d = Lies standing zeros rest out base v d
 
-  -- a channel is valued
+  -- a channel is evaluated
   abbrev LC : Plan → Option ℕ → List Word → Option ℕ → Frames → Type 0
   LC rest out stack c d = (to : ℕ) × (d ≡ SP to (stack ++ Chan c ∷ [])) × ST rest to out
 

@@ -1,4 +1,4 @@
--- The code of operands and operators, by what the operands are worth.
+-- The code of operands and operators, by the operands' types and constant values.
 use Rattle.std.specs.Int.{w64, int_wrap}
 use Rattle.std.proofs.Common.{◌≡◌, ℕ, ℤ, ◌+◌, true, false, List, [], ◌∷◌, ◌++◌, Option, Some, None, Ok, refl, sym, ap, ◌∙◌, subst, append_assoc}
 use Rattle.std.specs.Prelude.{if◌then◌else◌}

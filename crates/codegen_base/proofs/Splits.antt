@@ -19,7 +19,7 @@ use Rattle.meaning.specs.Worked.{Worked, and_then}
 use Rattle.codegen_base.specs.Pushes.{operator_of, between as between_plan}
 use Rattle.plan.specs.Plan.{Plan, Do}
 
--- ---- which of the right operands are always valued
+-- ---- which of the right operands are always evaluated
 
 pub plain_beside : (operator : BinaryOperator) → is_logical operator ≡ false → (a : Word) (o : Worked Value) → beside operator a o ≡ and_then o (λ b. between operator a (word_in b))
 plain_beside symbols.Add e a o = refl
@@ -277,7 +277,7 @@ right_operand operator s b k e = go (is_logical operator || not (is_int_type s))
   go false true true is fi e = absurd cc
   go false true false is fi e = let n = not_either (is_logical operator) (is_int_type s) is in record { plain = n.0; int = int_is s n.1; gives = made_is (made_type operator) k e; fits = fi }
 
--- `nil` beside a channel
+-- `nil` and a channel as operands
 pub record WithNil (operator : BinaryOperator) (t k : ValueType) : Type 0 where
   pub compares : is_equality operator ≡ true
   pub direction : Direction

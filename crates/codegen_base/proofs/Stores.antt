@@ -52,7 +52,7 @@ abbrev pub put_spot : Spot → Words → Words → Words
 put_spot (Dropped words) ws ls = ls
 put_spot (Local place words) ws ls = put_at place ws ls
 
--- the words for spots, one spot's behind the other's: put from the first spot to the last, and the other way round
+-- the words for spots, one spot's after the other's: put from the first spot to the last, and the other way round
 abbrev pub put_forward : List Spot → Words → Words → Words
 put_forward [] ws ls = ls
 put_forward (spot ∷ spots) ws ls = put_forward spots (drop (spot_words spot) ws) (put_spot spot (take (spot_words spot) ws) ls)

@@ -1,4 +1,4 @@
--- The code of a request or a call within an expression: what is told lies on the stack behind it.
+-- The code of a request or a call within an expression: its results lie on the stack after it.
 use Rattle.std.proofs.Common.{◌≡◌, ℕ, ◌+◌, true, None, List, [], ◌∷◌, ◌++◌, length, map, drop, Option, Some, refl, sym, ap, ◌∙◌, subst, slice_get}
 use Rattle.std.proofs.Math.Seq.{drop-nil}
 use Rattle.bytecode.specs.declared.instr.Instr.{Instr}
@@ -101,7 +101,7 @@ module _ {globals : Globals} {program : Compiled globals} {coded : Coded program
         After : Given → Frames → Type 0
         After given d = d ≡ spot_at (place + 1) (stack ++ words_like zero (given_words given))
 
-  -- the one value that is told lies on the stack
+  -- the one value of the reply lies on the stack
   pub told_one_goes : (kind : ValueType) (q : Request) (i : Instr) (xs : Words) (rest : Plan) (out : Option ℕ) (place : ℕ) (stack : Words) → At f.instrs place i → pops code f i ≡ length xs → is_told i ≡ true
       → code_next code (spot_at place (stack ++ xs)) ≡ Asks q → map zero_of (gives code f i []) ≡ zero_words globals.structs kind → Begins (Asking q) (spot_at place (stack ++ xs)) → S rest (place + 1) out
       → Evals standing (told_one (zero_words globals.structs kind) (Asking q)) kind rest out place (stack ++ xs) stack

@@ -70,7 +70,7 @@ int_type BoolType e = absurd cc
 int_type (StructType n) e = absurd cc
 int_type (ChannelType d t) e = absurd cc
 
--- a value of this worth may stand where this type is wanted
+-- an operand of this type or constant value may stand where type t is wanted
 abbrev pub Fits : Worth → ValueType → Type 0
 Fits (Typed s) t = assignable s t ≡ true
 Fits (Constant z) t = (t ≡ IntType) × (is_int z ≡ true)
@@ -89,7 +89,7 @@ fits Nil t nodes le free = let b = broken rules.Nil (nodes.first + 1) (omega ari
 abbrev pub VariablesKnown : Scope → Type 0
 VariablesKnown s = (name : List ℕ) (v : Variable) → variable_named s name ≡ Some v → (t : ValueType) × (v.kind ≡ Some t)
 
--- a name that may be an operand is worth something where its variable has a type
+-- a name that may be an operand has a type if its variable has one
 worth_named : (t n : Bool) (o : Option Variable) → ((v : Variable) → o ≡ Some v → (k : ValueType) × (v.kind ≡ Some k)) → (t || n || is_some o) ≡ true
     → (w : Worth) × ((if t then Some (Typed BoolType) else (if n then Some Nil else option_map Typed (kind_of o))) ≡ Some w)
 worth_named true n o known e = (Typed BoolType, refl)
@@ -169,7 +169,7 @@ module _ (globals : Globals) (s : Scope) where
       let b = broken rules.Visible end (omega arith) in
       is_there (literal_struct globals s name) (λ e. free b.0 (inr (subst (λ o. LiteralHas globals s o first (expressions_in values) end b.0) (sym e) b.1)))
 
-  -- ---- every expression has a worth
+  -- ---- every expression has a type or a constant value
 
   -- a call is of a function that is there
   pub call_there : (first : ℕ) (function : List ℕ) (values : Expressions) (trailing : Bool) → Free (ExpressionHas globals s first (Call function values trailing)) → (n : ℕ) × (callee globals s function ≡ IsFunction n)

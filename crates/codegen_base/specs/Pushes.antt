@@ -70,7 +70,7 @@ compared operator a b = valued (applied (operator_at operator (Int a)) (Int a) (
 
 -- ---- expressions
 
--- the type that stands beside an operand: that of the other one
+-- the type that stands next to an operand: that of the other one
 abbrev pub elements_shape : List Element → ValueType → ℕ
 elements_shape elements kind = shape_of elements (known (element_type kind))
 
@@ -87,7 +87,7 @@ between symbols.LogicalAnd kind l r rest = l (Seq (IfElse (r Skip) (Do (instrs.B
 between symbols.LogicalOr kind l r rest = l (Seq (IfElse (Do (instrs.Bool true) Skip) (r Skip)) rest)
 between operator kind l r rest = l (r (Do (instrs.Apply (operator_of operator kind)) rest))
 
--- `nil` to the left of a channel is pushed behind it; two constants are compared
+-- `nil` to the left of a channel is pushed after it; two constants are compared
 abbrev pub operates : List Element → BinaryOperator → Option Worth → Option Worth → ValueType → ValueType → (Plan → Plan) → (Plan → Plan) → Plan → Plan
 operates elements operator (Some (Constant a)) (Some (Constant b)) s t l r rest = Do (compared operator a b) rest
 operates elements operator (Some Nil) right s t l r rest =
@@ -155,7 +155,7 @@ module _ (globals : Globals) (elements : List Element) (scope : Scope) where
     emits (Length channel) rest = emits channel (Do instrs.Len rest)
     emits (Capacity channel) rest = emits channel (Do instrs.Cap rest)
 
-    -- one value behind the other, each as one of its type: arguments, and the fields of a literal
+    -- one value after the other, each as one of its type: arguments, and the fields of a literal
     pub emits_all : List ValueType → Expressions → Plan → Plan
     emits_all types NoMore rest = rest
     emits_all [] (Behind first others) rest = rest

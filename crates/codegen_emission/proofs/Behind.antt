@@ -1,4 +1,4 @@
--- What is emitted behind code that has no jumps and no selects of its own.
+-- What is emitted after code that has no jumps and no selects of its own.
 use Rattle.std.proofs.Common.{◌≡◌, ℕ, ◌+◌, true, cond, ◌&&◌, ◌||◌, List, [], ◌++◌, length, refl, sym, ap, ◌∙◌, subst, arith}
 use Rattle.std.proofs.lemmas.List.{append-nil}
 use Rattle.bytecode.specs.Code.{PrintTable, SelectTable}
@@ -32,7 +32,7 @@ before_continue rest _ (Choice _ so other p x y g) =
     ap (λ t. (t || has_continue other) || ((reaches_end so || reaches_end other) && has_continue p)) (before_continue Skip so x) ∙ ap (λ t. t || ((reaches_end so || reaches_end other) && has_continue p)) (before_continue Skip other y)
     ∙ ap (λ t. (t || reaches_end other) && has_continue p) (before_ends Skip so x) ∙ before_continue rest p g
 
--- there are none where there are none behind it
+-- there are none if there are none after it
 pub before_none : (rest p : Plan) → ((to : ℕ) → tables to rest ≡ []) → Before rest p → (place : ℕ) → tables place p ≡ []
 before_none rest _ none (Here _) place = none place
 before_none rest _ none (Step i _ p g) place = before_none rest p none g (place + 1)
@@ -43,7 +43,7 @@ before_none rest _ none (Choice _ so other p x y g) place =
     ∙ ap (λ (l : List SelectTable). l ++ cond (reaches_end (IfElse so other)) behind []) (before_none Skip other (λ to. refl) y at)
     ∙ ap (λ b. cond b behind []) (ap (λ t. t || reaches_end other) (before_ends Skip so x)) ∙ before_none rest p none g (place + size (IfElse so other))
 
--- the select tables are those of what stands behind it
+-- the select tables are those of what follows it
 pub before_tables : (rest p : Plan) (place to : ℕ) → Before rest p → place + size p ≡ to + size rest → tables place p ≡ tables to rest
 before_tables rest _ place to (Here _) e = ap (λ n. tables n rest) (omega (arith, e))
 before_tables rest _ place to (Step i _ p g) e = before_tables rest p (place + 1) to g (omega (arith, e))

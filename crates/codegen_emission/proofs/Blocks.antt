@@ -14,7 +14,7 @@ use Rattle.codegen_emission.specs.Emitted.{Emits, site_of}
 use Rattle.codegen_emission.proofs.Emitting.{emits_both, site_past}
 use Rattle.codegen_emission.proofs.Listing.{emits_within}
 
--- a block begins, outside of which so many variables are visible
+-- a block begins, outside of which `count` variables are visible
 pub record Entered (table : TypeTable) (old new : Emitter) (count outer : ℕ) : Type 0 where
   pub code : new.code.items ≡ old.code.items
   pub prints : new.prints.items ≡ old.prints.items
@@ -39,7 +39,7 @@ module _ (table : TypeTable) where
   emits_inside make e0 e1 e2 e3 count outer flow i e l =
       emits_within table make e0 e1 e2 e3 count outer flow i.code i.prints i.selects i.layout i.entries i.count_is i.outer_is e l.code l.prints l.selects l.entries l.outer_is l.words l.locals
 
-  -- one behind the other
+  -- one after the other
   pub emits_then : (first make : Site → Made) (e0 e1 e2 : Emitter) (flow : Control) → Emits table e0 e1 through (first (site_of table e0)) → Emits table e1 e2 flow (make (site_of table e1))
       → Emits table e0 e2 flow (followed (first (site_of table e0)) (make (past (site_of table e0) (first (site_of table e0)))))
   emits_then first make e0 e1 e2 flow a b =

@@ -30,7 +30,7 @@ use Rattle.codegen_emission.proofs.Chosen.{makes_if_else, makes_if_other}
 use Rattle.codegen_emission.proofs.Emitting.{keeps_both, site_past}
 use Rattle.codegen_emission.proofs.Behind.{emits_behind}
 
--- beside the instructions nothing has changed
+-- only the instructions have changed
 pub record Beside (old new : Emitter) : Type 0 where
   pub prints : new.prints.items ≡ old.prints.items
   pub selects : new.selects.items ≡ old.selects.items
@@ -97,7 +97,7 @@ module _ (table : TypeTable) where
         kept = keeps_both table e0 e2 e5 (keeps_both table e0 e1 e2 (beside_keeps e0 e1 b1) a.kept) (keeps_both table e2 e4 e5 (keeps_both table e2 e3 e4 (beside_keeps e2 e3 b3) b.kept) (beside_keeps e4 e5 b5));
       })
 
-  -- behind the test
+  -- after the test
   module _ (globals : Globals) (elements : List Element) (result : Yield) where
     pub emits_one_way : (condition : Expression) (so : Made) (e0 e1 e2 e3 e4 : Emitter) (f g : Control) (next : ℕ) → Puts e0.code.items e1.code.items (tests globals elements (layout_of table e0.layout) condition) → Beside e0 e1 → e2.code.items ≡ e1.code.items ++ instrs.Unless 0 ∷ [] → Beside e1 e2
         → Emits table e2 e3 f so → next ≡ length e3.code.items → e4.code.items ≡ slice_set e3.code.items (length e1.code.items) (instrs.Unless next) → Beside e3 e4 → g ≡ may_end f → Emits table e0 e4 g (made_if globals elements result (layout_of table e0.layout) condition so)
@@ -117,7 +117,7 @@ module _ (table : TypeTable) where
         emits_behind table test e0 e1 e6 h (made_of (IfElse so.plan o.plan) (so.prints ++ o.prints) o.layout) (pushes_before globals elements (layout_of table e0.layout).scope BoolType condition (IfElse so.plan o.plan)) puts b1.prints b1.selects (beside_keeps e0 e1 b1)
         (emits_if_else e1 e2 e3 e4 e5 e6 f g h so o c2 b2 a c4 b4 (subst (λ site. Emits table e4 e5 g (make site)) other b) c6 b6 is)
 
-    -- one way or two, as something stands behind `else` or not
+    -- one way or two, as something follows `else` or not
     pub with_other : (e0 e1 : Emitter) (flow : Control) (site : Site) (condition : Expression) (body : Statements) (otherwise : Otherwise) → is_other otherwise ≡ true → Emits table e0 e1 flow (made_two_ways globals elements result site condition body otherwise)
         → Emits table e0 e1 flow (made_condition globals elements result site condition body otherwise)
     with_other e0 e1 flow site condition body NoElse is e = absurd cc

@@ -15,7 +15,7 @@ use Rattle.codegen_flow.proofs.Filled.{filled_length, filled_before, filled_set,
 
 -- ---- two parts, with a jump over the second one
 
--- an instruction between two parts gets its target behind both
+-- an instruction between two parts gets its target after both
 between_set : (i1 i2 i3 i4 : List Instr) (ws vs : List Wait) (first : ℕ) (q : Plan) (leave again : ℕ) (i j : Instr) → AreWithin first (length i1) ws → i2 ≡ i1 ++ i ∷ [] → Makes i2 i3 vs q → i4 ≡ slice_set i3 (length i1) j
     → filled (ws ++ vs) leave again i4 ≡ filled ws leave again i1 ++ (j ∷ flat leave again (length i2) q)
 between_set i1 i2 i3 i4 ws vs first q leave again i j in_range e2 m e4 =
@@ -23,7 +23,7 @@ between_set i1 i2 i3 i4 ws vs first q leave again i j in_range e2 m e4 =
     let behind = behind_set i1 i2 i3 i4 vs q leave again i j e2 m e4 in
     filled_both ws vs leave again i4 ∙ ap (filled ws leave again) (behind ∙ append_assoc i1 (j ∷ []) fq) ∙ filled_before ws leave again first (length i1) i1 (j ∷ fq) in_range (omega arith)
 
--- what stands behind a part that leads on
+-- what follows a part that leads on
 jump_there : (p : Plan) (to : ℕ) → reaches_end p ≡ true → jump_behind p to ≡ instrs.Jump to ∷ []
 jump_there p to leads = ap (λ b. cond b (instrs.Jump to ∷ []) []) leads
 
@@ -36,7 +36,7 @@ jump_one p leads = ap (λ b. cond b 1 0) leads
 jump_none : (p : Plan) → reaches_end p ≡ false → jump_size p ≡ 0
 jump_none p ends = ap (λ b. cond b 1 0) ends
 
--- a way of a select, behind which there are others
+-- a way of a select, after which there are others
 pub makes_way : (ks : List WordKind) (i0 i1 i2 i3 i4 : List Instr) (ws vs : List Wait) (body others : Plan) (to : ℕ) → reaches_end body ≡ true → Makes i0 i1 ws body → i2 ≡ i1 ++ instrs.Jump 0 ∷ [] → Makes i2 i3 vs others → to ≡ length i3
     → i4 ≡ slice_set i3 (length i1) (instrs.Jump to) → Makes i0 i4 (ws ++ vs) (Way ks body others)
 makes_way ks i0 i1 i2 i3 i4 ws vs body others to leads m e2 o et e4 =
@@ -84,7 +84,7 @@ makes_ended_way ks i0 i1 i2 ws vs body others ends m o =
 pub makes_last_way : (ks : List WordKind) (i0 i1 : List Instr) (ws : List Wait) (body : Plan) → Makes i0 i1 ws body → Makes i0 i1 ws (LastWay ks body)
 makes_last_way ks i0 i1 ws body m = record { within = m.within; is = m.is }
 
--- ---- selects: a break leads behind them, a continue is one of the loop around
+-- ---- selects: a break leads to their end, a continue is one of the loop around
 
 settled_before : (ws : List Wait) (leave first end at : ℕ) (code : List Instr) (i : Instr) → AreWithin first end ws → at < first → settled ws leave (slice_set code at i) ≡ slice_set (settled ws leave code) at i
 settled_before [] leave first end at code i in_range le = refl
@@ -188,7 +188,7 @@ makes_if_other i0 i1 i2 i3 i4 ws vs so other next ends e1 m en e3 o =
           appends_if_else leave again next to i0 j1 j2 j3 (filled (ws ++ vs) leave again i4) so other refl second refl last (omega (arith, en, n2, n1, none)) (omega (arith, n4, n3, en));
     }
 
--- ---- loops: breaks lead behind them, continues to what is done behind the body
+-- ---- loops: breaks lead to their end, continues to what is done after the body
 
 pub makes_cycle : (i0 i1 i2 i3 i4 i5 i6 i7 : List Instr) (ws : List Wait) (test body post exit : Plan) (exit_at stop : ℕ) → Makes i0 i1 [] test → i2 ≡ i1 ++ instrs.Unless 0 ∷ [] → Makes i2 i3 ws body
     → ((leave again : ℕ) → i4 ≡ i3 ++ round leave again (length i0) (length i3) body post) → Makes i4 i5 [] exit → exit_at ≡ length i4 → stop ≡ length i5 → i6 ≡ slice_set i5 (length i1) (instrs.Unless exit_at)

@@ -49,7 +49,7 @@ module _ (table : TypeTable) where
     there = refl;
   })
 
-  -- where something changes beside what is emitted
+  -- if more changes than what is emitted
   ways_beside : (e0 e1 e2 : Emitter) (code : List Instr) (noted places : List ℕ) (flow : Option Control) (made : Option Made) → Ways table e0 code e1 noted places flow made → Beside e1 e2 → Ways table e0 code e2 noted places flow made
   ways_beside e0 e1 e2 code noted places flow made w b = record {
     emits = record {

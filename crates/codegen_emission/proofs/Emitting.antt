@@ -63,7 +63,7 @@ module _ (table : TypeTable) where
   pub emits_marked : (e0 e1 : Emitter) (before behind : Marks) (flow : Control) (made : Made) → Emits table (record e0 { marks = before }) e1 flow made → Emits table e0 (record e1 { marks = behind }) flow made
   emits_marked e0 e1 before behind flow made e = record { code = e.code; flows = e.flows; prints = e.prints; selects = e.selects; layout = e.layout; kept = e.kept }
 
-  -- ---- one behind the other
+  -- ---- one after the other
 
   pub keeps_both : (e0 e1 e2 : Emitter) → Keeps e0.layout.visible e1.layout.visible → Keeps e1.layout.visible e2.layout.visible → Keeps e0.layout.visible e2.layout.visible
   keeps_both e0 e1 e2 a b =

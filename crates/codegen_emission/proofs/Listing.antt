@@ -1,4 +1,4 @@
--- Statements that are emitted one behind the other, and blocks.
+-- Statements that are emitted one after the other, and blocks.
 use Rattle.std.proofs.Common.{◌≡◌, ℕ, ◌+◌, Bool, true, false, ◌||◌, List, ◌∷◌, ◌++◌, length, take, drop, get_or, ◌<◌, refl, sym, ap, ◌∙◌, subst, append_assoc}
 use Rattle.std.specs.Prelude.{if◌then◌else◌}
 use Rattle.std.proofs.lemmas.List.{append-nil, drop_more}
@@ -50,7 +50,7 @@ joined_assoc f g h =
     ∙ ap (λ c. led (f.waits ++ (g.waits ++ h.waits)) h.ends (f.breaks || (g.breaks || h.breaks)) c) (or_assoc f.continues g.continues h.continues)
 
 module _ (table : TypeTable) (globals : Globals) (elements : List Element) (result : Yield) where
-  -- what is emitted of statements: with the rest behind it, it is all of them
+  -- what is emitted of statements: with the rest after it, it is all of them
   pub record Begins (old now : Emitter) (flow : Control) (rest all : Statements) : Type 0 where
     pub on : flow.ends ≡ true
     pub is : (new : Emitter) (g : Control) → Emits table now new g (made_all globals elements result (site_of table now) rest) → Emits table old new (joined flow g) (made_all globals elements result (site_of table old) all)
@@ -80,7 +80,7 @@ module _ (table : TypeTable) (globals : Globals) (elements : List Element) (resu
       let b = subst (λ l. Begins old now flow l all) none begun in
       subst (λ f. Emits table old now f (made_all globals elements result (site_of table old) all)) (joined_through flow b.on) (b.is now through (emits_nothing table now through refl))
 
-  -- what comes behind can't be reached
+  -- what follows can't be reached
   pub begins_cut : (old now next : Emitter) (flow one both : Control) (first : Statement) (rest left all : Statements) → left ≡ Then first rest → Begins old now flow left all → one.ends ≡ false → Emits table now next one (made globals elements result (site_of table now) first)
       → both ≡ joined flow one → Emits table old next both (made_all globals elements result (site_of table old) all)
   begins_cut old now next flow one both first rest left all more begun off e is =

@@ -38,7 +38,7 @@ no_tables false xs none = refl
 
 -- ---- between the turns
 
--- the way back, or nothing that stands behind the body
+-- the way back, or nothing that follows the body
 come_back : (b : Bool) (i0 i1 i2 xs : List Instr) (head : ℕ) → i1 ≡ i0 ++ xs → i2 ≡ cond b (i1 ++ instrs.Loop head ∷ []) (take (length i0) i1) → i2 ≡ i0 ++ cond b (xs ++ instrs.Loop head ∷ []) []
 come_back true i0 i1 i2 xs head e1 e2 = e2 ∙ ap (λ (l : List Instr). l ++ instrs.Loop head ∷ []) e1 ∙ append_assoc i0 xs (instrs.Loop head ∷ [])
 come_back false i0 i1 i2 xs head e1 e2 = e2 ∙ ap (take (length i0)) e1 ∙ take-append-le (length i0) i0 xs (omega arith) ∙ take-length i0 ∙ sym (append-nil i0)
@@ -136,7 +136,7 @@ module _ (table : TypeTable) where
       })
 
   module _ (globals : Globals) (elements : List Element) (result : Yield) where
-    -- nothing is done behind each turn
+    -- nothing is done after each turn
     pub emits_turns : (e0 e1 : Emitter) (flow : Control) (site : Site) (condition : Option Expression) (body : Statements) → Emits table e0 e1 flow (made_turns globals elements result site condition body None)
         → Emits table e0 e1 flow (made_while globals elements result site condition (ended site.layout (made_all globals elements result (inside site) body)))
     emits_turns e0 e1 flow site condition body e =

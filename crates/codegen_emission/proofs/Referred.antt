@@ -1,4 +1,4 @@
--- What stands behind an optional reference.
+-- What follows an optional reference.
 use Rattle.std.proofs.Common.{◌≡◌, Option, None, Some, option_map, Bor, ap}
 use Rattle.std.specs.Option.{option_copied}
 

@@ -89,7 +89,7 @@ module _ (globals : Globals) (elements : List Element) (result : Yield) (l m : L
   pub same_table : (all : Clauses) (places : List ℕ) → select_table globals elements result l all places ≡ select_table globals elements result m all places
   same_table all places = let clauses_same = same_clauses all places in cc
 
--- behind the ways of a select the variables are those before it
+-- after the ways of a select the variables are those before it
 module _ (globals : Globals) (elements : List Element) (result : Yield) (whole : Clauses) where
   abbrev ways : Site → Clauses → Option Made
   ways site all = made_ways globals elements result site (λ behind. made_default globals elements result behind whole) all

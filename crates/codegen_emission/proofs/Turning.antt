@@ -31,13 +31,13 @@ module _ (globals : Globals) (elements : List Element) where
   post_before header site None = Here Skip
   post_before header site (Some simple) = simple_before globals elements (entering site.layout) site.prints simple
 
-  -- behind a block it is done in the block around it
+  -- after a block it is done in the block around it
   post_behind : (header inner : Layout) (site : Site) (post : Option Simple) → made_post globals elements (leaving header inner) site post ≡ made_post globals elements header site post
   post_behind header inner site None = refl
   post_behind header inner site (Some simple) = refl
 
 module _ (table : TypeTable) (globals : Globals) (elements : List Element) (result : Yield) where
-  -- what is done behind each turn stands behind the body
+  -- what is done after each turn follows the body
   behind_body : (body : Statements) (post : Option Simple) (e0 e1 : Emitter) (flow : Control) → Emits table e0 e1 flow (made_within globals elements result (site_of table e0) body)
       → made_post globals elements (layout_of table e1.layout) (site_of table e1) post ≡ made_post globals elements (layout_of table e0.layout) (past (site_of table e0) (made_within globals elements result (site_of table e0) body)) post
   behind_body body post e0 e1 flow e =

@@ -1,4 +1,4 @@
--- Conditions, and what is done where they are true and where they are false.
+-- Conditions, and what is done if they are true and if they are false.
 use Rattle.std.specs.Prelude.{List}
 use Rattle.syntax.specs.Tree.{Expression, Statements, Otherwise, NoElse, ElseBlock, ElseIf}
 use Rattle.type_table.specs.Scopes.{Globals, Yield}
@@ -9,7 +9,7 @@ module _ (globals : Globals) (elements : List Element) (result : Yield) where
   abbrev pub made_within : Site → Statements → Made
   made_within site body = ended site.layout (made_all globals elements result (inside site) body)
 
-  -- what stands behind `else`
+  -- what follows `else`
   abbrev pub made_other : Site → Otherwise → Made
   made_other site NoElse = nothing site
   made_other site (ElseBlock body) = made_within site body

@@ -15,10 +15,10 @@ table_of context = context.program.now.table.now
 abbrev pub result_of : FunctionContext → Yield
 result_of context = yield_of (types_of (table_of context)) context.result_type
 
--- what is said of each program, said of this one
+-- a statement about each program, applied to this one
 abbrev pub of_program : {A : Type 0} → FunctionContext → (Globals → List Element → A) → A
 of_program context made = made (globals_of context.program.now) (elements_of context.program.now)
 
--- what is said of each function, said of this one
+-- a statement about each function, applied to this one
 abbrev pub of_function : {A : Type 0} → FunctionContext → (Globals → List Element → Yield → A) → A
 of_function context made = made (globals_of context.program.now) (elements_of context.program.now) (result_of context)

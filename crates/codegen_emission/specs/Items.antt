@@ -19,7 +19,7 @@ module _ (globals : Globals) (elements : List Element) (result : Yield) where
       let within = made_within globals elements result (at (behind_target globals elements kind target layout) site) body in
       ended site.layout (made_of (Seq (takes globals elements result layout kind target) within.plan) within.prints within.layout)
 
-  -- the items of a channel, which is kept in the first local behind the layout around the loop
+  -- the items of a channel, which is kept in the first local after the layout around the loop
   abbrev pub made_items : Layout → Expression → Site → Target → Statements → Made
   made_items outer channel site target body =
       let kind = carried globals elements outer.scope channel in

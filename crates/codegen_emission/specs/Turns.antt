@@ -11,7 +11,7 @@ use Rattle.codegen_base.specs.Generated.{Made, Site, ended, inside, loop, made_a
 use Rattle.codegen_header.specs.Layouts.{layout_of}
 use Rattle.codegen_emission.specs.declared.emitter.Emitter.{Emitter}
 
--- what is done behind each turn, and the way back to the loop's head; nothing where the body never comes round again
+-- what is done after each turn, and the way back to the loop's head; nothing if the body never comes round again
 pub record Rounds (table : TypeTable) (turns : Bool) (head : ℕ) (old new : Emitter) (post : Made) : Type 0 where
   pub code : (leave again : ℕ) → new.code.items ≡ old.code.items ++ cond turns (flat leave again (length old.code.items) post.plan ++ instrs.Loop head ∷ []) []
   pub prints : new.prints.items ≡ old.prints.items ++ post.prints
@@ -20,7 +20,7 @@ pub record Rounds (table : TypeTable) (turns : Bool) (head : ℕ) (old new : Emi
   pub kept : Keeps old.layout.visible new.layout.visible
 
 module _ (globals : Globals) (elements : List Element) (result : Yield) where
-  -- the turns of a loop, behind what is done first
+  -- the turns of a loop, after what is done first
   abbrev pub made_turns : Site → Option Expression → Statements → Option Simple → Made
   made_turns site condition body post =
       let within = ended site.layout (made_all globals elements result (inside site) body) in

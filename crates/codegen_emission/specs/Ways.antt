@@ -18,16 +18,16 @@ use Rattle.codegen_flow.specs.Controls.{Control, Flows, control}
 use Rattle.codegen_flow.specs.Selects.{any_control, together}
 use Rattle.codegen_emission.specs.Emitted.{site_of}
 
--- where there are no ways nothing is made
+-- if there are no ways nothing is made
 abbrev pub or_nothing : Site → Option Made → Made
 or_nothing site None = nothing site
 or_nothing site (Some made) = made
 
--- where a default's way begins, behind the others
+-- where a default's way begins, after the others
 abbrev pub default_start : List ℕ → Emitter → Option Control → List ℕ
 default_start noted old flow = noted ++ cond (is_some flow) (length old.code.items ∷ []) []
 
--- what was made is what is emitted, where these are the instructions then
+-- what was made is what is emitted, if `code` are the instructions then
 pub record EmitsAs (table : TypeTable) (old : Emitter) (code : List Instr) (new : Emitter) (flow : Control) (made : Made) : Type 0 where
   pub code_is : Makes old.code.items code flow.waits made.plan
   pub flows : Flows flow made.plan
@@ -53,7 +53,7 @@ module _ (globals : Globals) (elements : List Element) (result : Yield) where
   abbrev pub ways_left : Clauses → Site → Clauses → Option Made
   ways_left whole site left = made_ways globals elements result site (λ behind. made_default globals elements result behind whole) left
 
-  -- what is emitted of ways: with the ways that are left behind it, and their jumps closed, it is all of them
+  -- what is emitted of ways: with the ways that are left after it, and their jumps closed, it is all of them
   pub record Reaches (table : TypeTable) (whole : Clauses) (old now : Emitter) (list : WayList) (left all : Clauses) : Type 0 where
     pub is : (code last : List Instr) (end : Emitter) (others : Option Control) (places : List ℕ) → Ways table now code end list.places.items places others (ways_left whole (site_of table now) left)
         → last ≡ closed list.held.items (is_some others) code → Ways table old last end [] places (together (option_map control list.flow) others) (ways_left whole (site_of table old) all)

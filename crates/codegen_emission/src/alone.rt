@@ -21,7 +21,7 @@ use syntax::{IfHeader, SimpleNode};
 
 /// A simple statement.
 ///
-/// Errors: want of memory.
+/// Errors: out of memory.
 pub fn emit_alone<'a>(
     context: &FunctionContext<'_, 'a>,
     emitter: &mut Emitter<'a>,
@@ -40,7 +40,7 @@ pub fn emit_alone<'a>(
 
 /// A simple statement of a header, with its marks.
 ///
-/// Errors: want of memory.
+/// Errors: out of memory.
 #[tactic(auto, using(crate::proofs::Emitting::emits_marked))]
 fn emit_marked<'a>(
     context: &FunctionContext<'_, 'a>,
@@ -71,7 +71,7 @@ fn emit_inside<'a>(
 
 /// A simple statement that may be left out.
 ///
-/// Errors: want of memory.
+/// Errors: out of memory.
 #[tactic(auto, using(crate::proofs::Emitting::emits_none))]
 pub fn emit_any<'a>(
     context: &FunctionContext<'_, 'a>,
@@ -88,7 +88,7 @@ pub fn emit_any<'a>(
 
 /// What stands before the condition of an `if`.
 ///
-/// Errors: want of memory.
+/// Errors: out of memory.
 #[tactic(auto, using(crate::proofs::Emitting::emits_none))]
 pub fn emit_head<'a>(
     context: &FunctionContext<'_, 'a>,
@@ -103,9 +103,9 @@ pub fn emit_head<'a>(
     }
 }
 
-/// What is done behind each turn of a loop.
+/// What is done after each turn of a loop.
 ///
-/// Errors: want of memory.
+/// Errors: out of memory.
 #[tactic(auto, using(crate::proofs::Emitting::emits_none))]
 pub fn emit_post<'a>(
     context: &FunctionContext<'_, 'a>,

@@ -47,7 +47,7 @@ fn emit_end<'a>(
     Ok(Flow::never(context.program.alloc))
 }
 
-/// The statements of a body, and its end where that is reached.
+/// The statements of a body, and its end if that is reached.
 #[tactic(auto, using(crate::proofs::Ending::emits_unfinished))]
 fn emit_all<'a>(
     context: &FunctionContext<'_, 'a>,
@@ -67,7 +67,7 @@ fn emit_all<'a>(
 
 /// Emits the body of a function. At its end it returns zeros.
 ///
-/// Errors: want of memory.
+/// Errors: out of memory.
 pub fn emit_body<'a>(
     context: &FunctionContext<'_, 'a>,
     emitter: &mut Emitter<'a>,

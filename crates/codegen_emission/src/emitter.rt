@@ -31,9 +31,9 @@ impl Emitter<'_> {
     }
 }
 
-/// Puts a test whose target is known later, and answers its place.
+/// Emits a test whose target is known later, and returns its index.
 ///
-/// Errors: want of memory.
+/// Errors: out of memory.
 pub(crate) fn hold_test(code: &mut Vec<Instr>) -> Result<usize, AllocError>
     ensures place { IfOk result (λ test. test ≡ length code.old.items) }
     ensures held { OnOk result (code.new.items ≡ code.old.items ++ instrs.Unless 0 ∷ []) }

@@ -22,7 +22,7 @@ use syntax::{ArgumentsNode, ExpressionNode, Name, ReturnNode, StatementNode, Typ
 
 /// Variables of a type are declared.
 ///
-/// Errors: want of memory.
+/// Errors: out of memory.
 fn declare_typed<'a>(
     context: &FunctionContext<'_, 'a>,
     emitter: &mut Emitter<'a>,
@@ -40,7 +40,7 @@ fn declare_typed<'a>(
 
 /// Variables are declared, with the types of what they are given.
 ///
-/// Errors: want of memory.
+/// Errors: out of memory.
 fn declare_untyped<'a>(
     context: &FunctionContext<'_, 'a>,
     emitter: &mut Emitter<'a>,
@@ -57,7 +57,7 @@ fn declare_untyped<'a>(
 
 /// Another goroutine starts.
 ///
-/// Errors: want of memory.
+/// Errors: out of memory.
 fn start<'a>(
     context: &FunctionContext<'_, 'a>,
     emitter: &mut Emitter<'a>,
@@ -73,7 +73,7 @@ fn start<'a>(
 
 /// The function returns.
 ///
-/// Errors: want of memory.
+/// Errors: out of memory.
 fn give_back<'a>(
     context: &FunctionContext<'_, 'a>,
     emitter: &mut Emitter<'a>,
@@ -89,7 +89,7 @@ fn give_back<'a>(
 
 /// A break, or a continue.
 ///
-/// Errors: want of memory.
+/// Errors: out of memory.
 fn emit_jump(alloc: Global, leaves: bool, emitter: &mut Emitter<'_>) -> Result<Flow, AllocError>
     ensures { IfOk result (λ flow. Jumps leaves emitter.old emitter.new (control flow)) }
 {
@@ -100,7 +100,7 @@ fn emit_jump(alloc: Global, leaves: bool, emitter: &mut Emitter<'_>) -> Result<F
 
 /// A statement that holds no other one.
 ///
-/// Errors: want of memory.
+/// Errors: out of memory.
 #[tactic(auto, using(crate::proofs::Emitting::emits_nothing))]
 pub fn emit_single<'a>(
     context: &FunctionContext<'_, 'a>,

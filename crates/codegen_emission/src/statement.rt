@@ -205,7 +205,7 @@ fn emit_loop<'t, 'm, 'a>(
     }
 }
 
-/// What stands behind `else`.
+/// What follows `else`.
 #[cycle(statement)]
 #[tactic(auto, using(crate::proofs::Emitting::emits_nothing))]
 fn emit_other<'t, 'm, 'a>(
@@ -225,7 +225,7 @@ fn emit_other<'t, 'm, 'a>(
     }
 }
 
-/// What stands behind `else`, with its marks.
+/// What follows `else`, with its marks.
 #[cycle(statement)]
 #[tactic(auto, using(crate::proofs::Emitting::emits_marked))]
 fn emit_marked_other<'t, 'm, 'a>(
@@ -287,7 +287,7 @@ fn emit_one_way<'t, 'm, 'a>(
     Ok(flow)
 }
 
-/// A condition, and what is done where it is true and where it is false.
+/// A condition, and what is done if it is true and if it is false.
 #[cycle(statement)]
 #[tactic(auto, using(crate::proofs::Branching::with_other, crate::proofs::Branching::without_other))]
 fn emit_ways<'t, 'm, 'a>(

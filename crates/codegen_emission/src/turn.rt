@@ -16,7 +16,7 @@ use bytecode::Instr;
 use std::alloc::AllocError;
 use syntax::SimpleNode;
 
-/// Leads back to the head of a loop. Where its body never comes round again, nothing stays that stands behind it.
+/// Leads back to the head of a loop. If its body never comes round again, the instructions from `behind` on are dropped.
 fn come_back(
     comes_round: bool,
     behind: usize,
@@ -31,9 +31,9 @@ fn come_back(
     come_round(comes_round, head, code)
 }
 
-/// Leads back to the head of a loop, where its body comes round again.
+/// Leads back to the head of a loop, if its body comes round again.
 ///
-/// Errors: want of memory.
+/// Errors: out of memory.
 pub fn come_round(comes_round: bool, head: u32, code: &mut Vec<Instr>) -> Result<(), AllocError>
     ensures { OnOk result (code.new.items ≡ code.old.items ++ cond comes_round (instrs.Loop head ∷ []) []) }
 {
@@ -43,10 +43,10 @@ pub fn come_round(comes_round: bool, head: u32, code: &mut Vec<Instr>) -> Result
     Ok(())
 }
 
-/// What is done behind each turn of a loop, and the way back to its head. Where its body never comes round again, there are
+/// What is done after each turn of a loop, and the way back to its head. If its body never comes round again, there are
 /// no instructions.
 ///
-/// Errors: want of memory.
+/// Errors: out of memory.
 pub fn emit_round<'a>(
     context: &FunctionContext<'_, 'a>,
     emitter: &mut Emitter<'a>,

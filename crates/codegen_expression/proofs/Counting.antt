@@ -30,7 +30,7 @@ with_length (ChannelType direction carried) all =
     let inner = with_length carried all in
     let one = with_one (with_type all carried) (element_of (with_type all carried) carried) in omega (arith, inner, one)
 
--- values have as many nodes one by one as in a row
+-- values have as many nodes counted one by one as in a row
 pub all_sizes : (values : List Expression) → expressions_size (expressions values) ≡ sum_by expression_size values
 all_sizes [] = refl
 all_sizes (first ∷ rest) = ap (λ n. expression_size first + n) (all_sizes rest) ∙ sym (sum_by-cons expression_size first rest)

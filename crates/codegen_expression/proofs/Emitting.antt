@@ -18,7 +18,7 @@ puts_do old new i is leave again rest =
     let n : length new ≡ length old + 1 = omega (arith, ap length is, length-append old (i ∷ [])) in
     ap (λ m. new ++ flat leave again m rest) n ∙ ap (λ (l : List Instr). l ++ flat leave again (length old + 1) rest) is ∙ append_assoc old (i ∷ []) (flat leave again (length old + 1) rest)
 
--- one part behind the other
+-- one part after the other
 pub puts_both : (old middle new : List Instr) (first second : Plan → Plan) → Puts old middle first → Puts middle new second → Puts old new (λ rest. first (second rest))
 puts_both old middle new first second p q leave again rest = q leave again rest ∙ p leave again (second rest)
 
@@ -26,7 +26,7 @@ puts_both old middle new first second p q leave again rest = q leave again rest 
 pub puts_alone : (old new : List Instr) (part : Plan → Plan) → Puts old new part → (leave again : ℕ) → new ≡ old ++ flat leave again (length old) (part Skip)
 puts_alone old new part p leave again = sym (append-nil new) ∙ p leave again Skip
 
--- a plan that leads on, and one behind it
+-- a plan that leads on, and one after it
 followed : (i0 i4 : List Instr) (first rest : Plan) (leave again : ℕ) → reaches_end first ≡ true → i4 ≡ i0 ++ flat leave again (length i0) first → i4 ++ flat leave again (length i4) rest ≡ i0 ++ flat leave again (length i0) (Seq first rest)
 followed i0 i4 first rest leave again leads is =
     let part = flat leave again (length i0) first in

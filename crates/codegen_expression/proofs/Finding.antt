@@ -11,7 +11,7 @@ use Rattle.codegen_base.specs.declared.element.Element.TheVariants as elements
 use Rattle.codegen_base.specs.Elements.{same_element, found_at, element_of, with_element, with_type}
 use Rattle.codegen_base.proofs.Noted.{element_same, element_itself, element_stays, type_noted}
 
--- an element is the same as another one where that one is the same as it
+-- equality of elements is symmetric
 same_turned : (a b : Element) → same_element a b ≡ same_element b a
 same_turned a b = go (same_element a b) (same_element b a) refl refl where
   go : (s t : Bool) → same_element a b ≡ s → same_element b a ≡ t → s ≡ t
@@ -42,7 +42,7 @@ found_last (y ∷ all) e x none = apart (same_element e y) refl none (λ inside.
   apart true is h more = absurd cc
   apart false is h more = go (same_element x y) (same_element e x) refl refl is (more (none_inside (found_at all e) h))
 
--- elements are compared as they are told apart
+-- elements are compared as they are distinguished
 compared : (a b : Element) → ghosts.eq a b ≡ same_element a b
 compared elements.Int elements.Int = refl
 compared elements.Int elements.Bool = refl

@@ -39,7 +39,7 @@ leads_settled elements (Some (Typed t)) kind emitted rest e is = e
 leads_settled elements (Some (Constant v)) kind emitted rest e is = is
 leads_settled elements (Some Nil) kind emitted rest e is = is
 
--- one of two ways, and what comes behind
+-- one of two ways, and what comes after
 both_ways : (so other rest : Plan) → Reaches so → Reaches rest → Reaches (Seq (IfElse so other) rest)
 both_ways so other rest a b = ap (λ x. (x || reaches_end other) && reaches_end rest) a ∙ b
 

@@ -1,4 +1,4 @@
--- Instructions of operators, behind those of their operands.
+-- Instructions of operators, after those of their operands.
 use Rattle.std.proofs.Common.{◌≡◌, ℕ, ◌+◌, ◌-◌, ◌<◌, ◌≤◌, true, false, List, [], ◌∷◌, ◌++◌, length, map, take, Option, Some, None, refl, sym, ap, ◌∙◌, subst, arith, append_assoc, length-append}
 use Rattle.std.specs.Prelude.{slice_set}
 use Rattle.std.proofs.Math.Seq.{take-append_seam}
@@ -28,7 +28,7 @@ pub puts_two : (old new : List Instr) (i j : Instr) → new ≡ old ++ i ∷ j �
 puts_two old new i j is =
     puts_both old (old ++ i ∷ []) new (Do i) (Do j) (puts_do old (old ++ i ∷ []) i refl) (puts_do (old ++ i ∷ []) new j (is ∙ sym (append_assoc old (i ∷ []) (j ∷ []))))
 
--- an instruction behind a part
+-- an instruction after a part
 pub puts_then : (part : Plan → Plan) (i : Instr) (i0 i1 i2 : List Instr) → Puts i0 i1 part → i2 ≡ i1 ++ i ∷ [] → Puts i0 i2 (λ rest. part (Do i rest))
 puts_then part i i0 i1 i2 p is = puts_both i0 i1 i2 part (Do i) p (puts_do i1 i2 i is)
 
@@ -64,7 +64,7 @@ puts_settled elements (Some (Typed t)) kind old middle new part p is = subst (λ
 puts_settled elements (Some (Constant v)) kind old middle new part p is = puts_instead old middle new part _ p is
 puts_settled elements (Some Nil) kind old middle new part p is = puts_instead old middle new part _ p is
 
--- ---- && and ||, whose targets are known behind them
+-- ---- && and ||, whose targets are known after them
 
 set_middle : (xs ys : List Instr) (i j : Instr) → slice_set (xs ++ i ∷ ys) (length xs) j ≡ xs ++ j ∷ ys
 set_middle [] ys i j = refl
@@ -74,7 +74,7 @@ set_middle (x ∷ xs) ys i j = ap (λ (l : List Instr). x ∷ l) (set_middle xs 
 puts_longer : (old new : List Instr) (part : Plan → Plan) → Puts old new part → length old ≤ length new
 puts_longer old new part p = let more = ap length (puts_alone old new part p 0 0) ∙ length-append old (flat 0 0 (length old) (part Skip)) in omega (arith, more)
 
--- what is put behind stays so where an instruction before it is another one
+-- what a part appends stays the same if an instruction before it is replaced
 puts_set : (old new : List Instr) (at : ℕ) (i : Instr) (part : Plan → Plan) → at < length old → Puts old new part → Puts (slice_set old at i) (slice_set new at i) part
 puts_set old new at i part le p leave again rest =
     let longer = puts_longer old new part p in
@@ -157,7 +157,7 @@ module _ (kind : ValueType) (l r : Plan → Plan) (i0 i1 i2 i3 i4 : List Instr) 
   between_put symbols.Greater on e2 e4 = plain_put _ e2 e4
   between_put symbols.GreaterEqual on e2 e4 = plain_put _ e2 e4
 
--- only && and || have something between their operands, and something else than one instruction behind them
+-- only && and || have something between their operands, and something else than one instruction after them
 pub opened_plainly : (operator : BinaryOperator) (code : List Instr) → is_logical operator ≡ false → code ≡ opened operator code
 opened_plainly symbols.LogicalAnd code is = absurd cc
 opened_plainly symbols.LogicalOr code is = absurd cc

@@ -24,7 +24,7 @@ module _ (globals : Globals) (elements : List Element) (scope : Scope) where
   puts_own e w kind first i0 i1 i2 n is k p more =
       subst (λ s. Puts i0 i2 (pushes globals elements scope s e)) (k ∙ ap kind_in is) (puts_pushes kind e w first i0 i1 i2 n is p more)
 
-  -- a right operand and the operator, behind what pushes the left one
+  -- a right operand and the operator, after what pushes the left one
   pub puts_right : (operator : BinaryOperator) (a b : Option Worth) (right : Expression) (first second : ℕ) (i0 i1 i2 i3 i4 : List Instr) (part : Plan → Plan) → length i0 ≡ first → second ≡ length i2 → b ≡ worth globals scope right
       → Puts i0 i1 part → i2 ≡ led operator a first i1 → Puts i2 i3 (emits globals elements scope right) → i4 ≡ operated elements operator a b first second i3
       → Puts i0 i4 (operates elements operator a (worth globals scope right) (kind_in a) (kind_in (worth globals scope right)) part (emits globals elements scope right))

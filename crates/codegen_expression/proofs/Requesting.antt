@@ -1,4 +1,4 @@
--- Calls and operations on channels, behind their operands.
+-- Calls and operations on channels, after their operands.
 use Rattle.std.proofs.Common.{◌≡◌, ◌<◌, ℕ, pos, List, [], ◌∷◌, ◌++◌, map, Option, Some, None, option_map, refl, sym, ap, ◌∙◌, slice_get, IfSome, arith}
 use Rattle.std.specs.Prelude.{unwrap_or}
 use Rattle.std.proofs.lemmas.Option.{slice_get-map}

@@ -25,6 +25,6 @@ elements_of context = context.elements.now
 abbrev pub scope_in : Context → Visible → Scope
 scope_in context visible = scope_of context.table.now visible
 
--- what an operand is worth
+-- the type or constant value of an operand
 abbrev pub worth_in : Context → Option InMemory → Option Worth
 worth_in context operand = option_map (worth_of (types_in context)) operand

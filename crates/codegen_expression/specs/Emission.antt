@@ -1,4 +1,4 @@
--- Instructions that are appended for a part of a plan, whatever comes behind it.
+-- Instructions that are appended for a part of a plan, whatever comes after it.
 use Rattle.std.specs.Int.{w64, int_wrap}
 use Rattle.std.specs.Prelude.{◌≡◌, ◌+◌, ◌-◌, ℕ, true, false, List, [], ◌∷◌, ◌++◌, length, slice_set, take, IfSome, Option, Some, None}
 use Rattle.syntax.specs.declared.node.UnaryOperator.{UnaryOperator}
@@ -19,8 +19,8 @@ use Rattle.codegen_base.specs.Elements.{element_of as element_for, found_at, kin
 use Rattle.codegen_base.specs.Pushes.{compared, elements_shape, emits_all, literal_plan, literal_types, operator_of, pushes_zeros, words_of}
 use Rattle.plan.specs.Plan.{Plan, flat}
 
--- what is behind the old instructions is a part of a plan: with the instructions of each plan behind them, they are those of
--- the part with that plan
+-- what comes after the old instructions is a part of a plan: with the instructions of any plan after them, they are
+-- those of the part with that plan
 abbrev pub Puts : List Instr → List Instr → (Plan → Plan) → Type 0
 Puts old new part = (leave again : ℕ) (rest : Plan) → new ++ flat leave again (length new) rest ≡ old ++ flat leave again (length old) (part rest)
 
@@ -50,11 +50,11 @@ settling elements None kind first code = code
 abbrev pub kind_in : Option Worth → ValueType
 kind_in worth = known (default_type worth)
 
--- behind the right operand of `&&` comes `false`, to which the instruction `test` leads
+-- after the right operand of `&&` comes `false`, to which the instruction `test` leads
 abbrev pub or_false : ℕ → List Instr → List Instr
 or_false test code = slice_set code test (instrs.Unless (length code + 1)) ++ instrs.Jump (length code + 2) ∷ instrs.Bool false ∷ []
 
--- behind the left operand of `||`, so many instructions from the start: `true` where it is, and a jump that is aimed later
+-- after the left operand of `||`, at `start`: `true` if it is, and a jump that is aimed later
 abbrev pub true_or : ℕ → List Instr
 true_or start = instrs.Unless (start + 3) ∷ instrs.Bool true ∷ instrs.Jump 0 ∷ []
 
@@ -67,7 +67,7 @@ opening operator start = []
 abbrev pub opened : BinaryOperator → List Instr → List Instr
 opened operator code = code ++ opening operator (length code)
 
--- a left operand, whose own instructions begin at `first`: a constant is pushed at once, and `nil` behind the right one
+-- a left operand, whose own instructions begin at `first`: a constant is pushed at once, and `nil` after the right one
 abbrev pub led : BinaryOperator → Option Worth → ℕ → List Instr → List Instr
 led operator (Some (Constant value)) first code = opened operator (take first code ++ instrs.Int (int_wrap w64 value) ∷ [])
 led operator (Some Nil) first code = take first code
@@ -80,7 +80,7 @@ closing symbols.LogicalAnd kind second code = or_false (second - 1) code
 closing symbols.LogicalOr kind second code = slice_set code (second - 1) (instrs.Jump (length code))
 closing operator kind second code = code ++ instrs.Apply (operator_of operator kind) ∷ []
 
--- an operator behind both operands, whose instructions begin at `first` and `second`. Two constants are compared
+-- an operator after both operands, whose instructions begin at `first` and `second`. Two constants are compared
 abbrev pub operated : List Element → BinaryOperator → Option Worth → Option Worth → ℕ → ℕ → List Instr → List Instr
 operated elements operator (Some (Constant a)) (Some (Constant b)) first second code = take first code ++ compared operator a b ∷ []
 operated elements operator (Some Nil) right first second code =
@@ -104,7 +104,7 @@ literal_part globals elements scope kind values rest =
 abbrev pub receiving : List Element → Option Worth → Instr
 receiving elements channel = instrs.Receive (shape_of elements (known (element_of channel)))
 
--- where it is known, a place is that of the element of an operand's type
+-- an index, if it is known, is that of the element of an operand's type
 abbrev pub IsPlaced : List Element → Option Worth → Option ℕ → Type 0
 IsPlaced elements operand place = IfSome place (λ n. found_at elements (element_for elements (kind_in operand)) ≡ Some n)
 

@@ -37,14 +37,14 @@ use type_table::scope::Visible;
 use type_table::table::TypeTable;
 use type_table::value_type::{ValueType, element_in, type_in};
 
-/// The number of the function of this name; where there is none, 0.
+/// The number of the function of this name, or 0 if there is none.
 pub(crate) fn callee(table: &TypeTable<'_>, name: &Name) -> usize
     ensures { result ≡ number_of (globals_in table.now) (name_of name.now) }
 {
     function_number(table, name.bytes.as_slice()).unwrap_or(0)
 }
 
-/// The types of the parameters of the function with this number; where there is none, no types.
+/// The types of the parameters of the function with this number, or no types if there is none.
 pub(crate) fn parameters_at<'a, 't>(table: &'a TypeTable<'t>, number: usize) -> &'a [ValueType<'t>]
     ensures { map (kind_of (types_of table.now)) result.now ≡ map known (parameters_of (globals_in table.now) number) }
 {
@@ -83,15 +83,14 @@ pub fn carried_in<'t>(table: &TypeTable<'t>, channel: Option<Worth<'t>>) -> Valu
     carried_by(table, kind_in(channel))
 }
 
-/// A channel, or what was received from one: what it is worth, and the place of the element of its type, where it is known.
+/// A channel, or what was received from one: its type or constant value, and the index of its type's element, if it is known.
 #[derive(Clone, Copy)]
 pub(crate) struct Placed<'k> {
     pub worth: Option<Worth<'k>>,
     pub place: Option<usize>,
 }
 
-/// The place that the element at a place tells, if it is a channel's. The first place may stand for an element that is not
-/// there.
+/// The index that the element at `place` carries, if it is a channel's. `place` may name an element that is not there.
 fn place_within(elements: &ElementList, place: Option<usize>) -> Option<usize>
     ensures { (element : OneElement) → IfSome place (λ n. found_at elements.now element ≡ Some n) → IfSome result (λ n. (element ≡ variants.Channel n) × (0 < n)) }
 {
@@ -116,7 +115,7 @@ fn item_place<'k>(context: &Context<'_, 'k>, channel: Placed<'k>) -> Option<usiz
     }
 }
 
-/// Receives from a channel, which is pushed: its item and whether it was sent are pushed. Answers what the item is worth.
+/// Receives from a channel, which is pushed: its item and whether it was sent are pushed. Returns the item's type.
 pub(crate) fn put_receive<'k>(
     context: &Context<'_, 'k>,
     channel: Placed<'k>,
@@ -154,7 +153,7 @@ pub(crate) fn put_make<'k>(
 
 /// Pushes a channel, and returns the type of what it carries.
 ///
-/// Errors: want of memory.
+/// Errors: out of memory.
 pub fn push_channel<'k>(
     context: &Context<'_, 'k>,
     visible: &Visible<'k>,
@@ -170,7 +169,7 @@ pub fn push_channel<'k>(
 
 /// Receives from a channel: the item and whether it was sent are pushed. Returns the item's type.
 ///
-/// Errors: want of memory.
+/// Errors: out of memory.
 pub fn push_received<'k>(
     context: &Context<'_, 'k>,
     visible: &Visible<'k>,
@@ -187,7 +186,7 @@ pub fn push_received<'k>(
 
 /// Pushes the arguments of a call of the function of this name, and returns its number.
 ///
-/// Errors: want of memory.
+/// Errors: out of memory.
 pub fn push_arguments<'k>(
     context: &Context<'_, 'k>,
     visible: &Visible<'k>,

@@ -1,4 +1,4 @@
-//! Lists of what channels carry, each element once. The place of one is the number of its shape.
+//! Lists of what channels carry, each element once. An element's index is the number of its shape.
 
 ghost use Rattle.std.specs.Prelude.{◌≡◌, ℕ, ◌+◌, ◌<◌, ◌^◌, List, [], ◌∷◌, ◌++◌, length, slice_get, OnOk, OnErr};
 ghost use Rattle.codegen_base.specs.declared.element.Element.{Element as OneElement};
@@ -39,14 +39,14 @@ impl ElementList {
         }
     }
 
-    /// The elements, in the order of their places.
+    /// The elements, in the order of their indices.
     pub fn elements(&self) -> &[Element]
         ensures { result.now ≡ self.now }
     {
         self.elements.as_slice()
     }
 
-    /// The element at a place.
+    /// The element at an index.
     pub fn element_at(&self, place: usize) -> Option<Element>
         ensures { result ≡ slice_get self.now place }
     {
@@ -60,7 +60,7 @@ impl ElementList {
         self.places.get(&element).copied()
     }
 
-    /// The place of an element; of one that is not there, 0.
+    /// The index of an element, or 0 if it is not there.
     #[tactic(auto, using(crate::proofs::Finding::place_below))]
     pub fn place_of(&self, element: Element) -> u32
         ensures { result ≡ place_of self.now element }

@@ -34,10 +34,10 @@ use type_table::layout::field_of;
 use type_table::scope::Visible;
 use type_table::value_type::ValueType;
 
-/// Emits an expression, and answers what it is worth. A constant and `nil` are pushed only where their use tells as what:
-/// the instructions that they have of themselves are then taken back.
+/// Emits an expression, and returns its type or constant value. A constant or `nil` is pushed only where its use gives
+/// it a type: the instructions that it emitted itself are then taken back.
 ///
-/// Errors: want of memory.
+/// Errors: out of memory.
 #[cycle(emit)]
 pub fn emit<'t, 'v, 'm, 'k>(
     context: &'t Context<'t, 'k>,
@@ -95,10 +95,9 @@ pub fn emit<'t, 'v, 'm, 'k>(
     }
 }
 
-/// Emits a channel. Of one that was received it answers the place of the element too, so that receives within one another
-/// need not look for each.
+/// Emits a channel. For a received one it also returns the index of the element, so that nested receives need not look for each.
 ///
-/// Errors: want of memory.
+/// Errors: out of memory.
 #[cycle(emit)]
 pub(crate) fn emit_channel<'t, 'v, 'm, 'k>(
     context: &'t Context<'t, 'k>,
@@ -140,7 +139,7 @@ fn emit_receive<'t, 'v, 'm, 'k>(
 
 /// Pushes a value as one of a type.
 ///
-/// Errors: want of memory.
+/// Errors: out of memory.
 #[cycle(emit)]
 pub fn push<'t, 'v, 'm, 'k>(
     context: &'t Context<'t, 'k>,
@@ -176,10 +175,10 @@ fn emit_binary<'t, 'v, 'm, 'k>(
     Ok(worth_between(context.table, operator, a, b))
 }
 
-/// Emits an operator and its right operand behind a left one, whose instructions begin at `first`. Answers what the right
-/// one is worth.
+/// Emits an operator and its right operand after a left one, whose instructions begin at `first`. Returns the right
+/// one's type or constant value.
 ///
-/// Errors: want of memory.
+/// Errors: out of memory.
 #[cycle(emit)]
 pub fn emit_right<'t, 'v, 'm, 'k>(
     context: &'t Context<'t, 'k>,
@@ -219,7 +218,7 @@ fn emit_composite<'t, 'v, 'f, 'm, 'k>(
     Ok(made)
 }
 
-/// Emits the fields of a literal of this type, or its zeros where there are no values.
+/// Emits the fields of a literal of this type, or its zeros if there are no values.
 #[cycle(emit)]
 fn emit_literal<'t, 'v, 'm, 'k>(
     context: &'t Context<'t, 'k>,
@@ -277,7 +276,7 @@ pub(crate) fn emit_arguments<'t, 'v, 'f, 'm, 'k>(
 
 /// Emits values as values of these types, in order.
 ///
-/// Errors: want of memory.
+/// Errors: out of memory.
 #[cycle(emit)]
 pub fn emit_all<'t, 'v, 'f, 'm, 'k>(
     context: &'t Context<'t, 'k>,

@@ -39,7 +39,7 @@ fn note_type(
     }
 }
 
-/// The same for a type that may be left out.
+/// Like `note_type`, for a type that may be left out.
 #[tactic(auto, using(crate::proofs::Counting::any_length))]
 fn note_any(
     table: &TypeTable<'_>,
@@ -56,7 +56,7 @@ fn note_any(
     }
 }
 
-/// The same for an expression: a `make` names a type.
+/// Like `note_type`, for an expression: a `make` names a type.
 #[cycle(expression)]
 #[tactic(auto, using(crate::proofs::Counting::expression_length))]
 fn note_expression<'t, 'e, 's>(
@@ -91,7 +91,7 @@ fn note_expression<'t, 'e, 's>(
     }
 }
 
-/// The same for the values of a literal, a call or a right side.
+/// Like `note_expression`, for the values of a literal, a call or a right side.
 #[cycle(expression)]
 #[tactic(auto, using(crate::proofs::Counting::expressions_length))]
 fn note_expressions<'t, 'e, 's>(
@@ -110,7 +110,7 @@ fn note_expressions<'t, 'e, 's>(
     note_expressions(table, elements, values)
 }
 
-/// The same for values, which are counted one by one.
+/// Like `note_expressions`, for values that are counted one by one.
 #[tactic(auto, using(crate::proofs::Counting::all_sizes))]
 fn note_values(
     table: &TypeTable<'_>,
@@ -124,7 +124,7 @@ fn note_values(
     note_expressions(table, elements, values)
 }
 
-/// The same for an expression that may be left out.
+/// Like `note_expression`, for an expression that may be left out.
 fn note_optional(
     table: &TypeTable<'_>,
     elements: &mut ElementList,
@@ -140,7 +140,7 @@ fn note_optional(
     }
 }
 
-/// The same for what is printed.
+/// Like `note_expression`, for what is printed.
 #[tactic(auto, using(crate::proofs::Counting::parts_length))]
 fn note_parts(
     table: &TypeTable<'_>,
@@ -159,7 +159,7 @@ fn note_parts(
     Ok(())
 }
 
-/// The same for a simple statement.
+/// Like `note_expression`, for a simple statement.
 fn note_simple(
     table: &TypeTable<'_>,
     elements: &mut ElementList,
@@ -189,7 +189,7 @@ fn note_simple(
     }
 }
 
-/// The same for a right side that may be left out.
+/// Like `note_values`, for a right side that may be left out.
 fn note_given(
     table: &TypeTable<'_>,
     elements: &mut ElementList,
@@ -205,7 +205,7 @@ fn note_given(
     }
 }
 
-/// The same for a simple statement that may be left out.
+/// Like `note_simple`, for a simple statement that may be left out.
 fn note_first(
     table: &TypeTable<'_>,
     elements: &mut ElementList,
@@ -221,7 +221,7 @@ fn note_first(
     }
 }
 
-/// The same for what stands before the condition of an `if`.
+/// Like `note_simple`, for what stands before the condition of an `if`.
 fn note_header(
     table: &TypeTable<'_>,
     elements: &mut ElementList,
@@ -237,7 +237,7 @@ fn note_header(
     }
 }
 
-/// The same for the head of a loop.
+/// Like `note_simple`, for the head of a loop.
 fn note_head(
     table: &TypeTable<'_>,
     elements: &mut ElementList,
@@ -259,7 +259,7 @@ fn note_head(
     }
 }
 
-/// The same for the send or receive of a clause; the default clause has none.
+/// Like `note_simple`, for the send or receive of a clause; the default clause has none.
 fn note_comm(
     table: &TypeTable<'_>,
     elements: &mut ElementList,
@@ -283,7 +283,7 @@ fn note_comm(
     }
 }
 
-/// The same for what is returned.
+/// Like `note_expression`, for what is returned.
 fn note_returned(
     table: &TypeTable<'_>,
     elements: &mut ElementList,
@@ -299,7 +299,7 @@ fn note_returned(
     }
 }
 
-/// The same for a statement.
+/// Like `note_expression`, for a statement.
 #[cycle(statement)]
 #[tactic(auto, using(crate::proofs::Counting::statement_length))]
 fn note_statement<'t, 'e, 's>(
@@ -333,7 +333,7 @@ fn note_statement<'t, 'e, 's>(
     }
 }
 
-/// The same for the statements of a block.
+/// Like `note_statement`, for the statements of a block.
 #[cycle(statement)]
 #[tactic(auto, using(crate::proofs::Counting::statements_length))]
 fn note_statements<'t, 'e, 's>(
@@ -351,7 +351,7 @@ fn note_statements<'t, 'e, 's>(
     Ok(())
 }
 
-/// The same for an `if`.
+/// Like `note_statement`, for an `if`.
 #[cycle(statement)]
 #[tactic(auto, using(crate::proofs::Counting::branch_length))]
 fn note_branch<'t, 'e, 's>(
@@ -369,7 +369,7 @@ fn note_branch<'t, 'e, 's>(
     note_otherwise(table, elements, &branch.otherwise)
 }
 
-/// The same for what an `else` holds.
+/// Like `note_statement`, for what an `else` holds.
 #[cycle(statement)]
 #[tactic(auto, using(crate::proofs::Counting::otherwise_length))]
 fn note_otherwise<'t, 'e, 's>(
@@ -388,7 +388,7 @@ fn note_otherwise<'t, 'e, 's>(
     }
 }
 
-/// The same for the clauses of a select.
+/// Like `note_statement`, for the clauses of a select.
 #[cycle(statement)]
 #[tactic(auto, using(crate::proofs::Counting::clauses_length))]
 fn note_clauses<'t, 'e, 's>(
@@ -407,7 +407,7 @@ fn note_clauses<'t, 'e, 's>(
     Ok(())
 }
 
-/// The same for fields or parameters.
+/// Like `note_type`, for fields or parameters.
 #[tactic(auto, using(crate::proofs::Counting::declared_length))]
 fn note_declared(
     table: &TypeTable<'_>,
@@ -424,7 +424,7 @@ fn note_declared(
     Ok(())
 }
 
-/// The same for a declaration.
+/// Like `note_type`, for a declaration.
 #[tactic(auto, using(crate::proofs::Counting::top_length))]
 fn note_top(
     table: &TypeTable<'_>,

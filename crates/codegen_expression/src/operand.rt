@@ -23,7 +23,7 @@ use type_table::value_type::{ValueType, element_in};
 
 /// A number of the code.
 ///
-/// Errors: it is 2^32 or larger, which counts as want of memory.
+/// Errors: it is 2^32 or larger, which counts as out of memory.
 pub fn number(wide: usize) -> Result<u32, AllocError>
     ensures fits { IfOk result (λ narrow. narrow ≡ wide) }
     ensures small { IfOk result (λ _. wide < 2 ^ 32) }
@@ -35,7 +35,7 @@ pub fn number(wide: usize) -> Result<u32, AllocError>
     }
 }
 
-/// Puts an instruction behind the others.
+/// Puts an instruction after the others.
 pub fn put(code: &mut Vec<Instr>, instr: Instr) -> Result<(), AllocError>
     ensures { OnOk result (code.new.items ≡ code.old.items ++ instr ∷ []) }
 {
@@ -135,10 +135,10 @@ pub fn kind_in<'t>(operand: Option<Worth<'t>>) -> ValueType<'t>
     }
 }
 
-/// An operand is used as a value of this type: where it is a constant, or `nil`, that is pushed in place of its own
+/// Uses an operand as a value of this type: if it is a constant, or `nil`, that is pushed in place of its own
 /// instructions, which begin at `first`.
 ///
-/// Errors: want of memory.
+/// Errors: out of memory.
 pub fn settle<'k>(
     context: &Context<'_, 'k>,
     operand: Option<Worth<'k>>,

@@ -1,4 +1,4 @@
-//! What operators do between their operands and behind them ("Operators" of the Go specification).
+//! What operators do between and after their operands ("Operators" of the Go specification).
 
 ghost use Rattle.std.specs.Prelude.{◌≡◌, ◌++◌, ◌≤◌, ◌^◌, ◌∷◌, [], IfErr, OnOk, length, option_map, slice_set};
 ghost use Rattle.type_table.specs.Views.{kind_of};
@@ -25,7 +25,7 @@ fn aim(code: &mut Vec<Instr>, at: usize, instr: Instr)
     }
 }
 
-/// Behind the left operand of `||` comes `true` where it is, and a jump over the right one, which is aimed later.
+/// After the left operand of `||` comes `true` if it is, and a jump over the right one, which is aimed later.
 fn open_or(code: &mut Vec<Instr>) -> Result<(), AllocError>
     ensures { OnOk result (code.new.items ≡ code.old.items ++ true_or (length code.old.items)) }
 {
@@ -46,10 +46,10 @@ fn open(operator: BinaryOperator, code: &mut Vec<Instr>) -> Result<(), AllocErro
     }
 }
 
-/// What comes behind a left operand, whose instructions begin at `first`. A constant is pushed at once, `nil` only behind
+/// What comes after a left operand, whose instructions begin at `first`. A constant is pushed at once, `nil` only after
 /// the right operand.
 ///
-/// Errors: want of memory.
+/// Errors: out of memory.
 pub(crate) fn lead<'k>(
     operator: BinaryOperator,
     left: Option<Worth<'k>>,
@@ -122,10 +122,9 @@ fn close_nil<'k>(
     put(code, Instr::Apply(operator_of(operator, kind)))
 }
 
-/// What comes behind both operands, whose instructions begin at `first` and `second`. Two constants are compared here and
-/// now.
+/// What comes after both operands, whose instructions begin at `first` and `second`. Two constants are compared at compile time.
 ///
-/// Errors: want of memory.
+/// Errors: out of memory.
 pub(crate) fn operate<'k>(
     context: &Context<'_, 'k>,
     operator: BinaryOperator,

@@ -43,7 +43,7 @@ pub fn shape_of<'k>(context: &Context<'_, 'k>, kind: ValueType<'k>) -> u32
     context.elements.place_of(element)
 }
 
-/// Notes the elements of the channels in a type, those within others first, and answers what a channel of the type carries.
+/// Notes the elements of the channels in a type, innermost first, and returns what a channel of the type carries.
 #[tactic(auto, using(crate::proofs::Counting::with_length, crate::proofs::Finding::element_kept))]
 pub fn note_kind<'t, 'e, 'k>(
     table: &'t TypeTable<'k>,
@@ -80,7 +80,7 @@ pub fn word_kind<'k>(context: &Context<'_, 'k>, kind: ValueType<'k>) -> WordKind
     }
 }
 
-/// Puts the kinds of the words of a value behind others.
+/// Puts the kinds of a value's words after the others.
 pub fn put_kinds<'a>(
     context: &Context<'_, 'a>,
     kind: ValueType<'a>,

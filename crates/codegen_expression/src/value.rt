@@ -17,9 +17,9 @@ use syntax::ExpressionNode;
 use type_table::scope::Visible;
 use type_table::value_type::ValueType;
 
-/// Pushes a value that has a type of its own, and answers the type.
+/// Pushes a value that has a type of its own, and returns the type.
 ///
-/// Errors: want of memory.
+/// Errors: out of memory.
 pub fn push_own<'t>(
     context: &Context<'_, 't>,
     visible: &Visible<'t>,

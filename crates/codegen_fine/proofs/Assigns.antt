@@ -76,7 +76,7 @@ names_taken globals elements layout (name ∷ names) (kind ∷ types) = ap (λ k
   go None = refl
   go (Some v) = refl
 
--- the variables behind names are those by the worths of their values
+-- the variables after names are those by the types of their values
 abbrev first_default : List (Option Worth) → Option ValueType
 first_default [] = None
 first_default (w ∷ ws) = default_type w

@@ -1,4 +1,4 @@
--- What is asked of what is made of statements, and what is so of it; sequences, conditions and loops by their parts.
+-- What is required of what is made of statements, and what is so of it; sequences, conditions and loops by their parts.
 use Rattle.std.proofs.Common.{◌≡◌, ℕ, zero, suc, ◌+◌, List, [], ◌∷◌, ◌++◌, length, Option, Some, None, IsTrue, IfSome, refl, sym, ap, ◌∙◌, subst, arith, slice_get, inl, inr}
 use Rattle.std.proofs.lemmas.Bool.{OnTrue_from, OnTrue_at}
 use Rattle.syntax.specs.Tree.{Expression, Simple, CallAlone, Close, Print, ReceiveAlone, Send, Increment, Decrement, Assign, Define, Update}
@@ -45,7 +45,7 @@ pub prints_back : (code : Code) (first : ℕ) (xs ys : List PrintTable) → Prin
 prints_back code first xs ys h n x e = let z : first + length xs + n ≡ first + (length xs + n) = omega arith in subst (λ k. slice_get code.prints k ≡ Some x) (sym z) (h (length xs + n) x (back_there xs ys n x e))
 
 module _ (globals : Globals) (elements : List Element) (code : Code) (f : CodeFunction) (grounds : Grounds globals elements code) where
-  -- what is made of statements leads from an empty stack to an empty one, where its selects find their tables
+  -- what is made of statements leads from an empty stack to an empty one, if its selects find their tables
   abbrev pub Runs : Allowed → Plan → Type 0
   Runs a plan = (place : ℕ) → Tabled code.selects place plan → Typed code f a [] plan []
 
@@ -53,7 +53,7 @@ module _ (globals : Globals) (elements : List Element) (code : Code) (f : CodeFu
     pub runs : Runs a made.plan
     pub room : Room globals elements code f made.layout
 
-  -- the variables behind it are those that the typing rules see
+  -- the variables after it are those that the typing rules see
   abbrev pub IsMadeAlike : Allowed → Made → Scope → Type 0
   IsMadeAlike a made after = IsMade a made × Alike after made.layout.scope
 

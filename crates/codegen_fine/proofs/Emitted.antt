@@ -246,7 +246,7 @@ module _ (globals : Globals) (elements : List Element) (code : Code) (f : CodeFu
           typed_emits channel first (λ flaw h. free flaw (inl h)) make (ChannelType d c) ch a ks out (Do instrs.Cap rest)
           (capacities_typed globals elements code f grounds d c a ks out rest (subst (λ j. Typed code f a (ks ++ kinds_of globals.structs elements j) rest out) (sym (typed_same IntType k is)) t))
 
-      -- values, one behind the other
+      -- values, one after the other
       pub typed_all : (values : Expressions) (types : List ValueType) (first : ℕ) → Free (ExpressionsHave globals s first values) → ExpressionsMake globals.types elements values → AllFit globals s values types → AllNoted elements types → Puts globals.structs elements code f (all_kinds globals.structs elements types) (emits_all globals elements scope types values)
       typed_all NoMore [] first free make fit noted a ks out rest t = subst (λ (l : List WordKind). Typed code f a l rest out) (append-nil ks) t
       typed_all NoMore (kind ∷ types) first free make fit noted a ks out rest t = absurd fit

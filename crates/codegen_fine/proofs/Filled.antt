@@ -1,4 +1,4 @@
--- No shape is empty, where each group of fields declares a name.
+-- No shape is empty, if each group of fields declares a name.
 use Rattle.std.proofs.Common.{◌≡◌, ℕ, zero, suc, ◌+◌, ◌<◌, ◌≤◌, Bool, true, false, List, [], ◌∷◌, ◌++◌, length, Option, Some, None, option_map, refl, sym, ap, ◌∙◌, subst, arith, slice_get, inl, inr, bytes_eq}
 use Rattle.std.specs.Prelude.{if◌then◌else◌, codes}
 use Rattle.std.specs.Option.{is_some}
@@ -30,7 +30,7 @@ use Rattle.codegen_fine.proofs.Shapes.{last_or_old, mapped_from}
 
 -- ---- structs that are named have numbers that are there
 
--- the structs of a type are among so many
+-- the structs of a type are among `many`
 abbrev Inside : ℕ → ValueType → Type 0
 Inside many IntType = Unit {0}
 Inside many BoolType = Unit {0}
@@ -94,7 +94,7 @@ many_structs types [] = refl
 many_structs types (StructTop struct ∷ rest) = ap suc (many_structs types rest)
 many_structs types (FunctionTop function ∷ rest) = many_structs types rest
 
--- there is a first field, the structs of whose type are among so many
+-- there is a first field, the structs of whose type are among `many`
 abbrev Filled : ℕ → List Field → Type 0
 Filled many [] = ⊥
 Filled many (field ∷ rest) = Inside many (known field.kind)

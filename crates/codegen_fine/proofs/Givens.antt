@@ -45,7 +45,7 @@ WantsNoted elements [] = Unit {0}
 WantsNoted elements (None ∷ wants) = WantsNoted elements wants
 WantsNoted elements (Some kind ∷ wants) = Noted elements kind × WantsNoted elements wants
 
--- the type of what is taken where values of types are given
+-- the type of what is taken if values of types are given
 abbrev pub taken : Option ValueType → ValueType → ValueType
 taken None kind = kind
 taken (Some own) kind = own
@@ -86,7 +86,7 @@ assignable_itself (ChannelType directions.Both t) = identical_itself t
 assignable_itself (ChannelType directions.Send t) = identical_itself t
 assignable_itself (ChannelType directions.Receive t) = identical_itself t
 
--- ---- the values that are given have the same worths in scopes that are alike
+-- ---- the values that are given have the same types or constant values in scopes that are alike
 
 module _ (globals : Globals) (elements : List Element) (s scope : Scope) (alike : Sees s scope) where
   -- the worths of values

@@ -1,4 +1,4 @@
--- Layouts grow behind the locals that are there, and their variables stay among them.
+-- Layouts grow after the locals that are there, and their variables stay among them.
 use Rattle.std.proofs.Common.{◌≡◌, ℕ, zero, suc, ◌+◌, ◌≤◌, Bool, true, false, not, ◌&&◌, List, [], ◌∷◌, ◌++◌, length, drop, map, Option, Some, None, refl, sym, ap, ◌∙◌, subst, arith, append_assoc, length-append, bytes_eq}
 use Rattle.std.specs.Prelude.{if◌then◌else◌}
 use Rattle.std.specs.Option.{is_none}
@@ -155,7 +155,7 @@ module _ (globals : Globals) (elements : List Element) where
     housed_more [] v all h = (h, tt)
     housed_more (w ∷ vs) v all h = (all.0, housed_more vs v all.1 h)
 
-    -- the words behind a layout's own
+    -- the words after a layout's own
     pub new_housed : (kind : ValueType) (layout : Layout) → Room layout → (name : List ℕ) → Begins f (declaring globals elements kind name layout) → Noted elements kind → IsHoused globals elements f layout.scope.words (Some kind)
     new_housed kind layout room name begins noted =
         let ks = kinds_of globals.structs elements kind in
@@ -191,7 +191,7 @@ module _ (globals : Globals) (elements : List Element) where
       abbrev pub kinds_each : List ValueType → List (List WordKind)
       kinds_each types = map (kinds_of globals.structs elements) types
 
-      -- the spots of names fit, and the variables behind them are those that the typing rules see
+      -- the spots of names fit, and the variables after them are those that the typing rules see
       pub record NamesFit (base layout : Layout) (s : Scope) (names : List (List ℕ)) (values : List Given) : Type 0 where
         pub fit : SpotsFit globals.structs elements code f (name_spots globals elements layout names (given_types globals elements values)) (kinds_each (name_types globals elements base names (given_types globals elements values)))
         pub room : Room (declaring_all globals elements names (given_types globals elements values) layout)

@@ -119,7 +119,7 @@ module _ (globals : Globals) (elements : List Element) (result : Yield) where
   few_targets layout (Clause (Some comm) body more) [] = omega arith
   few_targets layout (Clause (Some comm) body more) (to ∷ places) = let rest = few_targets layout more places in omega (arith, rest)
 
-  -- so many clauses wait for nothing
+  -- how many clauses wait for nothing
   abbrev defaults : Clauses → ℕ
   defaults NoClause = 0
   defaults (Clause None body more) = suc (defaults more)
@@ -130,7 +130,7 @@ module _ (globals : Globals) (elements : List Element) (result : Yield) where
   counted (Clause None body more) = let h = counted more in omega (arith, h)
   counted (Clause (Some comm) body more) = let h = counted more in omega (arith, h)
 
-  -- ways that are there are no more than so many, and their tables are short
+  -- ways that are there are at most `n`, and their tables are short
   abbrev Ways : ℕ → Option Made → Type 0
   Ways n None = Unit {0}
   Ways n (Some m) = Short m × ((place : ℕ) → length (starts place m.plan) ≤ n)

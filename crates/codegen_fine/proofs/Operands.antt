@@ -1,4 +1,4 @@
--- What the code of operands and operators pushes, by what the operands are worth.
+-- What the code of operands and operators pushes, by the types or constant values of the operands.
 use Rattle.std.specs.Int.{w64, int_wrap}
 use Rattle.std.proofs.Common.{◌≡◌, ℕ, ℤ, ◌+◌, ◌<◌, ◌≤◌, Bool, true, false, ◌||◌, List, [], ◌∷◌, ◌++◌, length, map, Option, Some, Ok, refl, sym, ap, ◌∙◌, subst, slice_get, slice_range, ◌⊎◌, inl, inr, ⊎_elim}
 use Rattle.std.specs.Prelude.{if◌then◌else◌}
@@ -56,7 +56,7 @@ carried_compared operator d g s t k eq made = go (is_equality operator) eq (good
   go true e h = two h
   go false e h = absurd cc
 
--- the kinds of values of these types, one behind the other
+-- the kinds of values of these types, one after the other
 abbrev pub all_kinds : Structs → List Element → List ValueType → List WordKind
 all_kinds structs elements [] = []
 all_kinds structs elements (kind ∷ types) = kinds_of structs elements kind ++ all_kinds structs elements types
@@ -164,7 +164,7 @@ module _ (globals : Globals) (elements : List Element) (code : Code) (f : CodeFu
 
   -- ---- operands
 
-  -- where an operand has a type of its own, its code pushes a value of it, whose elements are noted
+  -- if an operand has a type of its own, its code pushes a value of it, whose elements are noted
   abbrev pub IsEmitted : (Plan → Plan) → Worth → Type 0
   IsEmitted push w = (t : ValueType) → w ≡ TypedWorth t → Noted elements t × P t push
 
@@ -175,7 +175,7 @@ module _ (globals : Globals) (elements : List Element) (code : Code) (f : CodeFu
       puts_int globals.structs elements code f (int_wrap w64 z) a ks out rest (subst (λ j. Typed code f a (ks ++ kinds_of globals.structs elements j) rest out) fits.0 ty)
   settled_pushed push Nil k fits noted emitted a ks out rest ty = let (d, c, is) = channel_is k fits in nil_pushed k d c is noted a ks out rest ty
 
-  -- the type of a worth
+  -- the type of an operand with this type or constant value
   abbrev pub type_worth : Worth → ValueType
   type_worth w = known (default_type (Some w))
 

@@ -58,7 +58,7 @@ module _ (globals : Globals) (elements : List Element) (f : CodeFunction) where
     go true e = absurd cc
     go false e = e
 
-  -- what is asked of the variables of a scope
+  -- what is required of the variables of a scope
   pub housed_of : (scope : Scope) → AllHoused scope.variables → Housed globals elements f scope
   housed_of scope all = record {
     known = λ name v found. let h = of name v found in (h.kind, h.has);
@@ -128,7 +128,7 @@ nowhere : (structs : Structs) (fields : List (List ℕ)) → None ≡ type_of_fi
 nowhere structs [] = refl
 nowhere structs (field ∷ rest) = refl
 
--- where two paths begin with one type, they lead to one
+-- if two paths begin with one type, they lead to one
 followed_alike : (structs : Structs) (fields : List (List ℕ)) (a b : Option Selected) → type_of_field a ≡ type_of_field b → type_of_field (followed structs a fields) ≡ type_of_field (followed structs b fields)
 followed_alike structs [] a b e = e
 followed_alike structs (field ∷ rest) None None e = refl

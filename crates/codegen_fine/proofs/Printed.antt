@@ -70,7 +70,7 @@ module _ (globals : Globals) (elements : List Element) where
           (typed_parts others (first + part_size (ValuePart value)) (λ flaw h. free flaw (inr h)) makes.1) a ks out rest
           (subst (λ (l : List WordKind). Typed code f a (ks ++ l) rest out) same t))
 
-    -- where the statement's table has its number, the statement leaves the stack as it was
+    -- if the statement's table has its number, the statement leaves the stack as it was
     pub typed_print : (layout : Layout) (housed : Housed globals elements f layout.scope) (s : Scope) (alike : Sees s layout.scope) (q : ℕ) (line trailing : Bool) (parts : List Part) (first : ℕ) → Free (SimpleHas globals s first (Print line parts trailing)) → PartsMake globals elements parts
         → (table : PrintTable) → q < length code.prints → slice_get code.prints q ≡ Some table → table.parts ≡ map (printed_part globals elements layout.scope) parts
         → (a : Allowed) (ks out : List WordKind) → Typed code f a ks Skip out → Typed code f a ks (simple_plan globals elements layout q (Print line parts trailing)) out

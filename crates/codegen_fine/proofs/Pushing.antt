@@ -97,7 +97,7 @@ module _ (structs : Structs) (elements : List Element) (code : Code) (f : CodeFu
   abbrev pub Pushes : ValueType → (Plan → Plan) → Type 0
   Pushes kind push = Puts (kinds_in kind) push
 
-  -- one behind the other
+  -- one after the other
   pub puts_both : (is js : List WordKind) (first second : Plan → Plan) → Puts is first → Puts js second → Puts (is ++ js) (λ rest. first (second rest))
   puts_both is js first second p q a ks out rest t = p a ks out (second rest) (q a (ks ++ is) out rest (subst (λ (l : List WordKind). Typed code f a l rest out) (sym (append_assoc ks is js)) t))
 
@@ -139,7 +139,7 @@ module _ (structs : Structs) (elements : List Element) (code : Code) (f : CodeFu
   puts_operator op i j k left right o p q =
       puts_behind (kinds_in i ++ kinds_in j) (kinds_in k) (λ rest. left (right rest)) (instrs.Apply op) (puts_both (kinds_in i) (kinds_in j) left right p q) (applies op i j k o)
 
-  -- the second operand is valued where the first one asks for it
+  -- the second operand is evaluated if the first one requires it
   pub puts_and : (left right : Plan → Plan) → Pushes BoolType left → Pushes BoolType right → Pushes BoolType (between symbols.LogicalAnd BoolType left right)
   puts_and left right p q a ks out rest t =
       p a ks out (Seq (IfElse (right Skip) (Do (instrs.Bool false) Skip)) rest) (

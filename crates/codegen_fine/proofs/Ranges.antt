@@ -1,4 +1,4 @@
--- A range with which nothing is wrong keeps the verifier's rules, where its body does.
+-- A range with which nothing is wrong keeps the verifier's rules, if its body does.
 use Rattle.std.proofs.Common.{◌≡◌, ℕ, ◌+◌, ◌≤◌, Bool, true, false, not, ◌&&◌, ◌||◌, List, [], ◌∷◌, ◌++◌, length, drop, Option, Some, None, option_map, refl, sym, ap, ◌∙◌, subst, arith, inl, inr, ◌⊎◌, bytes_eq}
 use Rattle.std.specs.Prelude.{if◌then◌else◌}
 use Rattle.std.proofs.lemmas.Bool.{OnTrue_from, OnTrue_at, true≢false}

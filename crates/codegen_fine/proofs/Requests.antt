@@ -1,4 +1,4 @@
--- What instructions that ask take and leave.
+-- What instructions that make requests take and leave.
 use Rattle.std.proofs.Common.{◌≡◌, ℕ, ◌<◌, List, [], ◌∷◌, ◌++◌, length, refl, sym, ap, ◌∙◌, subst, slice_get}
 use Rattle.std.proofs.lemmas.List.{append-nil}
 use Rattle.syntax.specs.declared.node.Direction.{Direction}

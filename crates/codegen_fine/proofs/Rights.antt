@@ -54,7 +54,7 @@ module _ (globals : Globals) (elements : List Element) (code : Code) (f : CodeFu
       pub takes : Takes count wants values push
       pub same : all_kinds globals.structs elements (taken_all wants (given_types globals elements values)) ≡ all_kinds globals.structs elements (given_types globals elements values)
 
-    -- what is so of a right side that so many places take
+    -- what is so of a right side that `count` lvalues take
     abbrev IsTaken : (ℕ → List (Option ValueType) → List Given → (List ValueType → Plan → Plan) → Type 0) → ℕ → List Expression → Type 0
     IsTaken T count right =
         (first end : ℕ) (wants : List (Option ValueType)) → 1 ≤ end → length wants ≡ count → WantsNoted elements wants → Free (RightHas globals s first right) → Free (NumbersHave (length (given globals s count first right)) count end)

@@ -1,4 +1,4 @@
--- A select keeps the verifier's rules, where its ways do.
+-- A select keeps the verifier's rules, if its ways do.
 use Rattle.std.proofs.Common.{◌≡◌, ℕ, Bool, zero, suc, ◌+◌, ◌<◌, ◌≤◌, List, [], ◌∷◌, ◌++◌, length, map, Option, Some, None, option_map, refl, sym, ap, ◌∙◌, subst, arith, slice_get, inl, inr}
 use Rattle.std.proofs.lemmas.Option.{same_Some}
 use Rattle.std.proofs.lemmas.List.{append-nil}
@@ -59,7 +59,7 @@ module _ (globals : Globals) (elements : List Element) (code : Code) (f : CodeFu
   abbrev clauses_at : Layout → Clauses → List ℕ → List TableClause
   clauses_at layout clauses places = table_clauses globals elements result layout clauses places
 
-  -- the kinds of a clause are the same where the same variables are seen
+  -- the kinds of a clause are the same if the same variables are seen
   pub comm_same : (comm : Comm) (a b : Layout) → Sees a.scope b.scope → comm_kinds globals elements result a comm ≡ comm_kinds globals elements result b comm
   comm_same (CommSend channel value) a b sees = refl
   comm_same (CommReceive channel) a b sees = ap (λ o. kinds_of globals.structs elements (known (element_of o)) ++ kinds.Bool ∷ []) (worth_sees a.scope b.scope sees globals channel)
@@ -130,7 +130,7 @@ module _ (globals : Globals) (elements : List Element) (code : Code) (f : CodeFu
     WaysOf s clauses a None = comm_count clauses ≡ 0
     WaysOf s clauses a (Some m) = WaysFine s clauses a m
 
-    -- a way, and those behind it
+    -- a way, and those after it
     pub join_way : (s : Scope) (comm : Comm) (body : Statements) (more : Clauses) (a : Allowed) (ks : List WordKind) (one : Made) (o : Option Made) → ((to : ℕ) → clause_gives code (Some (table_clause globals elements result layout comm to)) ≡ ks)
         → ((place : ℕ) → Tabled code.selects place one.plan → Typed code f a ks one.plan []) → Room globals elements code f one.layout → Alike s one.layout.scope → WaysOf s more a o → WaysFine s (Clause (Some comm) body more) a (with_way ks one o)
     join_way s comm body more a ks one None gives runs behind seen none = record {

@@ -29,7 +29,7 @@ use Rattle.codegen_base.proofs.Noted.{Noted, type_noted, shape_there}
 use Rattle.codegen_fine.proofs.Operands.{Grounds}
 use Rattle.codegen_fine.proofs.Keeping.{tops_keep}
 
--- the shape that an element of a channel type names is one of so many
+-- the shape that an element of a channel type names is one of `many`
 abbrev Within : ℕ → Element → Type 0
 Within many (elements.Channel shape) = shape < many
 Within many element = Unit {0}

@@ -105,7 +105,7 @@ module _ (globals : Globals) (elements : List Element) where
   many_functions (StructTop struct ∷ rest) prints selects = many_functions rest prints selects
   many_functions (FunctionTop function ∷ rest) prints selects = let m = made_function globals elements prints selects function in ap suc (many_functions rest (prints + length m.prints) (selects + table_count m.plan))
 
--- what is asked of the functions of a file's code
+-- what is required of the functions of a file's code
 pub functions_of : (file : File) → Free (FileHas file) → Functions (globals_of file.tops) (elements_of file) (code_of file)
 functions_of file free =
     let globals = globals_of file.tops in

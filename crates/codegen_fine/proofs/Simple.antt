@@ -32,7 +32,7 @@ use Rattle.codegen_fine.proofs.Operations.{channel_there, typed_call, typed_rece
 use Rattle.codegen_fine.proofs.Requests.{sends_typed, closes_typed}
 
 module _ (globals : Globals) (elements : List Element) (code : Code) (f : CodeFunction) (grounds : Grounds globals elements code) where
-  -- so many words that nobody needs are dropped
+  -- `n` words that nobody needs are dropped
   pub discards_typed : (n : ℕ) (js : List WordKind) → n ≡ length js → (a : Allowed) (ks out : List WordKind) (rest : Plan) → Typed code f a ks rest out → Typed code f a (ks ++ js) (Do (instrs.Discard n) rest) out
   discards_typed n js many a ks out rest t = typed_step code f a ks js (instrs.Discard n) rest out tt tt many tt (subst (λ (l : List WordKind). Typed code f a l rest out) (sym (append-nil ks)) t)
 

@@ -30,7 +30,7 @@ stand_take xs p (k ∷ js) h = ap (take (suc (length js))) (drop_at xs p k h.0) 
 pub stand_range : (xs : List WordKind) (p n : ℕ) (js : List WordKind) → n ≡ length js → Stand xs p js → slice_range xs p (p + n) ≡ js
 stand_range xs p n js many h = let e : p + n - p ≡ length js = omega (arith, many) in ap (λ m. take m (drop p xs)) e ∙ stand_take xs p js h
 
--- several lists of kinds, one behind the other
+-- several lists of kinds, one after the other
 abbrev pub joined : List (List WordKind) → List WordKind
 joined [] = []
 joined (js ∷ kss) = js ++ joined kss

@@ -55,7 +55,7 @@ module _ (globals : Globals) (elements : List Element) (code : Code) (f : CodeFu
   abbrev R : Layout → Type 0
   R layout = Room globals elements code f layout
 
-  -- a statement's code, and that of what comes behind it where its end is reached
+  -- a statement's code, and that of what comes after it if its end is reached
   made_unless : (a : Allowed) (first : ℕ) (x y : Made) (behind : Scope) → Longer x.layout y.layout → F first (unless_ended globals elements result x y) → (F first x → MA a x behind) → (F (first + length x.prints) y → MA a x behind → M a y) → M a (unless_ended globals elements result x y)
   made_unless a first x y behind longer fits p q = go (reaches_end x.plan) fits where
     go : (t : Bool) → F first (if t then followed x y else x) → M a (if t then followed x y else x)

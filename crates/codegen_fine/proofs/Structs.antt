@@ -109,7 +109,7 @@ fields_typed file free n = typed_fields (globals_of file.tops) (elements_of file
 pub wide_of : (file : File) → Free (FileHas file) → AllWide (globals_of file.tops).structs
 wide_of file free = wide_all (globals_of file.tops).structs (fields_typed file free) (none_endless file free)
 
--- what is asked of a file's code
+-- what is required of a file's code
 pub grounds_of : (file : File) → Free (FileHas file) → Grounds (globals_of file.tops) (elements_of file) (code_of file)
 grounds_of file free =
     let globals = globals_of file.tops in
@@ -128,6 +128,6 @@ grounds_of file free =
       functions = functions;
     }
 
--- the functions of the code of a file that the checker takes, where no post statement declares anything
+-- the functions of the code of a file that the checker takes, if no post statement declares anything
 pub file_verified : (file : File) → FormedTops file.tops → Free (FileHas file) → AllHold (code_of file) (code_of file).functions (code_of file).selects
 file_verified file still free = file_keeps file (grounds_of file free) still free

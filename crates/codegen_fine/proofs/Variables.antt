@@ -92,7 +92,7 @@ module _ (globals : Globals) (elements : List Element) where
   names_same layout [] kind all = refl
   names_same layout (name ∷ names) kind all = ap (λ o. name_type globals elements kind o ∷ name_types globals elements layout names (same_types globals elements names kind)) all.0 ∙ ap (λ (l : List ValueType). kind ∷ l) (names_same layout names kind all.1)
 
-  -- the variables behind names that are all new
+  -- the variables after names that are all new
   pub variables_are : (names : List (List ℕ)) (kind : ValueType) (s base : Scope) → s.outer ≤ length s.variables → OwnSame s base names → AllNew base names → has_twice names ≡ false → with_defined globals s names (alike_values names kind) ≡ with_variables globals s (Some kind) names
   variables_are [] kind s base le same all twice = refl
   variables_are (name ∷ names) kind s base le same all twice = go (is_blank name) (is_none (own_variable s name)) refl (ap is_none (same.0 ∙ all.0)) (twice_parts name names twice) (λ next l h t. variables_are names kind next base l h all.1 t) where

@@ -55,7 +55,8 @@ module _ (globals : Globals) (elements : List Element) where
         (subst (λ o. Alike (declared globals.structs s o field.name) next.scope) (sym fine.0) (alike_declared globals.structs globals.structs s layout.scope (Some kind) field.name alike)) begins
 
     module _ where
-      -- what is known of a function beside its body: the types of its parameters and of its result, and that no post statement declares anything
+      -- what is known of a function besides its body: the types of its parameters and of its result, and that no post
+      -- statement declares anything
       pub record IsFine (function : Function) : Type 0 where
         pub takes : ParametersFine (fields_declared globals.types function.parameters)
         pub known_kind : (kind : Option ValueType) → result_of globals elements function ≡ Yields kind → kind ≡ Some (known kind)

@@ -1,4 +1,4 @@
--- The words of each struct are known, where no struct contains itself and the types of all fields are known.
+-- The words of each struct are known, if no struct contains itself and the types of all fields are known.
 use Rattle.std.proofs.Common.{◌≡◌, ℕ, zero, suc, ◌+◌, ◌<◌, ◌||◌, Bool, true, false, List, [], ◌∷◌, ◌++◌, length, length-append, ◌⊎◌, Option, Some, None, refl, sym, ap, ◌∙◌, subst, arith, inl, inr, ⊎_elim}
 use Rattle.std.specs.Prelude.{nat_le, eqb}
 use Rattle.std.specs.List.{list_any, IsDistinct}
@@ -73,7 +73,7 @@ module _ (structs : Structs) (typed : (n : ℕ) → AllTyped structs (fields_of 
       go true is h = eqb-true q s is
       go false is h = absurd cc
 
-  -- what lies below so many structs is of known width
+  -- a struct below those of `path` is of known width
   wide_below : (deep : ℕ) (path : List ℕ) (s : ℕ) → Above path s → length path + deep ≡ suc (length structs) → (v : ℕ) × (width_within structs deep s ≡ Some v)
   wide_below zero path s above many = let le = length-le_from_distinct_below path (length structs) above.apart above.there in absurd (omega (arith, many, le))
   wide_below (suc deep) path s above many = fields_known (width_within structs deep) (fields_of structs s) (typed s) (λ t has. wide_below deep (path ++ s ∷ []) t (above_more path s t above has) (omega (arith, many, length-append path (s ∷ []))))

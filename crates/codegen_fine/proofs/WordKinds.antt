@@ -83,7 +83,7 @@ module _ (structs : Structs) (elements : List Element) where
 
   -- ---- structs
 
-  -- the kinds of the words of fields, one behind the other
+  -- the kinds of the words of fields, one after the other
   abbrev pub fields_kinds : List Field → List WordKind
   fields_kinds [] = []
   fields_kinds (field ∷ rest) = kinds_in (known field.kind) ++ fields_kinds rest
@@ -102,7 +102,7 @@ module _ (structs : Structs) (elements : List Element) where
 
   -- ---- fields
 
-  -- the kinds of the words of a value before a part of it, and those behind it
+  -- the kinds of the words of a value before a part of it, and those after it
   pub record Parted (whole : ValueType) (from : ℕ) (kind : ValueType) : Type 0 where
     pub before : List WordKind
     pub after : List WordKind
@@ -133,7 +133,7 @@ drop_all : (xs ys : List WordKind) → drop (length xs) (xs ++ ys) ≡ ys
 drop_all [] ys = refl
 drop_all (x ∷ xs) ys = drop_all xs ys
 
--- what stands in a list behind so many
+-- the `n` elements of a list from index `from` on, if they are its middle part
 pub range_is : (before mid after whole : List WordKind) (from n : ℕ) → whole ≡ before ++ (mid ++ after) → length before ≡ from → length mid ≡ n → slice_range whole from (from + n) ≡ mid
 range_is before mid after whole from n is at many =
     let e : from + n - from ≡ n = omega arith in

@@ -1,4 +1,4 @@
--- Plans, whose jumps wait for their targets, one behind the other.
+-- Plans, whose jumps wait for their targets, one after the other.
 use Rattle.std.proofs.Common.{◌≡◌, ℕ, ◌+◌, ◌≤◌, ◌<◌, Bool, true, false, cond, List, [], ◌∷◌, ◌++◌, length, refl, sym, ap, ◌∙◌, arith, append_assoc, length-append}
 use Rattle.std.specs.Prelude.{slice_set}
 use Rattle.std.proofs.lemmas.List.{append-nil, length-set, set-append_left, set_at, set_comm}
@@ -18,7 +18,7 @@ pub filled_length : (ws : List Wait) (leave again : ℕ) (code : List Instr) →
 filled_length [] leave again code = refl
 filled_length (w ∷ ws) leave again code = length-set (filled ws leave again code) w.place (jump leave again w) ∙ filled_length ws leave again code
 
--- what stands behind them stays as it is
+-- what follows them stays as it is
 pub filled_before : (ws : List Wait) (leave again first end : ℕ) (xs ys : List Instr) → AreWithin first end ws → end ≤ length xs → filled ws leave again (xs ++ ys) ≡ filled ws leave again xs ++ ys
 filled_before [] leave again first end xs ys in_range le = refl
 filled_before (w ∷ ws) leave again first end xs ys in_range le =
@@ -59,7 +59,7 @@ makes_length old new ws p m = sym (filled_length ws 0 0 new) ∙ ap length (m.is
 pub makes_part : (old new : List Instr) (part : Plan → Plan) → Puts old new part → Makes old new [] (part Skip)
 makes_part old new part p = record { within = tt; is = λ leave again. puts_alone old new part p leave again }
 
--- a part, and a plan behind it
+-- a part, and a plan after it
 pub makes_behind : (old middle new : List Instr) (ws : List Wait) (part : Plan → Plan) (rest : Plan) → Puts old middle part → Makes middle new ws rest → Makes old new ws (part rest)
 makes_behind old middle new ws part rest p m =
     let n = makes_length middle new ws rest m in
@@ -87,7 +87,7 @@ makes_leave old new is = waits old new true Leave is (λ leave again place. refl
 pub makes_again : (old new : List Instr) → new ≡ old ++ instrs.Jump 0 ∷ [] → Makes old new (wait_at (length old) false) Again
 makes_again old new is = waits old new false Again is (λ leave again place. refl)
 
--- one plan behind the other
+-- one plan after the other
 pub makes_seq : (i0 i1 i2 : List Instr) (ws vs : List Wait) (p q : Plan) → reaches_end p ≡ true → Makes i0 i1 ws p → Makes i1 i2 vs q → Makes i0 i2 (ws ++ vs) (Seq p q)
 makes_seq i0 i1 i2 ws vs p q leads m o =
     let n = makes_length i0 i1 ws p m in
@@ -110,9 +110,9 @@ makes_cut i0 i1 ws p q ends m = record {
       m.is leave again ∙ ap (λ (l : List Instr). i0 ++ l) (sym (append-nil fp)) ∙ ap (λ b. i0 ++ (fp ++ cond b (flat leave again (length i0 + size p) q) [])) (sym ends);
 }
 
--- ---- conditions: the test's jump is known behind what is done
+-- ---- conditions: the test's jump is known after what is done
 
--- an instruction, and a plan behind it
+-- an instruction, and a plan after it
 pub behind_set : (i0 i1 i2 i3 : List Instr) (ws : List Wait) (p : Plan) (leave again : ℕ) (i j : Instr) → i1 ≡ i0 ++ i ∷ [] → Makes i1 i2 ws p → i3 ≡ slice_set i2 (length i0) j
     → filled ws leave again i3 ≡ (i0 ++ j ∷ []) ++ flat leave again (length i1) p
 behind_set i0 i1 i2 i3 ws p leave again i j e1 m e3 =

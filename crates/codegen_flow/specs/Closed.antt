@@ -1,10 +1,10 @@
--- The jumps over the ways of a select behind one that leads on.
+-- The jumps over the later ways of a select, of one that leads on.
 use Rattle.std.specs.Prelude.{Bool, true, false, ◌||◌, cond, List, [], ◌∷◌, length, slice_set, take}
 use Rattle.bytecode.specs.declared.instr.Instr.{Instr}
 use Rattle.bytecode.specs.declared.instr.Instr.TheVariants as instrs
 use Rattle.codegen_flow.specs.declared.select.Held.{Held}
 
--- the jump leads behind all instructions; where there are no ways behind, it is taken back
+-- the jump leads past all instructions; if there are no later ways, it is taken back
 abbrev pub closed_one : Held → Bool → List Instr → List Instr
 closed_one held there code = cond there (cond held.leads (slice_set code held.place (instrs.Jump (length code))) code) (take held.place code)
 

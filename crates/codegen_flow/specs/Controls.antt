@@ -15,7 +15,7 @@ pub record Control : Type 0 where
 abbrev pub control : Flow → Control
 control flow = record { waits = flow.waits.items; ends = flow.reaches_end; breaks = flow.has_break; continues = flow.has_continue }
 
--- to what comes behind, and nowhere else
+-- to what follows, and nowhere else
 abbrev pub through : Control
 through = record { waits = []; ends = true; breaks = false; continues = false }
 
@@ -23,7 +23,7 @@ through = record { waits = []; ends = true; breaks = false; continues = false }
 abbrev pub never : Control
 never = record { waits = []; ends = false; breaks = false; continues = false }
 
--- to what comes behind, or nowhere
+-- to what follows, or nowhere
 abbrev pub leading : Bool → Control
 leading ends = record { waits = []; ends = ends; breaks = false; continues = false }
 
@@ -31,7 +31,7 @@ leading ends = record { waits = []; ends = ends; breaks = false; continues = fal
 abbrev pub jumping : ℕ → Bool → Control
 jumping place leaves = record { waits = wait_at place leaves; ends = false; breaks = leaves; continues = not leaves }
 
--- from a first part, whose end is reached, and another one behind it
+-- from a first part, whose end is reached, and another one after it
 abbrev pub joined : Control → Control → Control
 joined first behind = record {
   waits = first.waits ++ behind.waits;

@@ -8,12 +8,12 @@ abbrev pub any_control : Option Control → Control
 any_control None = through
 any_control (Some flow) = flow
 
--- from a way, or one of those behind it
+-- from a way, or one of those after it
 abbrev pub with_others : Control → Option Control → Control
 with_others flow None = flow
 with_others flow (Some others) = either flow others
 
--- from ways, or those behind them
+-- from ways, or those after them
 abbrev pub together : Option Control → Option Control → Option Control
 together None others = others
 together (Some flow) others = Some (with_others flow others)
@@ -22,6 +22,6 @@ together (Some flow) others = Some (with_others flow others)
 abbrev pub no_table : SelectTable
 no_table = record { clauses = []; default = None }
 
--- from a select: a break of a way leads behind it
+-- from a select: a break of a way leads to its end
 abbrev pub behind_select : Control → Control
 behind_select flow = record { waits = continues flow.waits; ends = flow.ends || flow.breaks; breaks = false; continues = flow.continues }

@@ -18,7 +18,7 @@ pub struct Flow {
 impl Flow {
     /// Only to where a break, or a continue, leads.
     ///
-    /// Errors: want of memory.
+    /// Errors: out of memory.
     pub fn from_jump(alloc: Global, leaves: bool, place: usize) -> Result<Flow, AllocError>
         ensures { IfOk result (λ flow. control flow ≡ jumping place leaves) }
     {
@@ -32,7 +32,7 @@ impl Flow {
         })
     }
 
-    /// Only to what comes behind a loop, if a break leads there.
+    /// Only to what follows a loop, if a break leads there.
     pub fn behind_loop(alloc: Global, reaches_end: bool) -> Flow
         ensures { control result ≡ leading reaches_end }
     {
@@ -56,7 +56,7 @@ impl Flow {
         }
     }
 
-    /// Only to what comes behind.
+    /// Only to what follows.
     pub fn through(alloc: Global) -> Flow
         ensures { control result ≡ through }
     {
@@ -76,9 +76,9 @@ impl Flow {
     }
 }
 
-/// What comes behind is emitted too.
+/// Adds the flow of the code that follows.
 ///
-/// Errors: want of memory.
+/// Errors: out of memory.
 pub fn join(flow: &mut Flow, mut behind: Flow) -> Result<(), AllocError>
     ensures { OnOk result (control flow.new ≡ joined (control flow.old) (control behind)) }
 {
@@ -89,9 +89,9 @@ pub fn join(flow: &mut Flow, mut behind: Flow) -> Result<(), AllocError>
     Ok(())
 }
 
-/// There is another way beside it.
+/// Adds the flow of another way.
 ///
-/// Errors: want of memory.
+/// Errors: out of memory.
 pub fn join_way(flow: &mut Flow, mut other: Flow) -> Result<(), AllocError>
     ensures { OnOk result (control flow.new ≡ either (control flow.old) (control other)) }
 {

@@ -14,14 +14,14 @@ use bytecode::{Instr, SelectTable};
 use codegen_expression::operand::number;
 use std::alloc::{AllocError, Global};
 
-/// A way of a select that leads on, or doesn't, and where the jump over the ways behind it stands.
+/// A way of a select that leads on, or doesn't, and where the jump over the ways after it stands.
 #[derive(Clone, Copy)]
 pub struct Held {
     pub place: usize,
     pub leads: bool,
 }
 
-/// Ways of a select: where control goes from them, if there are any, where they begin, and their jumps over those behind.
+/// Ways of a select: where control goes from them, if there are any, where they begin, and their jumps over the later ones.
 #[derive(Drop)]
 pub struct WayList {
     pub flow: Option<Flow>,
@@ -29,9 +29,9 @@ pub struct WayList {
     pub held: Vec<Held>,
 }
 
-/// Holds the place of a jump over the ways behind one that leads on.
+/// Holds the place of a jump over the ways after one that leads on.
 ///
-/// Errors: want of memory.
+/// Errors: out of memory.
 pub fn hold(leads: bool, code: &mut Vec<Instr>) -> Result<Held, AllocError>
     ensures place { IfOk result (λ held. held.place ≡ length code.old.items) }
     ensures leads { IfOk result (λ held. held.leads ≡ leads) }
@@ -45,7 +45,7 @@ pub fn hold(leads: bool, code: &mut Vec<Instr>) -> Result<Held, AllocError>
     Ok(Held { place, leads })
 }
 
-/// The ways behind one have ended: the jump over them gets its target. Where there are none, it is taken back.
+/// The ways after this one have ended: the jump over them gets its target. If there are none, it is taken back.
 fn close_one(held: Held, are_there: bool, code: &mut Vec<Instr>) -> Result<(), AllocError>
     ensures closed { OnOk result (code.new.items ≡ closed_one held are_there code.old.items) }
     ensures shorter { OnOk result (length code.new.items ≤ length code.old.items) }
@@ -62,7 +62,7 @@ fn close_one(held: Held, are_there: bool, code: &mut Vec<Instr>) -> Result<(), A
     Ok(())
 }
 
-/// All ways have ended: the jumps over those behind get their targets. Where nothing stands behind the last one, its jump is
+/// All ways have ended: the jumps over later ones get their targets. If nothing follows the last one, its jump is
 /// taken back.
 ///
 /// Errors: a number of the code would pass 2^32.
@@ -83,7 +83,7 @@ pub fn close(all: &[Held], are_there: bool, code: &mut Vec<Instr>) -> Result<(),
 
 /// A select's instruction, and the place of its table, which has this number.
 ///
-/// Errors: a number of the code would pass 2^32; want of memory.
+/// Errors: a number of the code would pass 2^32; out of memory.
 pub fn hold_select(
     alloc: Global,
     at: usize,
@@ -107,7 +107,7 @@ pub fn set_table(tables: &mut Vec<SelectTable>, at: usize, table: SelectTable)
     }
 }
 
-/// A break leads to this place.
+/// A break leads to `stop`.
 fn settle_one(wait: Wait, stop: u32, code: &mut Vec<Instr>)
     ensures { code.new.items ≡ cond wait.leaves (slice_set code.old.items wait.place (instrs.Jump stop)) code.old.items }
 {
@@ -116,7 +116,7 @@ fn settle_one(wait: Wait, stop: u32, code: &mut Vec<Instr>)
     }
 }
 
-/// Breaks lead to this place.
+/// Breaks lead to `stop`.
 #[tactic(auto, using(crate::proofs::Settling::settled_last))]
 fn settle(waits: &[Wait], stop: u32, code: &mut Vec<Instr>)
     ensures { code.new.items ≡ settled waits.now stop code.old.items }
@@ -150,9 +150,9 @@ fn left_waiting(alloc: Global, waits: &[Wait]) -> Result<Vec<Wait>, AllocError>
     Ok(left)
 }
 
-/// A select has ended: the breaks of its ways lead behind it.
+/// A select has ended: the breaks of its ways lead to its end.
 ///
-/// Errors: want of memory.
+/// Errors: out of memory.
 pub fn leave_select(alloc: Global, ways: &Flow, code: &mut Vec<Instr>) -> Result<Flow, AllocError>
     ensures flow { IfOk result (λ flow. control flow ≡ behind_select (control ways.now)) }
     ensures settled { OnOk result (code.new.items ≡ settled ways.now.waits.items (length code.old.items) code.old.items) }
@@ -168,7 +168,7 @@ pub fn leave_select(alloc: Global, ways: &Flow, code: &mut Vec<Instr>) -> Result
     })
 }
 
-/// Where control goes from the ways of a select. Behind one without ways, which waits for ever, there is code nevertheless.
+/// Where control goes from the ways of a select. After one without ways, which waits for ever, there is code nevertheless.
 pub fn from_ways(alloc: Global, ways: Option<Flow>) -> Flow
     ensures { control result ≡ any_control (option_map control ways) }
 {
@@ -206,9 +206,9 @@ fn with_way(before: Option<Flow>, flow: Flow) -> Result<Flow, AllocError>
     }
 }
 
-/// One more way, which begins at a place.
+/// One more way, which begins at `place`.
 ///
-/// Errors: want of memory.
+/// Errors: out of memory.
 pub fn add_way(list: &mut WayList, place: u32, held: Held, flow: Flow) -> Result<(), AllocError>
     ensures flow { OnOk result (option_map control list.new.flow ≡ together (option_map control list.old.flow) (Some (control flow))) }
     ensures places { OnOk result (list.new.places.items ≡ list.old.places.items ++ place ∷ []) }
@@ -221,9 +221,9 @@ pub fn add_way(list: &mut WayList, place: u32, held: Held, flow: Flow) -> Result
     Ok(())
 }
 
-/// All ways have ended, that of a default last, which begins at a place.
+/// All ways have ended; that of a default comes last and begins at `place`.
 ///
-/// Errors: want of memory.
+/// Errors: out of memory.
 pub fn end_ways(list: &mut WayList, place: u32, default: Option<Flow>) -> Result<(), AllocError>
     ensures flow { OnOk result (option_map control list.new.flow ≡ together (option_map control list.old.flow) (option_map control default)) }
     ensures places { OnOk result (list.new.places.items ≡ list.old.places.items ++ cond (is_some default) (place ∷ []) []) }

@@ -5,7 +5,7 @@ ghost use Rattle.codegen_flow.specs.Waits.{filled};
 
 use bytecode::Instr;
 
-/// The jump of a break, or of a continue, at a place. Where it leads is not known yet.
+/// The jump of a break or a continue, at index `place`. Its target is not known yet.
 #[derive(Clone, Copy)]
 pub struct Wait {
     pub place: usize,

@@ -11,7 +11,7 @@ use codegen_expression::operand::number;
 use std::alloc::AllocError;
 use syntax::ElseNode;
 
-/// Whether something stands behind `else`.
+/// Whether something follows `else`.
 pub fn has_other(otherwise: &ElseNode) -> bool
     ensures { result ≡ is_other (otherwise_of otherwise.now) }
 {
@@ -21,7 +21,7 @@ pub fn has_other(otherwise: &ElseNode) -> bool
     }
 }
 
-/// Holds the place of a jump over the other way, where the first one leads on.
+/// Holds the place of a jump over the other way, if the first one leads on.
 fn hold_jump(leads: bool, code: &mut Vec<Instr>) -> Result<(), AllocError>
     ensures { OnOk result (code.new.items ≡ code.old.items ++ cond leads (instrs.Jump 0 ∷ []) []) }
 {
@@ -31,7 +31,7 @@ fn hold_jump(leads: bool, code: &mut Vec<Instr>) -> Result<(), AllocError>
     Ok(())
 }
 
-/// Leads the test at a place to what comes next.
+/// Leads the test at `test` to what comes next.
 ///
 /// Errors: a number of the code would pass 2^32.
 pub fn end_test(test: usize, code: &mut Vec<Instr>) -> Result<(), AllocError>
@@ -43,9 +43,9 @@ pub fn end_test(test: usize, code: &mut Vec<Instr>) -> Result<(), AllocError>
     Ok(())
 }
 
-/// The other way begins, to which the test at a place leads; answers where the first one's jump over it stands, if it leads on.
+/// The other way begins, to which the test at `test` leads; returns where the first one's jump over it stands, if it leads on.
 ///
-/// Errors: want of memory.
+/// Errors: out of memory.
 pub fn begin_other(test: usize, leads: bool, code: &mut Vec<Instr>) -> Result<usize, AllocError>
     ensures over { IfOk result (λ over. over ≡ length code.old.items) }
     ensures begun { OnOk result (code.new.items ≡ slice_set (code.old.items ++ cond leads (instrs.Jump 0 ∷ []) []) test (instrs.Unless (length code.new.items))) }

@@ -90,7 +90,7 @@ module _ {globals : Globals} {program : Compiled globals} (coded : Coded program
   dead (Head x ∷ rest) view l place sits = (sits.0, sits.1, None, tt, None, tt, dead rest sits.0 l sits.4 sits.6)
   dead (Turn x ∷ rest) view l place sits = (sits.0, sits.1, None, tt, None, tt, dead rest sits.0 l sits.4 sits.6)
 
-  -- ---- behind a statement
+  -- ---- after a statement
 
   pub together_behind : (view : View) (s : Statement) → Nested view.begins (length (variables view)) → Together view (past_one view s)
   together_behind view s nested =
@@ -125,7 +125,7 @@ module _ {globals : Globals} {program : Compiled globals} (coded : Coded program
         go (Some m) on = (on, record { tables = prints_back code first a.prints b.prints h.tables; room = h.room })
   parts l first a b place out false is le on h = record { mid = None; on = unreached code.selects f.instrs a.plan place l.leave l.again out is on; fits = h; others = tt }
 
-  -- behind a statement in which nothing is wrong the layout has the variables that the typing rules see
+  -- after a statement in which nothing is wrong the layout has the variables that the typing rules see
   abbrev pub FineBehind : Type 0
   FineBehind = (view : View) (s : Statement) (first : ℕ) (breaks continues : Bool) → Fine coded view → Free (StatementHas (within coded breaks continues) view.checked first s) → Makes globals elements s → Fine coded (past_one view s)
 
@@ -155,7 +155,7 @@ module _ {globals : Globals} {program : Compiled globals} (coded : Coded program
             fits = x.1;
           }
 
-    -- what sits behind jumps alone
+    -- what sits after jumps alone
     abbrev pub SitsSoon : View → Around → Option ℕ → List Task → Type 0
     SitsSoon view l place tasks = (to : Option ℕ) × LeadsOn' place to × S view l to tasks
 

@@ -50,7 +50,7 @@ module _ {globals : Globals} {program : Compiled globals} {coded : Coded program
   self_lead None = tt
   self_lead (Some p) = at_once
 
-  -- what is decided behind the first statement of an if
+  -- what is decided after the first statement of an if
   decide_sits : (view next : View) (l : Around) (condition : Expression) (body : Statements) (otherwise : Otherwise) (place mid : Option ℕ) (k : List Task) → IfSome place (λ p. Deciding coded l view condition body otherwise p mid) → Inner next view → Rest coded next l mid k
       → S view l place (Decide condition body otherwise ∷ (EndBlock ∷ k))
   decide_sits view next l condition body otherwise place mid k d inner r = (view, (refl, refl), mid, go place d, mid, self_lead mid, end_sits simulated next view l mid r.0 k inner r.1 r.2) where

@@ -96,7 +96,7 @@ module _ {globals : Globals} {program : Compiled globals} (coded : Coded program
   open program use {elements, code}
   open coded use {function as f}
 
-  -- the ways of the clauses of a table: what is received is told in the words of their zeros
+  -- the ways of the clauses of a table: what is received has the words of their zeros
   abbrev pub WaysAt : Around → View → List Way → List TableClause → Option ℕ → Type 0
   WaysAt l view [] [] out = Unit {0}
   WaysAt l view (way ∷ ways) (clause ∷ clauses) out =
@@ -194,7 +194,7 @@ module _ {globals : Globals} {program : Compiled globals} {coded : Coded program
           r.2,
         ))
 
-  -- ---- a select is told which clause was done
+  -- ---- the reply of a select names the clause that was done
 
   module _ (clauses : Clauses) (cases : List Case) (place : ℕ) (stack : Words) (d : Choosing coded l view stack cases (ways_of globals blocks k clauses) (default_of globals blocks k clauses) place mid) (same : variables next ≡ variables view) where
     abbrev answered : Reply → CodeFrames

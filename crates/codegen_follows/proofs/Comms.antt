@@ -52,7 +52,7 @@ pub record Beside : Type 0 where
   pub selects : ℕ
   pub checked : ℕ
 
--- the same variables, with other words of the frame
+-- a view with the same variables, and other words of the frame
 abbrev pub beside : View → Beside → View
 beside view b = record {
   site = record {
@@ -125,7 +125,7 @@ module _ {globals : Globals} {program : Compiled globals} {coded : Coded program
   abbrev scope : Scope
   scope = scope_of clause_view
 
-  -- behind what it waits for
+  -- after what it waits for
   abbrev pub comm_view : Comm → View
   comm_view comm = record { site = past clause_view.site (made_comm globals elements result clause_view.site comm); begins = clause_view.begins; checked = after_any globals clause_view.checked (Some (comm_simple comm)) }
 
@@ -159,7 +159,7 @@ module _ {globals : Globals} {program : Compiled globals} {coded : Coded program
       ap element_of (worth_same globals view.checked.variables (length view.checked.variables) view.checked.outer b.checked view.checked.words e ∙ c.is)
       ∙ ap Some (sym c.carries ∙ sym (carries_item e))
 
-  -- ---- the variables behind it
+  -- ---- the variables after it
 
   received_layout : (item : List ℕ) (ok : Option (List ℕ)) (e : Expression)
       → (declaring_all globals elements (and_also item ok) (given_types globals elements (given globals scope (length (and_also item ok)) 0 (Receive e ∷ []))) site.layout).scope ≡ (behind_comm globals elements result (CommDefine item ok e) site.layout).scope

@@ -20,7 +20,7 @@ same_some a b e = ap (from a) e where
 module _ {globals : Globals} {program : Compiled globals} (coded : Coded program) (view : View) (name : List ℕ) (kind : ValueType) where
   open program use {elements, wide as all}
 
-  -- behind the declaration
+  -- after the declaration
   abbrev pub declared_view : View
   declared_view = record { site = at (declaring globals elements kind name view.site.layout) view.site; begins = view.begins; checked = declared globals.structs view.checked (Some kind) name }
 

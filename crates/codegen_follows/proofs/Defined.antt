@@ -174,7 +174,7 @@ module _ {globals : Globals} {program : Compiled globals} {coded : Coded program
   types_long [] = refl
   types_long (v ∷ vs) = ap suc (types_long vs)
 
-  -- the variables that the code has behind the names
+  -- the variables that the code has after the names
   abbrev pub Behind : List (List ℕ) → List ValueType → Type 0
   Behind names types = (variables next ≡ (declaring_all globals elements names types view.site.layout).scope.variables) × ((declaring_all globals elements names types view.site.layout).scope.words ≤ length f.locals)
 

@@ -152,7 +152,7 @@ module _ {globals : Globals} {program : Compiled globals} {coded : Coded program
       (record { first = d.first; breaks = d.breaks; continues = d.continues; fine = fine_opened coded view d.fine; good = d.good; makes = d.makes; on = d.on; fits = record { tables = d.fits.tables; room = d.fits.room } })
       (λ last i. end_sits next last l mid r.0 k (inner_same view next last same begins i) r.1 r.2))
 
-  -- ---- an if behind its first statement
+  -- ---- an if after its first statement
 
   pub decide_goes : (ls : Words) (view next : View) (l : Around) (condition : Expression) (body : Statements) (otherwise : Otherwise) (place : ℕ) (mid : Option ℕ) (k : List Task) → H ls view → Deciding coded l view condition body otherwise place mid → variables next ≡ variables view → next.begins ≡ view.begins → Rest coded next l mid k
       → Works' (task_work globals (blocks ls view) k (Decide condition body otherwise)) (place_at place ls [])
@@ -288,7 +288,7 @@ module _ {globals : Globals} {program : Compiled globals} {coded : Coded program
         go true to other i x y = slides simulated _ _ (reaches_behind simulated _ _ _ (chooses code g f there ds to other ls [] true i) x)
         go false to other i x y = slides simulated _ _ (reaches_behind simulated _ _ _ (chooses code g f there ds to other ls [] false i) y)
 
-  -- behind a loop's body and its post statement the code goes back to the loop's head
+  -- after a loop's body and its post statement the code goes back to the loop's head
   pub turn_goes : (ls : Words) (view next : View) (l : Around) (condition : Option Expression) (post : Option Simple) (body : Statements) (head place : ℕ) (mid : Option ℕ) (k : List Task) → H ls view → At f.instrs place (instrs.Loop head) → Looping coded l view condition post body head mid → Together view next → variables next ≡ variables view
       → Rest coded next l mid k → Works' (task_work globals (blocks ls view) k (Turn (Repeating condition post body))) (place_at place ls [])
   turn_goes ls view next l condition post body head place mid k h i d t same r =

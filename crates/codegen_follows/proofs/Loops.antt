@@ -85,7 +85,7 @@ module _ {globals : Globals} {program : Compiled globals} {coded : Coded program
     end_sits simulated next view l mid r.0 k inner r.1 r.2,
   )
 
-  -- the loop behind the first statement of a for, where the header has these variables
+  -- the loop after the first statement of a for, where the header has these variables
   clauses_loop : (view : View) (l : Around) (header : Made) (condition : Option Expression) (post : Option Simple) (body : Statements) (first second third : ℕ) (m : ℕ) (mid : Option ℕ) (checked : Scope) → let v : View = record { site = past (inside view.site) header; begins = (opened view).begins; checked = checked } in Fine coded v
       → IfSome condition (λ c. Free (TestHas globals checked first c)) → Free (StatementsHave (within coded true true) (scope_entered checked) second body)
       → IfSome post (λ s. Free (SimpleHas globals (scope_entered (behind_body coded v body).checked) third s))

@@ -70,7 +70,7 @@ module _ {globals : Globals} {program : Compiled globals} (coded : Coded program
   NameSuits None given taken = taken ≡ given
   NameSuits (Some v) given taken = zero_words globals.structs taken ≡ zero_words globals.structs (known v.kind)
 
-  -- where a name's value goes, and which variables are there behind it
+  -- where a name's value goes, and which variables are there after it
   name_is : (layout : Layout) (name : List ℕ) (given taken : ValueType) → own_variable layout.scope name ≡ own_variable (scope_of view) name → NameSuits (own_variable (scope_of view) name) given taken
       → IsSpot structs layout.scope (defined globals blocks name given) taken (name_spot globals elements layout name given)
       × (behind_destination structs (defined globals blocks name given) layout.scope ≡ (declaring_new globals elements given name layout).scope)
@@ -124,7 +124,7 @@ module _ {globals : Globals} {program : Compiled globals} (coded : Coded program
   same_here [] = tt
   same_here (name ∷ names) = (refl, same_here names)
 
-  -- behind a name the others are as they were
+  -- after a name the others are as they were
   same_next : (layout : Layout) (name : List ℕ) (names : List (List ℕ)) (given : ValueType) → layout.scope.outer ≤ length layout.scope.variables → (not (is_blank name) && has_name names name) ≡ false → AllSame layout.scope names
       → ((declaring_new globals elements given name layout).scope.outer ≤ length (declaring_new globals elements given name layout).scope.variables) × AllSame (declaring_new globals elements given name layout).scope names
   same_next layout name names given fits once same = go (is_blank name) (is_none (own_variable layout.scope name)) once where

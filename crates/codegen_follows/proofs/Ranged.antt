@@ -1,4 +1,4 @@
--- Loops over channels: the next item is asked for, and behind the body the code goes back to the loop's head.
+-- Loops over channels: the next item is requested, and after the body the code goes back to the loop's head.
 use Rattle.word.specs.Values as requests
 use Rattle.bytecode.specs.declared.instr.WordKind.TheVariants as kinds
 use Rattle.bytecode.specs.declared.instr.Instr.TheVariants as instrs
@@ -148,7 +148,7 @@ module _ {globals : Globals} {program : Compiled globals} {coded : Coded program
         let b = is_bool structs o (made_like structs BoolType (drop (length zero) ws)) in
         subst (λ (x : Value). Works' (ready (next_item globals (blocks ls view) k destinations zero body (v ∷ x ∷ []))) (place_at to ls (v ++ (x ++ [])))) (sym b.1) (told_goes v like b.0 to lead)
 
-    -- the next item is asked for
+    -- the next item is requested
     pub next_goes : Works' (head_work globals (blocks ls view) k (Ranging destinations zero body)) (place_at head ls [])
     next_goes =
         let v = d.channel in
@@ -173,7 +173,7 @@ module _ {globals : Globals} {program : Compiled globals} {coded : Coded program
         (told_lays pt zeros q (instrs.Receive d.shape) (Chan c.0 ∷ []) Skip (Some d.check) (head + 1) [] d.receives refl refl (receives code g f there ds (head + 1) ls [] d.shape c.0 d.receives) gives-are (running.calm q (place_at (head + 1) ls (Chan c.0 ∷ [])) tt) d.checks)
         (λ got e lay. subst (λ (x : List Value). Works' (go x) e) (sym lay.2) (subst (λ x. Works' (go (parted zeros lay.1)) x) (sym (lay.3 ∙ ap (λ (x : List Value). place_at lay.0 ls (all_words_of x)) lay.2)) (parted_goes lay.1 lay.0 lay.4)))))
 
-    -- behind the body of a loop over a channel the code goes back to the loop's head
+    -- after the body of a loop over a channel the code goes back to the loop's head
     pub round_goes : (place : ℕ) → At f.instrs place (instrs.Loop head) → Works' (task_work globals (blocks ls view) k (Turn (Ranging destinations zero body))) (place_at place ls [])
     round_goes place i =
         moves simulated (blocks ls view) (Head (Ranging destinations zero body) ∷ k) (place_at place ls []) (place_at place ls []) (place_at head ls []) here (turns code g f there ds place head ls [] i)

@@ -161,7 +161,7 @@ module _ {globals : Globals} {program : Compiled globals} {coded : Coded program
   item_words : (e : Expression) (c : Channel' e) → wide_item e ≡ words_in globals.structs c.element
   item_words e c = kinds_long globals.structs elements (carried globals elements scope e) ∙ ap (words_in globals.structs) c.carries
 
-  -- the loop behind its channel's value, where items go to destinations
+  -- the loop after its channel's value, where items go to destinations
   pub loop_at : (e : Expression) (body : Statements) (c : Channel' e) (destinations : List Destination) (taken within : Plan) (last : View) → Together (item e) last → (scope_of (kept e)).words ≤ length f.locals
       → ((again m : Option ℕ) (p : ℕ) → IsOn coded (within_loop again) taken p m → Items coded (within_loop again) (item e) c.element destinations last p m)
       → ((again : Option ℕ) (p : ℕ) → IsOn coded (within_loop again) within p again → Doing coded (within_loop again) last (Block body) p again) → (head : ℕ)
@@ -220,7 +220,7 @@ module _ {globals : Globals} {program : Compiled globals} {coded : Coded program
         fits = record { tables = d.fits.tables; room = most };
       }) head on
 
-  -- a range's channel is valued and kept
+  -- a range's channel is evaluated and kept
   pub kept_goes : (e : Expression) (body : Statements) (destinations : List Destination) (first : ℕ) → Free (ExpressionHas globals view.checked first e) → OneMakes globals elements e → (c : Channel' e) → (scope_of (kept e)).words ≤ length f.locals → (place : ℕ) (o : Option ℕ) → IsOn coded l (keeps globals elements result view.site.layout e) place o
       → IfSome o (λ p. RangingAt coded l (kept e) destinations (zero_words globals.structs (element_kind globals blocks e)) body p mid) → variables next ≡ variables view
       → Works' (and_then (channel_work globals blocks k e) (ranges globals blocks k destinations (element_kind globals blocks e) body e)) (place_at place ls [])

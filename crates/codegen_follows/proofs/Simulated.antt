@@ -28,7 +28,7 @@ module _ {globals : Globals} {program : Compiled globals} (coded : Coded program
     pub holding : Holding globals.structs ls (variables view)
     pub full : length ls ≡ length coded.function.locals
 
-  -- what is still to be done behind a task that ends at `mid`
+  -- what is still to be done after a task that ends at `mid`
   abbrev pub Rest : View → Around → Option ℕ → List Task → Type 0
   Rest next l mid k = (to : Option ℕ) × LeadsOn coded mid to × Sits coded next l to k
 
@@ -85,7 +85,7 @@ pub record Point {globals : Globals} {program : Compiled globals} {coded : Coded
   pub room : (scope_of view).words ≤ length locals
   pub held : Held coded locals view
 
--- and what is to be done behind the statement there
+-- and what is to be done after the statement there
 pub record Position {globals : Globals} {program : Compiled globals} {coded : Coded program} (simulated : Simulated coded) : Type 0 where
   pub point : Point simulated
   pub next : View

@@ -38,7 +38,7 @@ pub record Around : Type 0 where
 abbrev pub nowhere : Around
 nowhere = record { leave = None; again = None }
 
--- in a way of a select a break leads behind the select
+-- in a way of a select a break leads past the select
 abbrev pub in_way : Around → Option ℕ → Around
 in_way l out = record { leave = out; again = l.again }
 
@@ -102,11 +102,11 @@ module _ {globals : Globals} {program : Compiled globals} (coded : Coded program
   abbrev pub made_other : View → Expression → Statements → Otherwise → Made
   made_other view condition body otherwise = made_otherwise globals elements result view.site condition (ended view.site.layout (made_body view body)) otherwise
 
-  -- behind a statement
+  -- after a statement
   abbrev pub behind : View → Statement → View
   behind view s = record { site = past view.site (made_here view s); begins = view.begins; checked = after globals view.checked s }
 
-  -- behind the first block of an if or a for
+  -- after the first block of an if or a for
   abbrev pub behind_body : View → Statements → View
   behind_body view body = record {
     site = past view.site (ended view.site.layout (made_body view body));
@@ -114,7 +114,7 @@ module _ {globals : Globals} {program : Compiled globals} (coded : Coded program
     checked = left view.checked (after_all globals (entered view.checked) body);
   }
 
-  -- what is made has its print tables, and room for its variables
+  -- what is made has its print tables, and locals enough for its variables
   pub record Fits (first : ℕ) (one : Made) : Type 0 where
     pub tables : Prints code first one.prints
     pub room : one.layout.scope.words ≤ length f.locals
@@ -181,12 +181,12 @@ module _ {globals : Globals} {program : Compiled globals} (coded : Coded program
   abbrev pub IsResult : Value → Type 0
   IsResult v = words_like (zero_result globals result) v ≡ v
 
-  -- so many words values of these types take
+  -- how many words values of these types take
   abbrev pub all_wide : List ValueType → ℕ
   all_wide [] = 0
   all_wide (kind ∷ types) = words_in globals.structs kind + all_wide types
 
-  -- values of these types go to their destinations from the stack, behind so many words that are dropped
+  -- values of these types go to their destinations from the stack, after `dropped` words that are dropped
   pub record Assigning (l : Around) (view : View) (dropped : ℕ) (types : List ValueType) (destinations : List Destination) (next : View) (place : ℕ) (mid : Option ℕ) : Type 0 where
     pub spots : List Spot
     pub fine : Fine view
@@ -197,7 +197,7 @@ module _ {globals : Globals} {program : Compiled globals} (coded : Coded program
 
   -- ---- loops over a channel
 
-  -- what becomes of an item on the stack: it is dropped, or stored as a value of a type with the same zero
+  -- an item on the stack is dropped, or stored as a value of a type with the same zero
   abbrev pub Items : Around → View → ValueType → List Destination → View → ℕ → Option ℕ → Type 0
   Items l view kind [] next place mid = IsOn l (drops (words_in globals.structs kind) Skip) place mid × (variables next ≡ variables view)
   Items l view kind (first ∷ more) next place mid = (other : ValueType) × (zero_words globals.structs kind ≡ zero_words globals.structs other) × Assigning l view 0 (other ∷ []) (first ∷ more) next place mid
@@ -235,7 +235,7 @@ module _ {globals : Globals} {program : Compiled globals} (coded : Coded program
     pub turns : IfSome again (λ m. (turn : ℕ) × Leads f.instrs m (Some turn) × At f.instrs turn (instrs.Loop head))
     pub ends : IsOn l (drops (words_in globals.structs kind) Skip) exit out
 
-  -- what becomes of values of these types that lie on the stack: those that have no place are dropped, and the others are stored as ones
+  -- values of these types lie on the stack: those that have no place are dropped, and the others are stored as ones
   -- of types with the same zeros
   abbrev pub Taking : Around → View → List ValueType → List Destination → View → ℕ → Option ℕ → Type 0
   Taking l view types [] next place mid = IsOn l (drops (all_wide types) Skip) place mid × (variables next ≡ variables view)

@@ -51,7 +51,7 @@ module _ {globals : Globals} {program : Compiled globals} {coded : Coded program
   abbrev blocks : Words → View → Blocks
   blocks ls view = blocks_of coded ls view
 
-  -- values that lie on the stack are stored, and those behind them dropped
+  -- values that lie on the stack are stored, and those after them dropped
   pub stores_go : (ls : Words) (view next : View) (l : Around) (destinations : List Destination) (types : List ValueType) (kept others : List Value) (dropped place : ℕ) (mid : Option ℕ) (k : List Task) → H ls view → Assigning coded l view dropped types destinations next place mid → AreLike structs types kept
       → dropped ≡ length (all_words_of others) → next.begins ≡ view.begins → Rest coded next l mid k → Works' (ready (Moves (frame (all_stored structs destinations (kept ++ others) (blocks ls view)) k))) (place_at place ls (all_words_of kept ++ all_words_of others))
   stores_go ls view next l destinations types kept others dropped place mid k h x like many begins r =

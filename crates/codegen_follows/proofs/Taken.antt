@@ -91,7 +91,7 @@ module _ {globals : Globals} {program : Compiled globals} {coded : Coded program
   abbrev blocks : Words → View → Blocks
   blocks ls view = blocks_of coded ls view
 
-  -- what becomes of values, which are dropped or go to destinations
+  -- values are dropped or go to destinations
   abbrev pub comes_of : Blocks → List Task → List Destination → List Value → Course
   comes_of b k [] vs = Goes (frame b k)
   comes_of b k (first ∷ more) vs = Moves (frame (all_stored structs (first ∷ more) vs b) k)

@@ -153,7 +153,7 @@ module _ {globals : Globals} {program : Compiled globals} {coded : Coded program
   abbrev laid : TypeExpression → ValueType
   laid kind = known (type_in globals.types scope kind)
 
-  -- the variables that the code has behind the names
+  -- the variables that the code has after the names
   abbrev pub BehindEach : List (List ℕ) → ValueType → Type 0
   BehindEach names kind = (variables next ≡ (declaring_each globals elements kind names view.site.layout).scope.variables) × ((declaring_each globals elements kind names view.site.layout).scope.words ≤ length f.locals)
 

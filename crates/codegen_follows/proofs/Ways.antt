@@ -94,7 +94,7 @@ module _ {globals : Globals} {program : Compiled globals} {coded : Coded program
   abbrev Channel' : Expression → Type 0
   Channel' e = IsChannel point e
 
-  -- what is told of a channel has the words of an item, and whether it was sent
+  -- the reply of a channel has the words of an item, and whether it was sent
   item_told : (e : Expression) → Channel' e → map zero_of (shape_kinds code (shape_of elements (carried globals elements (scope_of view) e)) ++ kinds.Bool ∷ []) ≡ zero_words globals.structs (element_kind globals blocks e) ++ Truth false ∷ []
   item_told e c =
       let structs = globals.structs in

@@ -31,7 +31,7 @@ module _ (globals : Globals) (elements : List Element) where
         let shown : Appends i0 i2 (Do load (Do (instrs.Receive (shape_of elements kind)) Skip)) = ends i0 i1 i2 (Do load) (instrs.Receive (shape_of elements kind)) (puts_do i0 i1 load (loads ∙ ap (λ n. i0 ++ instrs.Load n 1 ∷ []) at)) is in
         rw of shown
 
-  -- words that nobody needs are dropped
+  -- words that are not used are dropped
   pub appends_drops : (scope : Scope) (kind : ValueType) (words : ℕ) (i0 i1 : List Instr) → words ≡ width globals elements scope kind → Puts i0 i1 (drops words) → Appends i0 i1 (drops (width globals elements scope kind) Skip)
   appends_drops scope kind words i0 i1 is p = subst (λ n. Appends i0 i1 (drops n Skip)) is (puts_alone i0 i1 (drops words) p)
 

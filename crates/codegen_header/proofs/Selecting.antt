@@ -22,7 +22,7 @@ some_mapped f None = refl
 some_mapped f (Some x) = refl
 
 module _ (globals : Globals) (elements : List Element) (yields : Yield) where
-  -- one clause behind the other
+  -- one clause after the other
   pub puts_clause : (layout : Layout) (comm : Option Comm) (body : Statements) (more : Clauses) (i0 i1 i2 : List Instr) → Puts i0 i1 (pushes_clauses globals elements yields layout (Clause comm body NoClause))
       → Puts i1 i2 (pushes_clauses globals elements yields layout more) → Puts i0 i2 (pushes_clauses globals elements yields layout (Clause comm body more))
   puts_clause layout None body more i0 i1 i2 p q = puts_both i0 i1 i2 (λ rest. rest) (pushes_clauses globals elements yields layout more) p q

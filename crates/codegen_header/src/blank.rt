@@ -17,7 +17,7 @@ pub struct Blank {
 impl Blank {
     /// The name.
     ///
-    /// Errors: want of memory.
+    /// Errors: out of memory.
     pub fn new(alloc: Global) -> Result<Blank, AllocError> {
         let bytes = Vec::from_slice(alloc, b"_".as_slice())?;
         Ok(Blank {

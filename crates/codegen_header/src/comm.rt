@@ -30,7 +30,7 @@ use std::alloc::AllocError;
 use syntax::{CommNode, ExpressionNode, Name, PlaceNode};
 use type_table::value_type::ValueType;
 
-/// Declares a name for an item of this type, where it is new, and one for whether the item was sent, and answers where they go.
+/// Declares a name for an item of this type, if it is new, and one for whether the item was sent, and returns where they go.
 fn define_received<'a>(
     context: &Context<'_, 'a>,
     layout: &mut Layout<'a>,
@@ -63,7 +63,7 @@ fn drop_sent(wanted: bool, code: &mut Vec<Instr>) -> Result<(), AllocError>
     Ok(())
 }
 
-/// What was received goes to names, which are declared where they are new.
+/// Stores what was received in names, which are declared if they are new.
 fn emit_define<'a>(
     context: &Context<'_, 'a>,
     layout: &mut Layout<'a>,
@@ -135,9 +135,9 @@ fn emit_dropped<'a>(
     put(code, Instr::Discard(count))
 }
 
-/// What was received goes where a clause wants it; names are declared for it.
+/// Stores what was received where the clause wants it; declares names for it.
 ///
-/// Errors: want of memory.
+/// Errors: out of memory.
 pub fn take_comm<'a>(
     context: &Context<'_, 'a>,
     layout: &mut Layout<'a>,

@@ -43,7 +43,7 @@ pub struct Ranged<'a> {
 
 /// A channel goes to the next local.
 ///
-/// Errors: want of memory.
+/// Errors: out of memory.
 #[tactic(auto, using(crate::proofs::Ranging::appends_keeps))]
 pub fn emit_kept<'a>(
     context: &Context<'_, 'a>,
@@ -69,7 +69,7 @@ pub fn emit_kept<'a>(
 
 /// Declares the local in which a channel of this type is kept, in a block of its own.
 ///
-/// Errors: want of memory.
+/// Errors: out of memory.
 pub fn declare_kept<'a>(
     context: &Context<'_, 'a>,
     hidden: &'a Blank,
@@ -84,7 +84,7 @@ pub fn declare_kept<'a>(
 
 /// Receives the next item.
 ///
-/// Errors: want of memory.
+/// Errors: out of memory.
 #[tactic(auto, using(crate::proofs::Ranging::appends_receives))]
 pub fn emit_next<'k>(
     context: &Context<'_, 'k>,
@@ -97,9 +97,9 @@ pub fn emit_next<'k>(
     put(code, Instr::Receive(shape_of(context, ranged.item)))
 }
 
-/// Drops a value of this type, where it is not wanted.
+/// Drops a value of this type that is not used.
 ///
-/// Errors: want of memory.
+/// Errors: out of memory.
 pub fn emit_unused<'k>(
     context: &Context<'_, 'k>,
     kind: ValueType<'k>,
@@ -138,7 +138,7 @@ fn take_name<'a>(
     Ok(())
 }
 
-/// An item of this type goes to a place.
+/// Stores an item of this type in an lvalue.
 #[tactic(auto, using(crate::proofs::Ranging::appends_at))]
 fn take_place<'a>(
     context: &Context<'_, 'a>,
@@ -154,9 +154,9 @@ fn take_place<'a>(
     Ok(())
 }
 
-/// An item of this type goes where it is wanted; a name is declared for it.
+/// Stores an item of this type in the target of a range; declares a name for it.
 ///
-/// Errors: want of memory.
+/// Errors: out of memory.
 pub fn take_item<'a>(
     context: &Context<'_, 'a>,
     layout: &mut Layout<'a>,

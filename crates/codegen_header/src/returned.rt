@@ -51,7 +51,7 @@ fn push_returned<'k>(
 
 /// A return from a function that has a result of this type, or none.
 ///
-/// Errors: want of memory.
+/// Errors: out of memory.
 pub fn emit_return<'k>(
     context: &Context<'_, 'k>,
     layout: &Layout<'k>,

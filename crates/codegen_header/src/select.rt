@@ -43,7 +43,7 @@ fn push_comm<'k>(
     Ok(())
 }
 
-/// The same for a clause; a default has none.
+/// Like `push_comm`, for a clause; a default pushes nothing.
 fn push_clause<'k>(
     context: &Context<'_, 'k>,
     layout: &Layout<'k>,
@@ -60,7 +60,7 @@ fn push_clause<'k>(
 
 /// Pushes the channels of all clauses, and what is sent on them, in order.
 ///
-/// Errors: want of memory.
+/// Errors: out of memory.
 pub fn push_clauses<'t, 'y, 'm, 'a>(
     context: &'t Context<'t, 'a>,
     layout: &'y Layout<'a>,
@@ -143,7 +143,7 @@ fn default_place<'p>(all: &'p [ClauseNode], places: &'p [u32]) -> Option<u32>
 
 /// The table of a select whose ways begin at these places, that of the default last.
 ///
-/// Errors: want of memory.
+/// Errors: out of memory.
 pub fn select_table<'a>(
     context: &Context<'_, 'a>,
     layout: &Layout<'a>,

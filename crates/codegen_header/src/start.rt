@@ -19,7 +19,7 @@ use type_table::scope::Visible;
 
 /// Another goroutine starts with a call of the function of this name.
 ///
-/// Errors: want of memory.
+/// Errors: out of memory.
 #[tactic(auto, using(crate::proofs::Starting::appends_go))]
 pub fn emit_go<'k>(
     context: &Context<'_, 'k>,

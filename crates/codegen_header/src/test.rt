@@ -17,7 +17,7 @@ use type_table::value_type::ValueType;
 
 /// Pushes a condition.
 ///
-/// Errors: want of memory.
+/// Errors: out of memory.
 pub fn push_test<'k>(
     context: &Context<'_, 'k>,
     layout: &Layout<'k>,

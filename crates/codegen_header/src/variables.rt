@@ -58,7 +58,7 @@ fn push_zero_values<'t, 'n, 'm, 'a>(
     push_zero_values(context, names, kind, code)
 }
 
-/// Variables with these types are declared, and are zero.
+/// Declares variables with these types, which are zero.
 #[tactic(auto, using(crate::proofs::Zeros::appends_zeros, crate::proofs::Zeros::declared_each))]
 fn zero_as<'a>(
     context: &Context<'_, 'a>,
@@ -78,7 +78,7 @@ fn zero_as<'a>(
     assign(context.alloc, spots.as_slice(), code)
 }
 
-/// Variables of a type are declared, and take what a right side gives; where there is none they are zero.
+/// Declares variables of a type, which take the values of a right side; without one they are zero.
 fn emit_known<'a>(
     context: &Context<'_, 'a>,
     layout: &mut Layout<'a>,
@@ -99,9 +99,9 @@ fn emit_known<'a>(
     }
 }
 
-/// Variables of a type are declared, and take what a right side gives; where there is none they are zero.
+/// Declares variables of a type, which take the values of a right side; without one they are zero.
 ///
-/// Errors: want of memory.
+/// Errors: out of memory.
 pub fn emit_typed<'a>(
     context: &Context<'_, 'a>,
     layout: &mut Layout<'a>,
@@ -120,7 +120,7 @@ pub fn emit_typed<'a>(
 
 /// Variables are declared, and take what a right side gives, with its types.
 ///
-/// Errors: want of memory.
+/// Errors: out of memory.
 pub fn emit_untyped<'a>(
     context: &Context<'_, 'a>,
     layout: &mut Layout<'a>,

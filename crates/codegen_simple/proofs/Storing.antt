@@ -19,7 +19,7 @@ pub puts_drop : (count : ℕ) (old new : List Instr) → 0 < count → new ≡ o
 puts_drop zero old new some is = absurd (omega (arith, some))
 puts_drop (suc count) old new some is = puts_do old new (instrs.Discard (suc count)) is
 
--- the clock ticks behind all
+-- the clock ticks after all
 pub puts_assigned : (spots : List Spot) (i0 i1 i2 : List Instr) → Puts i0 i1 (stores_each spots) → i2 ≡ i1 ++ instrs.Tick ∷ [] → Puts i0 i2 (assigns spots)
 puts_assigned [] i0 i1 i2 p is = puts_then (stores_each []) instrs.Tick i0 i1 i2 p is
 puts_assigned (spot ∷ []) i0 i1 i2 p is = puts_then (stores_each (spot ∷ [])) instrs.Tick i0 i1 i2 p is

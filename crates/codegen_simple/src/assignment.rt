@@ -12,7 +12,7 @@ use codegen_expression::operand::put;
 use std::alloc::{AllocError, Global};
 use std::collections::HashSet;
 
-/// A word goes to a place, or is dropped where another one goes there later.
+/// A word goes to local `place`, or is dropped if another one goes there later.
 fn store_word(
     place: u32,
     places: &mut HashSet<u32>,
@@ -27,7 +27,7 @@ fn store_word(
     }
 }
 
-/// So many words go to the places from one on, the last one first.
+/// Stores `words` words into the locals from `place` on, the last one first.
 fn store_words<'p, 'c>(
     place: u32,
     words: u32,
@@ -91,7 +91,7 @@ fn store_each(alloc: Global, spots: &[Spot], code: &mut Vec<Instr>) -> Result<()
 
 /// Values go to their spots, as if from left to right, and the clock ticks.
 ///
-/// Errors: want of memory.
+/// Errors: out of memory.
 #[tactic(auto, using(crate::proofs::Storing::puts_assigned))]
 pub fn assign(alloc: Global, spots: &[Spot], code: &mut Vec<Instr>) -> Result<(), AllocError>
     ensures { OnOk result (Puts code.old.items code.new.items (assigns (map spot_in spots.now))) }

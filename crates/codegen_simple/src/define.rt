@@ -22,7 +22,7 @@ use type_table::scope::{Visible, own_variable};
 use type_table::table::TypeTable;
 use type_table::value_type::ValueType;
 
-/// Where a value of this type goes that a name takes which is not declared anew.
+/// Where a value of this type goes that is assigned to a name that is not declared anew.
 fn own_spot<'a>(
     context: &Context<'_, 'a>,
     visible: &Visible<'a>,
@@ -41,9 +41,9 @@ fn own_spot<'a>(
     }
 }
 
-/// Where a value of this type goes that a name takes.
+/// Where a value of this type goes that is assigned to a name.
 ///
-/// Errors: that begins at 2^32 or behind, which counts as want of memory.
+/// Errors: that begins at 2^32 or later, which counts as out of memory.
 pub fn name_spot<'a>(
     context: &Context<'_, 'a>,
     layout: &Layout<'a>,
@@ -61,10 +61,10 @@ pub fn name_spot<'a>(
     own_spot(context, &layout.visible, name, kind)
 }
 
-/// Declares the names that are new in their block, and not `_`, and answers where values of these types go that the names
-/// take.
+/// Declares the names that are new in their block, and not `_`, and returns where values of these types go that are assigned
+/// to the names.
 ///
-/// Errors: want of memory.
+/// Errors: out of memory.
 pub fn define_names<'t, 'm, 'k, 'a>(
     context: &'t Context<'t, 'a>,
     layout: &'m mut Layout<'a>,
@@ -105,7 +105,7 @@ fn name_type<'a>(
 
 /// The types as which names take values of these types.
 ///
-/// Errors: want of memory.
+/// Errors: out of memory.
 pub fn name_types<'t, 'l, 'n, 'k, 'a>(
     context: &'t Context<'t, 'a>,
     layout: &'l Layout<'a>,

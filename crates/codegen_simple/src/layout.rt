@@ -45,9 +45,9 @@ impl<'a> Layout<'a> {
     }
 }
 
-/// Declares a variable, behind all locals.
+/// Declares a variable, after all locals.
 ///
-/// Errors: want of memory.
+/// Errors: out of memory.
 pub fn declare<'a>(
     context: &Context<'_, 'a>,
     layout: &mut Layout<'a>,
@@ -69,9 +69,9 @@ pub fn is_declarable<'k>(table: &TypeTable<'k>, visible: &Visible<'k>, name: &[u
     !is_blank(name) && own_variable(table, visible, name).is_none()
 }
 
-/// Declares a variable where its name is new in its block, and not `_`.
+/// Declares a variable if its name is new in its block, and not `_`.
 ///
-/// Errors: want of memory.
+/// Errors: out of memory.
 pub fn declare_new<'a>(
     context: &Context<'_, 'a>,
     layout: &mut Layout<'a>,
@@ -87,7 +87,7 @@ pub fn declare_new<'a>(
     Ok(())
 }
 
-/// A block begins; answers where.
+/// A block begins; returns where.
 pub fn enter(layout: &mut Layout<'_>) -> Mark
     ensures layout { (table : OneTable) → layout_of table layout.new ≡ entering (layout_of table layout.old) }
     ensures count { result.count ≡ length layout.old.visible.entries.items }
@@ -102,7 +102,7 @@ pub fn enter(layout: &mut Layout<'_>) -> Mark
     mark
 }
 
-/// A block that began there has ended: what it declared is visible no more.
+/// A block that began at `mark` has ended: what it declared is not visible any more.
 pub fn leave(layout: &mut Layout<'_>, mark: Mark)
     ensures entries { layout.new.visible.entries.items ≡ take mark.count layout.old.visible.entries.items }
     ensures outer { layout.new.visible.outer ≡ mark.outer }

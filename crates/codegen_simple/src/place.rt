@@ -53,7 +53,7 @@ fn follow<'a>(
     }
 }
 
-/// The part of the frame to which a place leads. Its first word is 2^64 - 1 where it would be larger.
+/// The part of the frame to which a place leads. Its first word is 2^64 - 1 if it would be larger.
 fn selected<'a>(
     table: &TypeTable<'a>,
     visible: &Visible<'a>,
@@ -72,9 +72,9 @@ fn selected<'a>(
     follow(table, Some(at), place.fields.as_slice())
 }
 
-/// The locals of a part of the frame; where there is none, nothing is stored.
+/// The locals of a part of the frame; if there is none, nothing is stored.
 ///
-/// Errors: it begins at 2^32 or behind, which counts as want of memory.
+/// Errors: it begins at 2^32 or later, which counts as out of memory.
 fn spot_of<'k>(context: &Context<'_, 'k>, part: Option<Selected<'k>>) -> Result<Spot, AllocError>
     ensures spot { (whole : Option OneSelected) → option_map (selected_of (types_in context.now)) part.entry ≡ option_map capped whole → IfOk result (λ spot. (scope : Scope) → spot_in spot ≡ spot_of (globals_of context.now) (elements_of context.now) scope whole) }
     ensures far { (whole : Option OneSelected) → option_map (selected_of (types_in context.now)) part.entry ≡ option_map capped whole → IfErr result (λ _. IsFar whole) }
@@ -90,7 +90,7 @@ fn spot_of<'k>(context: &Context<'_, 'k>, part: Option<Selected<'k>>) -> Result<
 
 /// The locals of the part of the frame to which a place leads.
 ///
-/// Errors: it begins at 2^32 or behind, which counts as want of memory.
+/// Errors: it begins at 2^32 or later, which counts as out of memory.
 pub fn spot_at<'k>(
     context: &Context<'_, 'k>,
     visible: &Visible<'k>,
@@ -116,9 +116,9 @@ pub fn place_kind<'a>(
     }
 }
 
-/// Where a value of this type goes that a place takes.
+/// Where a value of this type goes that is assigned to a place.
 ///
-/// Errors: the place begins at 2^32 or behind, which counts as want of memory.
+/// Errors: the place begins at 2^32 or later, which counts as out of memory.
 pub fn place_spot<'a>(
     context: &Context<'_, 'a>,
     visible: &Visible<'a>,
@@ -134,7 +134,7 @@ pub fn place_spot<'a>(
     spot_at(context, visible, place)
 }
 
-/// Where values of these types go that places take.
+/// Where values of these types go that are assigned to places.
 pub fn place_spots<'t, 'v, 'p, 'k, 'a>(
     context: &'t Context<'t, 'a>,
     visible: &'v Visible<'a>,

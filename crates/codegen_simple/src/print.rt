@@ -18,7 +18,7 @@ use syntax::{PartNode, SimpleNode};
 use type_table::scope::Visible;
 use type_table::value_type::ValueType;
 
-/// How a value of this worth is printed.
+/// How a value of this type or constant is printed.
 fn printed_as(worth: Option<Worth<'_>>) -> Part
     ensures { (types : _) → result ≡ printed_as (option_map (worth_of types) worth.entry) }
 {
@@ -62,9 +62,9 @@ fn printed_parts<'t, 'v, 'k>(
     Ok(made)
 }
 
-/// Puts the print table of a statement behind others, where it prints.
+/// Appends the print table of a statement to the others, if it prints.
 ///
-/// Errors: want of memory.
+/// Errors: out of memory.
 pub fn put_prints<'k>(
     context: &Context<'_, 'k>,
     visible: &Visible<'k>,
@@ -103,7 +103,7 @@ fn push_part<'k>(
 
 /// Pushes what is printed, in order.
 ///
-/// Errors: want of memory.
+/// Errors: out of memory.
 #[tactic(auto, using(crate::proofs::Printing::puts_part))]
 pub fn push_parts<'t, 'v, 'm, 'k>(
     context: &'t Context<'t, 'k>,

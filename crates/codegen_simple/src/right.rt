@@ -72,7 +72,7 @@ fn source_of_two(count: usize, right: &[ExpressionNode]) -> Option<&ExpressionNo
 
 /// The types of what a right side gives `count` places.
 ///
-/// Errors: want of memory.
+/// Errors: out of memory.
 pub fn right_kinds<'a>(
     context: &Context<'_, 'a>,
     visible: &Visible<'a>,
@@ -91,7 +91,7 @@ pub fn right_kinds<'a>(
 
 /// Pushes the values of a right side, which gives `count` values, as values of these types.
 ///
-/// Errors: want of memory.
+/// Errors: out of memory.
 pub fn push_right<'t>(
     context: &Context<'_, 't>,
     visible: &Visible<'t>,

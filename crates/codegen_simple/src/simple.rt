@@ -55,7 +55,7 @@ fn drop_result(
     Ok(())
 }
 
-/// A call of a function, whose result nobody needs.
+/// A call of a function whose result is not used.
 fn call<'k>(
     context: &Context<'_, 'k>,
     visible: &Visible<'k>,
@@ -97,7 +97,7 @@ fn print<'k>(
     put(code, Instr::Print(number))
 }
 
-/// A receive from a channel, of which nobody needs the item.
+/// A receive from a channel whose item is not used.
 fn receive<'k>(
     context: &Context<'_, 'k>,
     visible: &Visible<'k>,
@@ -128,7 +128,7 @@ fn send<'k>(
     put(code, Instr::Send(shape_of(context, kind)))
 }
 
-/// Places take what a right side gives.
+/// Assigns the values of a right side to places.
 fn set<'a>(
     context: &Context<'_, 'a>,
     visible: &Visible<'a>,
@@ -148,9 +148,9 @@ fn set<'a>(
     assign(context.alloc, spots.as_slice(), code)
 }
 
-/// Names, those that are new in their block declared anew with these types, take what a right side gives.
+/// Assigns the values of a right side to names; those that are new in their block are declared with these types.
 ///
-/// Errors: want of memory.
+/// Errors: out of memory.
 pub fn define_as<'a>(
     context: &Context<'_, 'a>,
     layout: &mut Layout<'a>,
@@ -172,7 +172,7 @@ pub fn define_as<'a>(
     assign(context.alloc, spots.as_slice(), code)
 }
 
-/// Names, those that are new in their block declared anew, take what a right side gives.
+/// Assigns the values of a right side to names; those that are new in their block are declared.
 fn define<'a>(
     context: &Context<'_, 'a>,
     layout: &mut Layout<'a>,
@@ -191,7 +191,7 @@ fn define<'a>(
 
 /// Emits a simple statement, and declares what it declares. The print table of a print has this number.
 ///
-/// Errors: want of memory.
+/// Errors: out of memory.
 pub fn emit_simple<'a>(
     context: &Context<'_, 'a>,
     layout: &mut Layout<'a>,

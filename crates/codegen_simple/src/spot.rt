@@ -13,13 +13,13 @@ use std::alloc::AllocError;
 /// Where the words of a value go.
 #[derive(Clone, Copy)]
 pub enum Spot {
-    /// So many words are dropped.
+    /// The number of words that are dropped.
     Dropped(u32),
-    /// From the first number on, so many locals take them.
+    /// The first local, and how many locals take the words.
     Local(u32, u32),
 }
 
-/// Drops so many words.
+/// Drops `count` words.
 #[tactic(auto, using(crate::proofs::Storing::puts_no_drop, crate::proofs::Storing::puts_drop))]
 pub fn drop_words(count: u32, code: &mut Vec<Instr>) -> Result<(), AllocError>
     ensures { OnOk result (Puts code.old.items code.new.items (drops count)) }

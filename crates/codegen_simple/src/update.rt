@@ -36,9 +36,9 @@ fn load(spot: Spot, code: &mut Vec<Instr>) -> Result<(), AllocError>
     Ok(())
 }
 
-/// A place grows or becomes smaller by 1.
+/// Increments or decrements a place by 1.
 ///
-/// Errors: want of memory.
+/// Errors: out of memory.
 pub fn step<'k>(
     context: &Context<'_, 'k>,
     visible: &Visible<'k>,
@@ -56,9 +56,9 @@ pub fn step<'k>(
     put(code, Instr::Tick)
 }
 
-/// A place takes what an operator makes of it and a value.
+/// Assigns to a place the result of an operator on it and a value.
 ///
-/// Errors: want of memory.
+/// Errors: out of memory.
 pub fn update<'k>(
     context: &Context<'_, 'k>,
     visible: &Visible<'k>,

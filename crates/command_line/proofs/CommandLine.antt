@@ -39,7 +39,7 @@ both_parts f g None a b first second = absurd (none-some a (sym first))
 both_parts {A = A} {B = B} f g (Some x) a b first second =
     ap₂ (λ (p : A) (q : B). Some (p, q)) (sym (some_same a (f x) first)) (sym (some_same b (g x) second))
 
--- a command that does this with these files asks for all of it
+-- a command that does this with these files requests all of it
 pub asked : (found : Option (Text × List Row)) (name : Text) (rows : List Row) (invocation : Invocation) → found ≡ Some (name, rows)
     → Does name rows invocation.subcommand → Some invocation.file.now ≡ first_of (codes "FILE") rows
     → Some (map (λ path. path.now) invocation.files.now) ≡ all_of (codes "FILE") rows
@@ -54,7 +54,7 @@ pub asked : (found : Option (Text × List Row)) (name : Text) (rows : List Row) 
 asked found name rows invocation is does file files from last event clock trace pauses against strict out ends unordered leaks whole orders explains =
     subst (λ x. IsAsked x (Some invocation)) (sym is) (does, sym file, sym files, from, last, event, clock, sym trace, sym pauses, sym against, strict, sym out, ends, unordered, leaks, whole, orders, explains)
 
--- without a file it asks for nothing
+-- without a file it requests nothing
 pub not_asked : (found : Option (Text × List Row)) (name : Text) (rows : List Row) → found ≡ Some (name, rows)
     → None ≡ first_of (codes "FILE") rows → IsAsked found None
 not_asked found name rows is no_file = subst (λ x. IsAsked x None) (sym is) (λ invocation asks. none-some _ (no_file ∙ asks.1))
@@ -77,7 +77,7 @@ flag_there set value wanted found is tests = ((λ yes. sym is ∙ ap Some (tests
 pub flag_missing : (wanted : List ℕ) (found : Option (List ℕ)) → None ≡ found → IsTrue false ↔ (found ≡ Some wanted)
 flag_missing wanted found is = ((λ yes. absurd (false≢true yes)), (λ same. absurd (none-some wanted (is ∙ same))))
 
--- one argument more is taken, and those behind it are left
+-- one more argument is taken, and those after it are left
 pub one_taken : (before after all : App) (arguments : List Argument) (i : ℕ) (other : Argument) (rule : Rule) → i < length arguments
     → rule ≡ rule_for (slice_index_or arguments i other) → after ≡ with_rule before rule → with_rules before (drop i arguments) ≡ all
     → with_rules after (drop (i + 1) arguments) ≡ all
@@ -88,7 +88,7 @@ one_taken before after all arguments i other rule is_there same takes left =
 pub all_taken : (made all : App) (arguments : List Argument) (i : ℕ) → length arguments ≤ i → with_rules made (drop i arguments) ≡ all → made ≡ all
 all_taken made all arguments i is_end left = sym (at_drop_all (with_rules made) arguments i is_end) ∙ left
 
--- one subcommand more is there, and those behind it are left
+-- one more subcommand is there, and those after it are left
 pub one_there : (before after all : App) (list : List TextCommand) (i : ℕ) (other : TextCommand) → i < length list
     → after ≡ with_subcommand before (app_for (slice_index_or list i other)).top → with_commands before (drop i list) ≡ all → with_commands after (drop (i + 1) list) ≡ all
 one_there before after all list i other is_there extends left =

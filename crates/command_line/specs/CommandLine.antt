@@ -1,4 +1,4 @@
--- The command line: the commands that are taken, and what the words of one ask for.
+-- The command line: the accepted commands, and what the words of one request.
 use Rattle.std.specs.Prelude.{◌≡◌, ◌↔◌, ◌⊎◌, Bool, IsTrue, ℕ, ◌<◌, ◌-◌, ◌^◌, List, [], ◌∷◌, Option, Some, None, option_map, false, true, codes}
 use Rattle.std.specs.Option.{is_some}
 use Rattle.std.specs.Str.Parse.{IsNumeral, digits_value, without_leading_plus}
@@ -160,7 +160,7 @@ chosen_inspect = with_rule (with_rule (with_rule (with_rule (new_app (codes "ins
 abbrev pub inspect : App
 inspect = with_rule (with_rule chosen_inspect pauses) explain
 
--- a command has to be there; kendo --version tells the version
+-- a command is required; kendo --version prints the version
 abbrev pub named : App
 named =
     let plain = new_app (codes "kendo") in
@@ -211,7 +211,7 @@ rule_for arguments.Whole = flag (codes "whole")
 rule_for arguments.Orders = flag (codes "orders")
 rule_for arguments.Explain = explain
 
--- a command that takes these arguments too, one behind the other
+-- a command that takes these arguments too, one after the other
 abbrev pub with_rules : App → List Argument → App
 with_rules command [] = command
 with_rules command (argument ∷ rest) = with_rules (with_rule command (rule_for argument)) rest
@@ -220,14 +220,14 @@ with_rules command (argument ∷ rest) = with_rules (with_rule command (rule_for
 abbrev pub app_for : TextCommand → App
 app_for listed = with_rules (new_app listed.name.now) listed.arguments.now
 
--- a command with these subcommands too, one behind the other
+-- a command with these subcommands too, one after the other
 abbrev pub with_commands : App → List TextCommand → App
 with_commands command [] = command
 with_commands command (listed ∷ rest) = with_commands (with_subcommand command (app_for listed).top) rest
 
--- ---- what the words ask for
+-- ---- what the words request
 
--- the text is this number, below 2^64, in decimal digits behind at most a plus
+-- the text is this number, below 2^64, in decimal digits after at most a plus
 abbrev pub IsNumber : Option Text → ℕ → Type 0
 IsNumber None n = ⊥
 IsNumber (Some text) n = IsNumeral 10 (without_leading_plus text) × (digits_value 10 (without_leading_plus text) ≡ n) × (n < 2 ^ 64)
@@ -236,7 +236,7 @@ IsNumber (Some text) n = IsNumeral 10 (without_leading_plus text) × (digits_val
 abbrev pub is_paused : List Row → Bool
 is_paused rows = is_some (first_of (codes "pauses") rows)
 
--- the command of this name, with these values, asks for this
+-- the command of this name, with these values, requests this
 abbrev pub Does : (name : Text) → List Row → Subcommand → Type 0
 Does name rows subcommands.Check = name ≡ codes "check"
 Does name rows subcommands.List = name ≡ codes "list"
@@ -284,12 +284,12 @@ Asks (name, rows) invocation =
     × IsSet (codes "orders") rows invocation.orders
     × IsSet (codes "explain") rows invocation.explains
 
--- what the command does, or none where it does nothing
+-- what the command does, or none if it does nothing
 abbrev pub IsDone : (name : Text) → List Row → Option Subcommand → Type 0
 IsDone name rows (Some subcommand) = Does name rows subcommand
 IsDone name rows None = (subcommand : Subcommand) → Does name rows subcommand → ⊥
 
--- what the words ask for where they name a command, or none where they ask for nothing
+-- what the words request if they name a command, or none if they request nothing
 abbrev pub IsAsked : Option (Text × List Row) → Option Invocation → Type 0
 IsAsked None None = Unit {0}
 IsAsked None (Some invocation) = ⊥

@@ -60,7 +60,7 @@ pub struct Invocation<'m, 'a> {
     pub unordered: bool,
     /// Whether goroutines that wait when `main` has returned count.
     pub leaks: bool,
-    /// Whether an exploration that did not search all orders is told by its exit status.
+    /// Whether the exit status reports that an exploration did not search all orders.
     pub whole: bool,
     /// Whether a test searches other orders.
     pub orders: bool,
@@ -165,7 +165,7 @@ enum Argument {
     Unordered,
     /// Whether goroutines that wait when `main` has returned count.
     Leaks,
-    /// Whether an exploration that did not search all orders is told by its exit status.
+    /// Whether the exit status reports that an exploration did not search all orders.
     Whole,
     /// Whether a test searches other orders.
     Orders,
@@ -304,7 +304,7 @@ fn option_argument<'a>(alloc: Global, name: &'a str, help: &'a str) -> Arg<'a>
     Arg::new(alloc, name).long(name).help(help)
 }
 
-/// An option with one number, and the number where it is left out.
+/// An option with one number, and the number if it is left out.
 fn number_argument<'a>(
     alloc: Global,
     name: &'a str,
@@ -568,7 +568,7 @@ fn subcommand_named(name: &str, matches: &ArgMatches<'_>) -> Option<Subcommand>
     }
 }
 
-/// What the words ask for.
+/// The invocation that the words request.
 pub fn invocation_of<'m, 'a>(matches: &'m ArgMatches<'a>) -> Option<Invocation<'m, 'a>>
     ensures { IsAsked (subcommand_rows_of matches.now) result }
 {

@@ -1,4 +1,4 @@
-//! The command line of the program: which words it takes, and what they ask for.
+//! The command line of the program: which words it accepts, and what they request.
 #![tactic(auto)]
 
 pub mod arguments;

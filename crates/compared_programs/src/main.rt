@@ -1,5 +1,5 @@
 //! Compares runs of the programs of `data` with the traces of `data`, `NAME.CASE.trace` with the run of `NAME.go`, by the plan
-//! `NAME.CASE.pauses` if there is one, goroutine by goroutine and byte by byte, and prints what is told of each.
+//! `NAME.CASE.pauses` if there is one, goroutine by goroutine and byte by byte, and prints the reports.
 #![tactic(auto)]
 
 use go_text::Fault;
@@ -125,7 +125,7 @@ fn run(
     }
 }
 
-/// Prints what is told of a comparison.
+/// Prints the report of a comparison.
 fn print(
     rt: &HostRuntime,
     alloc: Global,

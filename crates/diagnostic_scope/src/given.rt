@@ -31,7 +31,7 @@ pub enum Role<'a> {
     Returned,
     /// It is the size of a channel's buffer.
     Size,
-    /// It is the condition of an `if` or, where that is true, of a `for`.
+    /// It is the condition of an `if` or, if that is true, of a `for`.
     Condition(bool),
     /// One sends to it.
     SentTo,
@@ -71,7 +71,7 @@ pub struct Written<'a> {
     pub written: &'a TypeNode,
 }
 
-/// What a unit has that sentences tell of.
+/// The parts of a unit that messages mention.
 pub struct Parts<'a> {
     /// The first node of the unit.
     pub first: NodeId,
@@ -117,13 +117,13 @@ impl Drop for Parts<'_> {
     }
 }
 
-/// Where values go, which tells the types that are wanted.
+/// Where values go, which determines the types that they must have.
 #[derive(Clone, Copy)]
 enum Target<'a> {
     Places(&'a [PlaceNode]),
     /// The names on the left of a `:=`.
     Names(&'a [Name]),
-    /// So many new variables of this type.
+    /// This many new variables of this type.
     Variables(Option<ValueType<'a>>, usize),
     /// New variables, whose types are those of the values.
     Untyped,

@@ -21,7 +21,7 @@ struct Search<'a> {
     end: NodeId,
     /// The part whose own node it is, once that was passed.
     part: Option<&'a ExpressionNode>,
-    /// The same part, if a literal gives it to a field.
+    /// The part again, if a literal gives it to a field.
     filled: Option<Filled<'a>>,
 }
 

@@ -16,7 +16,7 @@ pub enum Unit<'a> {
     Simple(&'a SimpleNode),
     /// A statement that holds no other.
     Leaf(&'a StatementNode),
-    /// The condition of an `if` or, where the first is true, of a `for`.
+    /// The condition of an `if` or, if the first is true, of a `for`.
     Condition(bool, &'a ExpressionNode),
     Range(&'a RangeTarget, &'a ExpressionNode),
     /// What a clause of a `select` waits for.
@@ -116,7 +116,7 @@ impl<'a> Walk<'a> {
         }
     }
 
-    /// Passes a `for`, whose own node tells of its range.
+    /// Passes a `for`, whose own node stands for its range.
     #[cycle(statement)]
     fn pass_for(&mut self, header: &'a ForHeader, body: &'a [StatementNode]) {
         let first = self.end;
@@ -155,7 +155,7 @@ impl<'a> Walk<'a> {
         self.pass_block(clause.body.as_slice());
     }
 
-    /// Passes a `select`, whose own node tells of its clauses.
+    /// Passes a `select`, whose own node stands for its clauses.
     #[cycle(statement)]
     fn pass_select(&mut self, clauses: &'a [ClauseNode]) {
         let first = self.end;
@@ -192,7 +192,7 @@ impl<'a> Walk<'a> {
         self.pass_node();
     }
 
-    /// Passes a function. What is wrong with it as a whole is told at its last node.
+    /// Passes a function. What is wrong with it as a whole is reported at its last node.
     fn pass_function(&mut self, function: &'a FunctionNode) {
         let first = self.end;
         self.pass(first, function_first(first, function), Unit::Head(function));

@@ -9,7 +9,7 @@ use go_text::{Fault, Memory, Source};
 use std::alloc::Global;
 
 /// A piece of text for each token, where names, numbers and strings have one each. `x` is any name that can be declared. Names of
-/// built-in functions have one each too, since the grammar tells them apart.
+/// built-in functions have one each too, since the grammar distinguishes them.
 const PIECES: &str =
     "x 1 \"\" if return for go var select break continue print println close make len cap func type package \
 main struct chan range else case default import const defer switch goto fallthrough interface map ( ) . <- ++ -- , := = += -= *= \
@@ -70,7 +70,7 @@ static WANTED: [Wanted; 37] = [
     Wanted("\"}\"", "}"),
 ];
 
-/// The name of a semicolon where the end of a line stands for it.
+/// The name of a semicolon if the end of a line stands for it.
 const LINE_END: &str = "a newline";
 
 /// The tokens that could stand where no tree goes on.
@@ -187,7 +187,7 @@ fn is_in_header(site: &Site<'_>) -> bool {
     }
 }
 
-/// Puts `, expected A, B or C` after what is there, if anything could stand where no tree goes on.
+/// Appends `, expected A, B or C`, if anything could stand where no tree goes on.
 pub(crate) fn push_expected(
     said: &mut Words,
     site: &Site<'_>,
@@ -210,7 +210,7 @@ pub(crate) fn push_expected(
     Ok(())
 }
 
-/// Puts `, expected A, B or C` after what is there, where there are such names; a semicolon is a newline where `ends_line` holds.
+/// Appends `, expected A, B or C`, if there are such names; a semicolon is a newline if `ends_line` holds.
 fn push_names(said: &mut Words, names: &[&'static str], ends_line: bool) {
     for (index, &name) in names.iter().enumerate() {
         said.text(if index == 0 {

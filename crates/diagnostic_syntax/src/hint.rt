@@ -15,7 +15,7 @@ pub(crate) enum Hint<'t> {
 }
 
 impl Hint<'_> {
-    /// Puts the hint after what is there.
+    /// Appends the hint.
     pub(crate) fn push(&self, said: &mut Words) {
         match *self {
             Hint::Plain(text) => said.text(text),

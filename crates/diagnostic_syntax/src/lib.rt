@@ -1,4 +1,4 @@
-//! A fault of the syntax in a sentence: what was found, what could stand there, and what to write instead.
+//! A syntax error in a sentence: what was found, what could stand there, and what to write instead.
 #![tactic(auto)]
 
 ghost use Rattle.std.specs.Prelude.{◌≡◌};

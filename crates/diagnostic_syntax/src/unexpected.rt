@@ -10,7 +10,7 @@ use go_text::{Fault, Memory, Place, Source};
 use scanner::{Token, scan};
 use std::alloc::Global;
 
-/// The tokens of a text; none where it has a fault before its tree.
+/// The tokens of a source file; none if it has an error before its tree.
 fn tokens_of(alloc: Global, text: &str) -> Result<Vec<Token>, Memory> {
     let bytes = Vec::from_slice(alloc, text.as_bytes())?;
     let Ok(source) = Source::new(bytes) else {
@@ -45,7 +45,7 @@ fn found_at(text: &str, place: Place) -> &str {
     }
 }
 
-/// Puts what was found where no tree goes on, what could stand there, its line, and a hint, after what is there.
+/// Appends what was found where no tree goes on, what could stand there, its line, and a hint.
 pub fn push_syntax(
     alloc: Global,
     said: &mut Words,

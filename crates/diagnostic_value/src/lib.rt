@@ -1,4 +1,4 @@
-//! Values and operations that do not fit where they stand, in the words of Go: the scene of a fault, and what sentences tell of
+//! Values and operations that do not fit where they stand, in the words of Go: the scene of a fault, and the sentences about
 //! the values there. No contract says what is printed.
 #![tactic(auto)]
 

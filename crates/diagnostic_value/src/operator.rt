@@ -9,7 +9,7 @@ use diagnostic_words::words::{
 use syntax::{BinaryOperator, ExpressionNode, PlaceNode, UnaryOperator};
 use type_table::value_type::ValueType;
 
-/// What an operand is worth to an operator.
+/// The sort of an operand, as far as operators distinguish it.
 #[derive(Clone, Copy, PartialEq, Eq)]
 enum Sort {
     Int,

@@ -86,7 +86,7 @@ impl<'s, 'a> Setting<'s, 'a> {
         filled_at(self.node, value.first, value.expression)
     }
 
-    /// What an expression is worth there, if it is right.
+    /// The type or constant value of an expression there; `None` if it violates a typing rule.
     pub fn worth(&self, expression: &'a ExpressionNode) -> Option<Worth<'a>> {
         worth(self.table, &self.scene.visible, expression)
     }
@@ -101,12 +101,12 @@ impl<'s, 'a> Setting<'s, 'a> {
         variable_named(self.table, &self.scene.visible, name)
     }
 
-    /// Puts an operand, with what it is worth there, after what is there.
+    /// Appends an operand, with its type or constant value there, to `said`.
     pub fn push_operand(&self, said: &mut Words, operand: &ExpressionNode) {
         push_operand(said, self.table, &self.scene.visible, operand);
     }
 
-    /// Puts what an operand is worth there after what is there.
+    /// Appends the type or constant value of an operand there to `said`.
     pub fn push_worth(&self, said: &mut Words, operand: &ExpressionNode) {
         push_worth(said, self.table, &self.scene.visible, operand);
     }

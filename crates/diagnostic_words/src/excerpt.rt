@@ -97,7 +97,7 @@ fn end_of(piece: &str, most: usize) -> &str {
     ""
 }
 
-/// Whether nothing can be seen of a character, or it moves what stands beside it.
+/// Whether nothing can be seen of a character, or it moves what stands next to it.
 fn is_hidden(one: char) -> bool {
     match one {
         '\t' => false,
@@ -108,7 +108,7 @@ fn is_hidden(one: char) -> bool {
     }
 }
 
-/// Puts a piece of a line after what is there, with `<U+FEFF>` for a character that can't be seen.
+/// Appends a piece of a line, with `<U+FEFF>` for a character that can't be seen.
 pub fn push_shown(said: &mut Words, piece: &str) {
     let mut buffer = [0; 4];
     for one in piece.chars() {
@@ -122,7 +122,7 @@ pub fn push_shown(said: &mut Words, piece: &str) {
     }
 }
 
-/// Puts the number of a character in four hexadecimal digits after what is there; those that are hidden have no more.
+/// Appends the number of a character in four hexadecimal digits; those that are hidden have no more.
 fn push_code(said: &mut Words, one: char) {
     let code = u32::from(one);
     said.text(digit_text((code >> 12) & 0xf));
@@ -164,7 +164,7 @@ fn shown_width(piece: &str) -> usize {
     width
 }
 
-/// Puts white space as wide as a piece of a line, with its tabs, after what is there.
+/// Appends white space as wide as a piece of a line, with its tabs.
 fn push_blanks(said: &mut Words, before: &str) {
     for (index, piece) in before.split('\t').enumerate() {
         said.text(if index > 0 { "\t" } else { "" });
@@ -172,7 +172,7 @@ fn push_blanks(said: &mut Words, before: &str) {
     }
 }
 
-/// Puts text `times` times after what is there.
+/// Appends text `times` times.
 fn push_times(said: &mut Words, text: &str, times: usize) {
     for _ in 0..times {
         said.text(text);

@@ -1,4 +1,4 @@
-//! What is said of a value: its text, what kind of value it is, and its type.
+//! Describes a value: its text, what kind of value it is, and its type.
 
 use crate::words::{Words, push_expression, push_type};
 use checker_base::operand::worth;
@@ -112,7 +112,7 @@ fn sort_text(expression: &ExpressionNode) -> &'static str {
     }
 }
 
-/// Puts what a constant is after its text: its value, where the text is another.
+/// Appends to a constant's text what it is: its value, if the text is another.
 fn push_constant(said: &mut Words, expression: &ExpressionNode, value: i128) {
     if is_integer(expression) {
         return said.text(" (untyped int constant)");
@@ -122,7 +122,7 @@ fn push_constant(said: &mut Words, expression: &ExpressionNode, value: i128) {
     said.text(")");
 }
 
-/// Puts a value after what is there, as `x (variable of type int)`.
+/// Appends a value, as `x (variable of type int)`.
 pub fn push_operand(
     said: &mut Words,
     table: &TypeTable<'_>,
@@ -137,7 +137,7 @@ pub fn push_operand(
     }
 }
 
-/// Puts the type of a value after what is there, as `int` or `untyped int`.
+/// Appends the type of a value, as `int` or `untyped int`.
 pub fn push_worth(
     said: &mut Words,
     table: &TypeTable<'_>,
@@ -152,7 +152,7 @@ pub fn push_worth(
     }
 }
 
-/// Puts the type of a value that is no constant after what is there.
+/// Appends the type of a value that is no constant.
 fn push_type_of(
     said: &mut Words,
     table: &TypeTable<'_>,

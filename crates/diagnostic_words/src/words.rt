@@ -5,7 +5,7 @@ use syntax::{BinaryOperator, Direction, ExpressionNode, Name, PlaceNode, TypeNod
 use type_table::table::TypeTable;
 use type_table::value_type::ValueType;
 
-/// What is said so far. Once a request for memory is refused nothing more is said, and `into_bytes` tells of it.
+/// The words so far. Once a request for memory is refused nothing more is appended, and `into_bytes` reports it.
 #[derive(Drop)]
 pub struct Words {
     alloc: Global,
@@ -24,12 +24,12 @@ impl Words {
         }
     }
 
-    /// Whether nothing is said, nor was to be said and refused.
+    /// Whether there are no words, and none were refused.
     pub fn is_empty(&self) -> bool {
         self.bytes.is_empty() && !self.is_cut
     }
 
-    /// What is said, in UTF-8.
+    /// The words, in UTF-8.
     ///
     /// Errors: a request for memory was refused.
     pub fn into_bytes(self) -> Result<Vec<u8>, AllocError> {
@@ -39,41 +39,41 @@ impl Words {
         Ok(self.bytes)
     }
 
-    /// A request for memory was refused elsewhere: nothing more is said.
+    /// A request for memory was refused elsewhere: nothing more is appended.
     pub fn refuse(&mut self) {
         self.is_cut = true;
     }
 
-    /// Puts bytes after what is there.
+    /// Appends bytes.
     fn put(&mut self, bytes: &[u8]) {
         if !self.is_cut {
             self.is_cut = self.bytes.extend_from_slice(bytes).is_err();
         }
     }
 
-    /// Puts text after what is there.
+    /// Appends text.
     pub fn text(&mut self, text: &str) {
         self.put(text.as_bytes());
     }
 
-    /// Puts a name after what is there.
+    /// Appends a name.
     pub fn name(&mut self, name: &Name) {
         self.put(name.bytes.as_slice());
     }
 
-    /// Puts bytes in UTF-8 after what is there.
+    /// Appends bytes in UTF-8.
     pub fn bytes(&mut self, bytes: &[u8]) {
         self.put(bytes);
     }
 
-    /// Puts a name between two texts after what is there.
+    /// Appends a name between two texts.
     pub fn around(&mut self, before: &str, name: &Name, behind: &str) {
         self.text(before);
         self.name(name);
         self.text(behind);
     }
 
-    /// Puts a number after what is there.
+    /// Appends a number.
     pub fn number(&mut self, value: i128) {
         match value.to_string(self.alloc) {
             Ok(text) => self.text(text.as_str()),
@@ -117,7 +117,7 @@ pub fn unary_text(operator: UnaryOperator) -> &'static str {
     }
 }
 
-/// Puts an expression after what is there; of a literal with values it puts the type alone.
+/// Appends an expression; of a literal with values it puts the type alone.
 #[cycle(expression)]
 pub fn push_expression(said: &mut Words, expression: &ExpressionNode) {
     match expression {
@@ -146,7 +146,7 @@ pub fn push_expression(said: &mut Words, expression: &ExpressionNode) {
     }
 }
 
-/// Puts an expression between two texts after what is there.
+/// Appends an expression between two texts.
 #[cycle(expression)]
 fn push_between(said: &mut Words, before: &str, expression: &ExpressionNode, behind: &str) {
     said.text(before);
@@ -154,20 +154,20 @@ fn push_between(said: &mut Words, before: &str, expression: &ExpressionNode, beh
     said.text(behind);
 }
 
-/// Puts a field of an expression after what is there.
+/// Appends a field of an expression.
 #[cycle(expression)]
 fn push_selection(said: &mut Words, whole: &ExpressionNode, field: &Name) {
     push_between(said, "", whole, ".");
     said.name(field);
 }
 
-/// Puts a literal after what is there, its values as three dots.
+/// Appends a literal, its values as three dots.
 fn push_literal(said: &mut Words, name: &Name, is_empty: bool) {
     said.name(name);
     said.text(if is_empty { "{}" } else { "{…}" });
 }
 
-/// Puts an integer of the text after what is there.
+/// Appends an integer of the text.
 fn push_integer(said: &mut Words, value: Option<u128>) {
     match value.and_then(|value| i128::try_from(value).ok()) {
         Some(value) => said.number(value),
@@ -175,7 +175,7 @@ fn push_integer(said: &mut Words, value: Option<u128>) {
     }
 }
 
-/// Puts values after what is there, with commas.
+/// Appends values, with commas.
 #[cycle(expression)]
 fn push_values(said: &mut Words, values: &[ExpressionNode]) {
     for (index, value) in values.iter().enumerate() {
@@ -183,7 +183,7 @@ fn push_values(said: &mut Words, values: &[ExpressionNode]) {
     }
 }
 
-/// Puts a call with these arguments after what is there.
+/// Appends a call with these arguments.
 #[cycle(expression)]
 pub fn push_call(said: &mut Words, function: &Name, arguments: &[ExpressionNode]) {
     said.name(function);
@@ -192,14 +192,14 @@ pub fn push_call(said: &mut Words, function: &Name, arguments: &[ExpressionNode]
     said.text(")");
 }
 
-/// Puts a `make` of this type after what is there, up to the text after the type.
+/// Appends a `make` of this type, up to the text after the type.
 fn push_make(said: &mut Words, written: &TypeNode, behind: &str) {
     said.text("make(");
     push_written(said, written);
     said.text(behind);
 }
 
-/// Puts a place after what is there.
+/// Appends a place.
 pub fn push_place(said: &mut Words, place: &PlaceNode) {
     said.name(&place.name);
     for field in place.fields.iter() {
@@ -208,7 +208,7 @@ pub fn push_place(said: &mut Words, place: &PlaceNode) {
     }
 }
 
-/// Puts a type after what is there, in no more parentheses than it needs.
+/// Appends a type, in no more parentheses than it needs.
 #[cycle(written)]
 pub fn push_written(said: &mut Words, written: &TypeNode) {
     match written {
@@ -218,7 +218,7 @@ pub fn push_written(said: &mut Words, written: &TypeNode) {
     }
 }
 
-/// Puts the type of a channel after what is there.
+/// Appends the type of a channel.
 #[cycle(written)]
 fn push_channel(said: &mut Words, direction: Direction, element: &TypeNode) {
     let parted = needs_parentheses(direction, element);
@@ -246,7 +246,7 @@ fn channel_text(direction: Direction) -> &'static str {
     }
 }
 
-/// Puts a type after what is there.
+/// Appends a type.
 pub fn push_type(said: &mut Words, table: &TypeTable<'_>, kind: ValueType<'_>) {
     match kind {
         ValueType::Int => said.text("int"),

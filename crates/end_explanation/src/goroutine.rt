@@ -34,7 +34,7 @@ pub(crate) struct Goroutine {
     pub number: u64,
     /// Its clock.
     pub clock: u64,
-    /// What it sleeps at; none if it is awake.
+    /// The request at which it sleeps; none if it is awake.
     pub wish: Option<Request>,
     /// The functions that run, the one called last at the end.
     pub calls: Vec<Call>,

@@ -16,7 +16,7 @@ use verifier::Verified;
 use word::end::End;
 use word::request::{Event, Request};
 
-/// How many local steps a goroutine makes before the book is asked for the next event.
+/// How many local steps a goroutine makes before the next event is requested from the book.
 const QUANTUM: u32 = 65_536;
 
 /// How many prints there are between two times at which the output is dropped.

@@ -11,12 +11,12 @@ use std::alloc::Global;
 use word::end::End;
 use word::panic::Panic;
 
-/// What an exploration comes to.
+/// The result of an exploration.
 #[derive(Clone, Copy, PartialEq, Eq)]
 pub enum Verdict {
     /// All orders were searched, and all end in the same way.
     Same,
-    /// Those that were searched end in the same way, or at a limit that Go doesn't have.
+    /// All orders searched so far end in the same way, or at a limit that Go doesn't have.
     SameSoFar,
     /// There is another end.
     Other,
@@ -49,7 +49,7 @@ impl Findings {
         }
     }
 
-    /// One more end that is told no more of.
+    /// One more end that is only counted.
     pub(crate) fn count(&mut self)
         ensures ordinary { self.new.ordinary ≡ self.old.ordinary }
         ensures shown { self.new.shown ≡ self.old.shown }
@@ -78,7 +78,7 @@ impl Findings {
         Ok(())
     }
 
-    /// What it comes to, if all orders were searched or not.
+    /// The verdict; `is_whole` says whether all orders were searched.
     pub(crate) fn verdict(&self, is_whole: bool) -> Verdict
         ensures other { (result ≡ Verdict.Other) ↔ (list_all (λ one. limits.is_own_limit one.end) self.now.shown.items ≡ false) }
         ensures same { result ≡ Verdict.Same → IsTrue is_whole × (self.now.shown.items ≡ []) }

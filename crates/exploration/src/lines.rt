@@ -1,4 +1,4 @@
-//! What is told of an exploration.
+//! The report of an exploration.
 
 use crate::scene::Scene;
 use crate::shown::Shown;

@@ -187,7 +187,7 @@ impl Ran {
         }
     }
 
-    /// Whether the run ended so, with the output of this number if outputs tell such ends apart.
+    /// Whether the run ended so, with the output of this number if outputs distinguish such ends.
     ///
     /// Errors: out of memory.
     pub(crate) fn is(

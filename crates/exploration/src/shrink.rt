@@ -139,8 +139,8 @@ impl<'w, 't, 's, 'c> Shrinking<'w, 't, 's, 'c> {
     }
 }
 
-/// Fewer and shorter delays than these with which a run of about so many events and ticks ends as it is wanted, if it does with all of
-/// them.
+/// Fewer and shorter delays than `delays` with which a run of about `length` events and ticks ends as it is wanted, if it does with
+/// all of them.
 ///
 /// Errors: out of memory.
 pub(crate) fn shrunk_delays(

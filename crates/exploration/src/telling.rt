@@ -11,7 +11,7 @@ use diagnostic_words::words::Words;
 use go_text::Memory;
 
 impl Exploration<'_> {
-    /// What it comes to.
+    /// The verdict.
     pub fn verdict(&self, findings: &Findings) -> Verdict
         ensures other { (result ≡ Verdict.Other) ↔ (are_own_limits (map seen findings.now.shown.items) ≡ false) }
         ensures same { result ≡ Verdict.Same → findings.now.shown.items ≡ [] }
@@ -19,7 +19,7 @@ impl Exploration<'_> {
         findings.verdict(self.search.is_whole())
     }
 
-    /// What is told of it; `files` are the names of the files of plans, in the order of the ends that were shown.
+    /// The report; `files` are the names of the files of plans, in the order of the ends that were shown.
     ///
     /// Errors: out of memory.
     pub fn report(

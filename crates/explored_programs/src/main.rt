@@ -1,5 +1,5 @@
-//! Explores each program of `data`, and prints what is told of it, and the plans that show its ends again; then how many ends are found
-//! if each move is made among all others.
+//! Explores each program of `data`, and prints its report, and the plans that show its ends again; then how many ends
+//! are found if each move is made among all others.
 //!
 //! Line 2 of each program names what is to be found: `deadlock`, a panic, `output`, `leak` or `none`.
 #![tactic(auto)]
@@ -21,7 +21,7 @@ fn main(rt: HostRuntime) -> io::Result<()> {
     Ok(())
 }
 
-/// Nothing is told while an exploration goes on.
+/// Prints nothing while an exploration goes on.
 #[derive(Drop)]
 struct Silent;
 
@@ -29,7 +29,7 @@ impl Progress for Silent {
     fn visited(&mut self, _states: usize) {}
 }
 
-/// Explores the program of a file, and prints what is told of it.
+/// Explores the program of a file, and prints its report.
 fn explore(rt: &HostRuntime, name: &str) -> io::Result<()> {
     let alloc = rt.alloc();
     let bytes = fs::read(rt, name)?;
@@ -65,7 +65,7 @@ fn print_unreduced(rt: &HostRuntime, bytes: Vec<u8>, scope: Scope) -> io::Result
     }
 }
 
-/// Prints what is told of a program.
+/// Prints the report on a program.
 fn print(rt: &HostRuntime, explored: &Explored) -> io::Result<()> {
     let mut out = rt.stdout();
     out.write_all(explored.report.as_slice())?;

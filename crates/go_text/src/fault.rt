@@ -1,4 +1,4 @@
-//! Why a text or a run is refused.
+//! Why a source or a run is refused.
 ghost use Rattle.std.specs.Prelude.{◌≡◌};
 ghost use Rattle.go_text.specs.Titles.{fault_title};
 ghost use Rattle.go_text.specs.declared.fault.Fault.TheVariants as fault;
@@ -19,12 +19,12 @@ pub struct Memory;
 #[error("12 NotYours")]
 pub struct NotYours;
 
-/// All refusals, in the order of their numbers, 1 to 16.
+/// All errors, in the order of their numbers, 1 to 16.
 #[derive(Clone, Copy, Debug, PartialEq, Eq)]
 pub enum Fault {
-    /// The text is longer than 1,048,576 bytes.
+    /// The source is longer than 1,048,576 bytes.
     TooLong,
-    /// The text is not UTF-8.
+    /// The source is not UTF-8.
     NotUtf8,
     /// No token begins with this character, or a NUL or a byte-order mark stands in the string or comment that begins
     /// here.
@@ -39,7 +39,7 @@ pub enum Fault {
     Syntax(Place),
     /// The tokens are spelt by no tree of at most 200 levels.
     TooDeep(Place),
-    /// A typing rule is broken at this node of the tree.
+    /// A typing rule is violated at this node of the tree.
     Typing {
         rule: Rule,
         node: u32,
@@ -51,7 +51,7 @@ pub enum Fault {
         node: Option<u32>,
         place: Place,
     },
-    /// A rule of the verifier, 1 to 8, is broken at this instruction of this function.
+    /// A rule of the verifier, 1 to 8, is violated at this instruction of this function.
     Unverified {
         rule: u8,
         function: usize,

@@ -1,4 +1,4 @@
-//! A text in UTF-8 of bounded length, its spans and positions, and the refusals of the whole product.
+//! A source in UTF-8 of bounded length, its spans and positions, and all errors of the product.
 #![tactic(auto)]
 
 pub mod fault;

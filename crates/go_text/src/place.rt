@@ -1,9 +1,9 @@
-//! Places in a text.
+//! Locations in a source.
 
 ghost use Rattle.std.specs.Prelude.{◌≡◌, ◌≤◌, length};
 ghost use Rattle.go_text.specs.Lines.{position_after};
 
-/// The bytes of a text from `from` to below `to`.
+/// The bytes of a source from `from` to below `to`.
 #[derive(Clone, Copy, Debug, PartialEq, Eq)]
 pub struct Span {
     pub from: u32,
@@ -17,7 +17,7 @@ pub struct Position {
     pub column: u32,
 }
 
-/// Where a fault lies. The calls that have the text add the position of the span's first byte.
+/// Where a fault lies. The calls that have the source add the position of the span's first byte.
 #[derive(Clone, Copy, Debug, PartialEq, Eq)]
 pub struct Place {
     pub span: Span,
@@ -38,7 +38,7 @@ impl From<Span> for Place {
     }
 }
 
-/// The position of the place behind these bytes, which begin a text.
+/// The position after these bytes, which begin a source.
 pub(crate) fn position_behind(bytes: &[u8]) -> Position
     requires { length bytes.now ≤ 1048576 }
     ensures { result ≡ position_after 1 1 bytes.now }

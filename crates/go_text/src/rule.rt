@@ -21,7 +21,7 @@ pub enum Rule {
     Numbers = 8,
     /// `:=` declares at least one new name.
     NewName = 9,
-    /// What is assigned to is a place.
+    /// What is assigned to is an lvalue.
     Assigned = 10,
     /// A channel's direction allows the operation.
     Direction = 11,
@@ -31,7 +31,7 @@ pub enum Rule {
     Nil = 13,
     /// Conditions are bool.
     Condition = 14,
-    /// `return` has a value exactly where the function has a result.
+    /// `return` has a value exactly if the function has a result.
     Returned = 15,
     /// A function with a result ends in a terminating statement.
     Terminating = 16,
@@ -45,7 +45,7 @@ pub enum Rule {
     OneDefault = 20,
 }
 
-/// A limit on the size of a text's parts; `kind as u8` is its number.
+/// A limit on the size of a program's parts; `kind as u8` is its number.
 #[derive(Clone, Copy, Debug, PartialEq, Eq)]
 pub enum LimitKind {
     /// A constant's size is at most 2^100, and the count of a wholly constant shift at most 100.

@@ -1,13 +1,13 @@
-//! A text of bounded length, its slices, lines and columns.
+//! A source of bounded length, its slices, lines and columns.
 ghost use Rattle.std.specs.Prelude.{◌≡◌, ◌≤◌, ◌<◌, ◌⊎◌, ◌↔◌, length, IfOk, IfErr, IsErrOf, slice_range, IsUtf8, IsCharBoundary, string_len, vec_len};
 
 use crate::fault::Fault;
 use crate::place::{Position, Span, position_behind};
 
-/// The most bytes of a text.
+/// The maximum length of a source, in bytes.
 pub const MAX_LENGTH: usize = 1_048_576;
 
-/// A text in UTF-8 of at most `MAX_LENGTH` bytes.
+/// A source in UTF-8 of at most `MAX_LENGTH` bytes.
 #[derive(Debug, Drop)]
 pub struct Source {
     text: String,
@@ -19,7 +19,7 @@ impl Source {
     ghost use Rattle.go_text.specs.Lines.{position_after};
     ghost use Rattle.go_text.specs.Source.{bytes_of};
 
-    /// The text of these bytes.
+    /// The source with these bytes.
     pub fn new(bytes: Vec<u8>) -> Result<Source, Fault>
         ensures text { IfOk result (λ s. bytes_of s ≡ bytes.items) }
         ensures too_long { IsErrOf result Fault.TooLong ↔ (1048576 < vec_len bytes) }
@@ -35,7 +35,7 @@ impl Source {
         }
     }
 
-    /// The text itself.
+    /// The source as a string.
     pub fn as_str(&self) -> &str
         ensures bytes { result.now ≡ bytes_of self.now }
         ensures short { length result.now ≤ 1048576 }
@@ -44,7 +44,7 @@ impl Source {
         self.text.as_str()
     }
 
-    /// The text's bytes.
+    /// The source's bytes.
     pub fn as_bytes(&self) -> &[u8]
         ensures bytes { result.now ≡ bytes_of self.now }
         ensures short { length result.now ≤ 1048576 }
@@ -52,7 +52,7 @@ impl Source {
         self.text.as_bytes()
     }
 
-    /// The text of a span.
+    /// The part of the source in a span.
     pub fn slice(&self, span: Span) -> &str
         requires order { span.from ≤ span.to }
         requires end { span.to ≤ length (bytes_of self.now) }
@@ -62,7 +62,7 @@ impl Source {
         &self.text.as_str()[span.from as usize..span.to as usize]
     }
 
-    /// The line and the column of a place in the text: a newline ends its line. Past the text's end stands its end.
+    /// The line and the column of a byte offset: a newline ends its line. An offset past the end counts as the end.
     pub fn line_column(&self, offset: u32) -> Position
         ensures { result ≡ position_after 1 1 (take offset (bytes_of self.now)) }
     {

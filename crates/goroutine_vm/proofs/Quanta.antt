@@ -22,7 +22,7 @@ use Rattle.word.proofs.Laws.{laws}
 use Rattle.goroutine_vm.proofs.Turns.{local_is, asks_is}
 
 module _ (code : Code) (limit : ℕ) (v : IsVerified code) where
-  -- what a state of the code does: it asks, or it makes a local step
+  -- what a state of the code does: it makes a request or a local step
   pub data Turn (s : Clocked Frames) : Type 0 where
     Stands : is_some (asks (code_kind code) limit s) ≡ true → Turn s
     Slid : (a : Frames) → local (code_kind code) limit s ≡ Some (at s.clock a) → silent code a < silent code s.state → IsStateOf code limit (at s.clock a) → Turn s

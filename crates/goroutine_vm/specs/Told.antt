@@ -1,9 +1,9 @@
--- Frames of which the last one called was told words.
+-- Frames whose running function has reply words.
 use Rattle.std.specs.Prelude.{List, [], ◌∷◌}
 use Rattle.bytecode.specs.Machine.{Frames}
 use Rattle.word.specs.declared.value.Word.{Word}
 
--- the function that runs was told these words
+-- the frames with the reply words `told` in the running function
 abbrev pub with_told : List Word → Frames → Frames
 with_told told [] = []
 with_told told (c ∷ callers) = record c { told = told } ∷ callers

@@ -1,4 +1,4 @@
-//! Where a select goes on, and what it is told there.
+//! Where a select continues, and the words that it receives.
 
 ghost use Rattle.std.specs.Prelude.{◌≡◌, ◌++◌, ◌∷◌, [], MatchOption, None, Some, slice_get};
 ghost use Rattle.bytecode.specs.Effects.{clause_gives, clauses_in, shape_kinds, targets_in};
@@ -10,7 +10,7 @@ use bytecode::{Clause, Code, WordKind};
 use operands::width::clauses_of;
 use word::value::Word;
 
-/// An item of a shape and a truth value are told.
+/// Sets `told` to the words of an item of shape `shape`, followed by whether it was sent.
 #[inline(always)]
 pub(crate) fn tell_item(told: &mut Told, code: &Code, shape: u32, words: &[Word])
     requires { IsVerified code.now }
@@ -22,7 +22,7 @@ pub(crate) fn tell_item(told: &mut Told, code: &Code, shape: u32, words: &[Word]
     }
 }
 
-/// What is told where a clause was done.
+/// Sets `told` to the words that `clause` receives, if any.
 fn tell_clause(told: &mut Told, code: &Code, clause: Option<Clause>, words: &[Word])
     requires { IsVerified code.now }
     ensures { told.new ≡ fitted (clause_gives code.now clause) words.now }
@@ -44,7 +44,7 @@ fn way_taken(code: &Code, table: u32, chosen: Option<usize>) -> usize
     }
 }
 
-/// Where a way of a select leads.
+/// The instruction to which a way of a select leads.
 fn target(code: &Code, table: u32, way: usize) -> Option<usize>
     ensures { result ≡ slice_get (targets_in (slice_get code.now.selects table)) way }
 {
@@ -54,7 +54,8 @@ fn target(code: &Code, table: u32, way: usize) -> Option<usize>
     }
 }
 
-/// Where a select goes on, where it is told these words; none where it did no clause of its own.
+/// The instruction at which a select continues, with `told` set to the words that it receives; `None` if it has no such clause or
+/// default.
 pub(crate) fn selected(
     told: &mut Told,
     code: &Code,

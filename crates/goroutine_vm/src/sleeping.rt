@@ -18,21 +18,21 @@ use std::marker::Model;
 use verifier::Verified;
 use word::request::Request;
 
-/// Room for the words that a goroutine is told.
+/// The buffer for the reply words of one goroutine.
 #[derive(Drop)]
 pub struct Room {
     told: Box<Told>,
 }
 
 impl Room {
-    /// Room for one goroutine.
+    /// An empty buffer.
     pub fn new(alloc: Global) -> Result<Room, Memory> {
         let told = Box::new(alloc, Told::nothing())?;
         Ok(Room { told })
     }
 }
 
-/// A goroutine that sleeps. It has no room for the words that it is told: it gets that where it is woken.
+/// A sleeping goroutine. It has no buffer for reply words: it gets one when it is woken.
 #[derive(Drop)]
 pub struct Sleeping {
     clock: Clock,
@@ -50,7 +50,7 @@ impl Model for Sleeping {
 }
 
 impl GoState {
-    /// It falls asleep, and leaves the room for the words that it is told.
+    /// Puts the goroutine to sleep; returns it, and its buffer for reply words.
     pub fn fall_asleep(self) -> (Sleeping, Room)
         requires { IsQuiet self.state }
         ensures { result.0 ≡ self }
@@ -93,7 +93,7 @@ impl Sleeping {
         Ok(asking)
     }
 
-    /// It is awake again, with this room.
+    /// Wakes the goroutine with this buffer for reply words.
     pub fn get_up(self, room: Room) -> GoState
         ensures { result ≡ self }
     {

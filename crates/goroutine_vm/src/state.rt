@@ -55,13 +55,13 @@ impl Model for GoState {
 /// Why the machine stopped.
 #[derive(Drop)]
 pub enum Stop {
-    /// It stands at this request, which is not performed.
+    /// The goroutine is at this request, which is not performed.
     AtOp(Request),
     /// It made all the steps that it was given.
     Quantum,
 }
 
-/// A goroutine at the first instruction of a function, whose parameters are these words.
+/// A goroutine at the first instruction of a function, with these words as parameters.
 pub fn spawn_state(
     alloc: Global,
     code: &Verified,
@@ -81,8 +81,8 @@ pub fn spawn_state(
 }
 
 impl GoState {
-    /// A goroutine at the first instruction of a function, whose parameters are these words, in the room of one that has ended. Where
-    /// memory is wanting it is not told what it is.
+    /// A goroutine at the first instruction of a function, with these words as parameters. It reuses the memory of one that has ended.
+    /// After `Memory` its state is unspecified.
     pub fn restart(
         &mut self,
         code: &Verified,
@@ -100,7 +100,7 @@ impl GoState {
         Ok(())
     }
 
-    /// It keeps little room for later calls.
+    /// Frees most memory kept for later calls.
     pub fn trim(&mut self)
         ensures { self.new ≡ self.old }
     {
@@ -126,14 +126,14 @@ impl GoState {
         self.clock
     }
 
-    /// The functions that run, the one called last at the end. The words that the goroutine was told are not on its stack yet.
+    /// The functions that run, the one called last at the end. Pending reply words are not on the stack yet.
     pub fn frames(&self) -> &[Frame]
         ensures frames { (words : List Word) × (self.now.state ≡ with_told words (reverse result.now)) }
     {
         self.frames.as_slice()
     }
 
-    /// A second state that is the same.
+    /// A copy of the state.
     pub fn try_clone(&self, alloc: Global) -> Result<GoState, AllocError>
         ensures { IfOk result (λ s. s ≡ self.now) }
     {
@@ -144,7 +144,7 @@ impl GoState {
         })
     }
 
-    /// Whether the two are the same.
+    /// Whether the two states are equal.
     pub fn is_same(&self, other: &GoState) -> bool
         ensures { IsTrue result ↔ (self.now ≡ other.now) }
     {
@@ -175,8 +175,8 @@ impl GoState {
         self.stop(alloc, code, limit)
     }
 
-    /// The same steps: whether the goroutine then stands at a request, which is not made. After 13 it stands at none, and some of the
-    /// steps may be made.
+    /// Like `advance`, but returns only whether the goroutine is then at a request. After 13 it is at none, and some of the steps may be
+    /// made.
     pub fn step_ahead(
         &mut self,
         alloc: Global,
@@ -202,7 +202,7 @@ impl GoState {
         Ok(self.is_asking(code, limit))
     }
 
-    /// What becomes of steps when memory is refused: the goroutine is not at a request, at which it would need none.
+    /// The result of steps after an allocation failed: `Memory`, or true if the goroutine is at a request, which needs no memory.
     fn refused(&self, code: &Verified, limit: u64) -> Result<bool, Memory>
         requires { IsStateOf code.now limit self.now }
         ensures asks { IfOk result (λ asking. (asking ≡ true) × IsAsking code.now limit self.now) }
@@ -214,7 +214,7 @@ impl GoState {
         Err(Memory)
     }
 
-    /// The request at which the goroutine stands, or that it stands at none.
+    /// The request that the goroutine is at, or `Quantum` if it is at none.
     fn stop(&self, alloc: Global, code: &Verified, limit: u64) -> Result<Stop, Memory>
         requires { IsStateOf code.now limit self.now }
         ensures stop { IfOk result (λ stop. IsStop code.now limit self.now stop) }
@@ -226,7 +226,7 @@ impl GoState {
         }
     }
 
-    /// Local steps, at least one and at most so many; or none, where the goroutine then stands at a request.
+    /// Makes at most `left` local steps. Returns how many, at least 1; or `None` if the goroutine is then at a request.
     fn burst(
         &mut self,
         alloc: Global,
@@ -250,7 +250,7 @@ impl GoState {
         Ok(Some(ran + 1))
     }
 
-    /// Local steps, at most so many: how many there were. It may stop before any step.
+    /// Makes at most `left` local steps; returns how many. It may stop before any step.
     fn run(&mut self, alloc: Global, code: &Verified, limit: u64, left: u32) -> u32
         requires { IsStateOf code.now limit self.old }
         ensures steps { steps code.now limit result self.old ≡ self.new }
@@ -269,7 +269,7 @@ impl GoState {
         steps
     }
 
-    /// One local step, or whether the goroutine stands at a request instead.
+    /// Makes one local step, or returns true if the goroutine is at a request instead.
     fn turn(&mut self, alloc: Global, code: &Verified, limit: u64) -> Result<bool, Memory>
         requires { IsStateOf code.now limit self.old }
         ensures turn { IfOk result (λ asks. Turns code.now limit self.old asks self.new) }
@@ -298,7 +298,7 @@ impl GoState {
         }
     }
 
-    /// The request at which the goroutine stands, if its next instruction isn't a local step.
+    /// The request that the goroutine is at, if its next instruction isn't a local step.
     fn asked(&self, alloc: Global, code: &Verified, limit: u64) -> Result<Option<Request>, Memory>
         requires { IsStateOf code.now limit self.now }
         ensures asks { IfOk result (λ request. asks (code_kind code.now) limit self.now ≡ option_map request_of request) }
@@ -312,7 +312,7 @@ impl GoState {
         Ok(None)
     }
 
-    /// Whether the goroutine stands at a request, which is written to this place then, in the room of `lists`.
+    /// Whether the goroutine is at a request, which is then written to `place`, using the memory of `lists`.
     pub fn ask(
         &self,
         lists: &mut RequestLists,
@@ -342,7 +342,7 @@ impl GoState {
         Ok(true)
     }
 
-    /// Whether the goroutine stands at a request.
+    /// Whether the goroutine is at a request.
     pub fn is_asking(&self, code: &Verified, limit: u64) -> bool
         requires { IsStateOf code.now limit self.now }
         ensures { result ≡ is_some (asks (code_kind code.now) limit self.now) }
@@ -354,7 +354,7 @@ impl GoState {
             .is_asking(code.code(), self.clock.time() >= limit)
     }
 
-    /// What one that a close woke at its send asks: it panics, or at the limit is `Exhausted`.
+    /// The request of a goroutine that a close woke at its send: it panics, or at the limit is `Exhausted`.
     fn last_request(&self, limit: u64) -> Request
         requires doomed { self.now.doomed ≡ true }
         requires clock { self.now.clock ≤ limit }
@@ -366,7 +366,7 @@ impl GoState {
         Request::Panic(Panic::SendOnClosed)
     }
 
-    /// Tells the goroutine what came of its request, at this clock. One that a close woke at its send panics next.
+    /// Gives the goroutine the reply to its request, at this clock. One that a close woke at its send panics next.
     pub fn answer(&mut self, code: &Verified, reply: Reply, clock: Clock)
         requires { IsFrameOf code.now self.old.state }
         ensures told { self.new ≡ told (code_kind code.now) self.old clock (reply_of reply) }
@@ -375,7 +375,7 @@ impl GoState {
         self.tell(code, &reply, clock);
     }
 
-    /// The same, where the reply stays the caller's.
+    /// Like `answer`, but borrows the reply.
     pub fn tell(&mut self, code: &Verified, reply: &Reply, clock: Clock)
         requires { IsFrameOf code.now self.old.state }
         ensures told { self.new ≡ told (code_kind code.now) self.old clock (reply_of reply.now) }
@@ -394,7 +394,7 @@ impl GoState {
         }
     }
 
-    /// It receives this item, at this clock, of a select in this clause; most have one word.
+    /// Completes a receive, or the receive clause `clause` of a select, with this item at this clock. Inlined for items of one word.
     #[inline(always)]
     fn receive(
         &mut self,
@@ -414,7 +414,7 @@ impl GoState {
         }
     }
 
-    /// The same of any number of words.
+    /// Like `receive`, for any number of words.
     #[inline(never)]
     fn receive_all(
         &mut self,
@@ -440,8 +440,8 @@ impl GoState {
         self.doomed = true;
     }
 
-    /// The request is done with these words, of a select in this clause or its default, and the goroutine goes on behind it at
-    /// this clock.
+    /// Completes the request with the reply words `words`, at this clock. Of a select, `clause` is the clause that was done, or `None`
+    /// for the default.
     fn go_on(&mut self, code: &Verified, clause: Option<usize>, words: &[Word], clock: Clock)
         requires { IsFrameOf code.now self.old.state }
         ensures told { self.new ≡ at clock (frames_told code.now self.old.state clause words.now) }

@@ -13,7 +13,7 @@ use goroutine_vm_base::call_stack::CallStack;
 use goroutine_vm_base::single::instr;
 use std::alloc::{AllocError, Global};
 
-/// The next instruction of the function that runs, which nothing was told; `may` is whether a tick is made.
+/// The next instruction of the function that runs, which has no pending reply words; `may` is whether a tick is made.
 pub(crate) fn step(
     alloc: Global,
     code: &Code,

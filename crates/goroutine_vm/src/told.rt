@@ -1,4 +1,4 @@
-//! The words that a goroutine was told.
+//! The reply words of a goroutine's last request.
 
 ghost use Rattle.std.specs.Prelude.{◌≡◌, ◌≤◌, ◌<◌, ◌++◌, ◌∷◌, [], length};
 ghost use Rattle.bytecode.specs.Machine.{fitted as fitted_of};
@@ -11,7 +11,7 @@ use word::value::{Item, Word};
 /// An item of 16 words at most, and whether it was sent.
 pub(crate) const MAX_TOLD: usize = 17;
 
-/// The words that a goroutine was told, which the next step puts onto its stack. They take no memory of their own.
+/// The reply words that the next step puts onto the goroutine's stack. They are stored inline.
 #[derive(Drop)]
 pub(crate) struct Told {
     words: [Word; 17],
@@ -61,7 +61,7 @@ impl Told {
         self.len = 0;
     }
 
-    /// A second list of the same words.
+    /// A copy of the list.
     pub(crate) fn copy(&self) -> Told
         ensures { result ≡ self.now }
     {
@@ -91,7 +91,7 @@ impl Told {
     }
 }
 
-/// These words alone are told, of these kinds.
+/// Sets `told` to `words`, each fitted to its kind of `kinds`.
 pub(crate) fn tell(told: &mut Told, kinds: &[WordKind], words: &[Word])
     requires { length kinds.now ≤ 17 }
     ensures { told.new ≡ fitted_of kinds.now words.now }
@@ -102,7 +102,7 @@ pub(crate) fn tell(told: &mut Told, kinds: &[WordKind], words: &[Word])
     }
 }
 
-/// The same, and a truth value behind them. Most often it is one word.
+/// Like `tell`, with a truth value after the words. Inlined for one word.
 #[inline(always)]
 pub(crate) fn tell_with_truth(told: &mut Told, kinds: &[WordKind], words: &[Word])
     requires { length kinds.now ≤ 16 }
@@ -114,7 +114,7 @@ pub(crate) fn tell_with_truth(told: &mut Told, kinds: &[WordKind], words: &[Word
     }
 }
 
-/// The same of any number of words.
+/// Like `tell_with_truth`, for any number of words.
 #[inline(never)]
 fn tell_all_with_truth(told: &mut Told, kinds: &[WordKind], words: &[Word])
     requires { length kinds.now ≤ 16 }
@@ -124,7 +124,7 @@ fn tell_all_with_truth(told: &mut Told, kinds: &[WordKind], words: &[Word])
     told.push(word_at(WordKind::Bool, words, kinds.len()));
 }
 
-/// The words of an item, and whether it was sent behind them.
+/// The words of an item, followed by whether it was sent.
 pub(crate) fn words_of(item: &Item, ok: bool) -> Told
     ensures { result ≡ item.now ++ Word.Bool ok ∷ [] }
 {

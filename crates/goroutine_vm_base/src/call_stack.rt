@@ -17,8 +17,8 @@ use word::value::Word;
 /// How many frames an ended goroutine keeps for later calls.
 const MOST_KEPT: usize = 3;
 
-/// Functions, of which there is one at least, and each waits for the one called after it; contracts see the last one called first.
-/// Frames are kept for later calls, which no contract sees.
+/// A nonempty stack of functions, each waiting for the one called after it; contracts list the last one called first. Frames are kept for
+/// later calls; contracts don't mention these.
 pub struct CallStack {
     pub(crate) frames: Vec<Frame>,
     pub(crate) depth: usize,
@@ -43,7 +43,7 @@ impl Model for CallStack {
 }
 
 impl CallStack {
-    /// These, the last one called last, and none that are kept.
+    /// The stack of these frames, the last one called last, without kept frames.
     pub fn of(frames: Vec<Frame>) -> CallStack
         requires { 0 < length frames.items }
         ensures { result ≡ reverse frames.items }
@@ -52,8 +52,8 @@ impl CallStack {
         CallStack { frames, depth }
     }
 
-    /// One function alone, at its first instruction, in the room of those that there were. Where memory is wanting it is not told
-    /// what they are.
+    /// One function alone, at its first instruction, reusing the memory of these frames. After an allocation error their contents are
+    /// unspecified.
     pub fn restart(
         &mut self,
         locals: &[WordKind],
@@ -100,7 +100,7 @@ impl CallStack {
         &self.frames[self.depth - 1]
     }
 
-    /// There is one at least, and a frame itself was told nothing.
+    /// There is at least one frame, and frames have no pending reply words.
     #[inline(always)]
     pub fn quiet(&self)
         ensures { IsCalm self.now }
@@ -118,7 +118,8 @@ impl CallStack {
         Ok(())
     }
 
-    /// Drops so many words of the operand stack of the last one called, or all of fewer, and that goes to a place.
+    /// Drops `count` words of the operand stack of the last function called, or all if there are fewer, and moves it to instruction
+    /// `place`.
     #[inline(always)]
     pub fn drop_to(&mut self, count: usize, place: usize)
         ensures { (c : FrameValue) → (cs : Frames) → self.old ≡ c ∷ cs → self.new ≡ record c { place = place; stack = below count c.stack } ∷ cs }
@@ -135,7 +136,7 @@ impl CallStack {
         &self.frames[self.depth - 2]
     }
 
-    /// The last one called calls another with the words from a place of its stack on, and waits behind the call.
+    /// The last function called calls another with its stack's words from an index on, and waits after the call.
     #[inline(always)]
     pub(crate) fn enter(
         &mut self,
@@ -163,7 +164,7 @@ impl CallStack {
         Ok(())
     }
 
-    /// The last one called calls another with an int, and waits at a place.
+    /// The last function called calls another with an int, and waits at instruction `next`.
     #[inline(always)]
     pub(crate) fn enter_with(
         &mut self,
@@ -204,7 +205,7 @@ impl CallStack {
         Ok(())
     }
 
-    /// The last one called returns to the one before it with an int, which that stores in a local, and makes the tick behind it.
+    /// The last function called returns an int to its caller, which stores it in a local and makes the tick after that.
     #[inline(always)]
     pub(crate) fn resume_into(&mut self, to: usize, number: i64)
         requires some { 1 < length self.old }
@@ -231,7 +232,7 @@ impl CallStack {
     }
 }
 
-/// Makes sure that a frame is kept behind so many.
+/// Makes sure that there is a kept frame after the first `depth`.
 fn keep_one(alloc: Global, frames: &mut Vec<Frame>, depth: usize) -> Result<(), AllocError>
     requires { depth ≤ length frames.old.items }
     ensures kept { OnOk result (depth < length frames.new.items) }
@@ -244,7 +245,7 @@ fn keep_one(alloc: Global, frames: &mut Vec<Frame>, depth: usize) -> Result<(), 
     Ok(())
 }
 
-/// The function at a place of these calls the one behind it with the words from a place of its stack on, and waits behind the call.
+/// The function at an index of these frames calls the next with its stack's words from an index on, and waits after the call.
 #[inline(always)]
 fn call_next(
     frames: &mut [Frame],
@@ -265,7 +266,7 @@ fn call_next(
     Ok(())
 }
 
-/// The function at a place of these calls the one behind it with an int, and waits at another place.
+/// The function at an index of these frames calls the next with an int, and then waits at another instruction.
 #[inline(always)]
 fn call_next_with(
     frames: &mut [Frame],
@@ -285,7 +286,7 @@ fn call_next_with(
     Ok(())
 }
 
-/// The function at a place of these takes the words of the stack of the one behind it.
+/// The function at index `place` of these frames takes the words of the stack of the one after it.
 #[inline(always)]
 fn return_next(frames: &mut [Frame], place: usize) -> Result<(), AllocError>
     requires within { place + 1 < length frames.old }

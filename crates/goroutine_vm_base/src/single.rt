@@ -13,7 +13,7 @@ use call_frame::plain::plain;
 use std::alloc::{AllocError, Global};
 use word::limits::MAX_DEPTH;
 
-/// The last function called calls another with the words from a place of its stack on, where a tick may be made; or asks to panic.
+/// The last function called calls another with its stack's words from index `at` on, if a tick may be made; or requests a panic.
 #[inline(always)]
 pub fn call(
     alloc: Global,
@@ -45,7 +45,7 @@ pub fn call(
     Ok(Stepped::Ticked)
 }
 
-/// The last function called returns to its caller with the words on its stack; or asks to end.
+/// The last function called returns to its caller with the words on its stack; or requests its end.
 #[inline(always)]
 pub fn leave(frames: &mut CallStack, at: usize) -> Result<Stepped, AllocError>
     requires some { 0 < length frames.old }
@@ -84,7 +84,7 @@ impl CallStack {
     }
 }
 
-/// One instruction of the last function called, whose operands begin at a place of its stack; `may` is whether a tick is made.
+/// One instruction of the last function called, whose operands begin at index `at` of its stack; `may` is whether a tick is made.
 pub fn instr(
     alloc: Global,
     code: &Code,

@@ -1,4 +1,4 @@
--- What the instructions that ask do ask.
+-- The requests of the instructions that make requests.
 use Rattle.std.proofs.Common.{◌≡◌, ℕ, ℤ, ◌-◌, ◌<◌, ◌≤◌, Bool, false, cond, List, [], ◌∷◌, length, map, take, drop, Option, Some, None, Result, Ok, Err, refl, sym, ap, ◌∙◌, subst, arith, nat_lt, slice_get}
 use Rattle.std.specs.Prelude.{option_map}
 use Rattle.std.proofs.lemmas.Bool.Decides.{nat_tests}
@@ -72,7 +72,7 @@ pub panic_some : (o : Option Cause) → is_some (panic_asked o) ≡ is_some o
 panic_some None = refl
 panic_some (Some cause) = refl
 
--- what comes next where the last one called stands at this instruction
+-- what comes next if the last one called is at this instruction
 module _ (code : Code) (fs : Frames) (r : Frame) (cs : Frames) (i : Instr) (n : ℕ) (is : fs ≡ r ∷ cs) (quiet : r.told ≡ []) (s : StandsAt code r i) (many : n ≡ pops code s.0 i) where
   pub asks_at : (at : ℕ) (o : Option Asked) → at ≡ length r.stack - n → n ≤ length r.stack → AsksFor (instr_next code r cs (take at r.stack) (drop at r.stack) i) o → AsksFor (code_next code fs) o
   asks_at at o goes enough asks = subst (λ x. AsksFor x o) (sym (ap (code_next code) is ∙ next_instr code r cs i n quiet (s.0, s.1, s.2, many) at goes enough)) asks

@@ -1,4 +1,4 @@
-//! What a goroutine asks.
+//! The request of a goroutine.
 
 ghost use Rattle.std.specs.Prelude.{◌≡◌, ◌+◌, ◌<◌, ◌≤◌, ◌^◌, IfOk, List, None, Some, cond, drop, length, option_map, take};
 ghost use Rattle.bytecode.specs.Code.{Code as CodeValue};
@@ -25,7 +25,7 @@ use word::panic::Panic;
 use word::request::Request;
 use word::value::{Item, Word};
 
-/// What a make asks, written to this place; false where it asks nothing.
+/// Writes the request of a make to `place`; false if it makes none.
 fn make(
     alloc: Global,
     code: &Code,
@@ -56,7 +56,7 @@ fn make(
     }
 }
 
-/// What a start of a goroutine asks, likewise.
+/// Writes the request of the start of a goroutine to `place`; false if it makes none.
 fn go(
     lists: &mut RequestLists,
     code: &Code,
@@ -76,7 +76,7 @@ fn go(
     Ok(true)
 }
 
-/// A send is written to a place. Where a send stands there, its item stays where it is, and only words are written.
+/// Writes a send to `place`. If a send is there, its item is not moved, and only words are written.
 #[inline(always)]
 fn write_send(alloc: Global, chan: Option<u32>, item: &[Word], place: &mut Request)
     requires { length item.now ≤ MAX_WORDS }
@@ -93,7 +93,7 @@ fn write_send(alloc: Global, chan: Option<u32>, item: &[Word], place: &mut Reque
     }
 }
 
-/// A receive is written to a place. Where one stands there, its channel alone is.
+/// Writes a receive to `place`. If one is there, only its channel is written.
 #[inline(always)]
 fn write_receive(chan: Option<u32>, place: &mut Request)
     ensures { place.new ≡ Request.Receive chan }
@@ -105,7 +105,7 @@ fn write_receive(chan: Option<u32>, place: &mut Request)
     *place = Request::Receive(chan);
 }
 
-/// What a send asks, likewise.
+/// Writes the request of a send to `place`; false if it makes none.
 #[inline(always)]
 fn send(alloc: Global, frame: &Frame, shape: u32, at: usize, place: &mut Request) -> bool
     requires { at ≤ length frame.now.stack }
@@ -124,7 +124,7 @@ fn send(alloc: Global, frame: &Frame, shape: u32, at: usize, place: &mut Request
     }
 }
 
-/// What a receive asks, likewise.
+/// Writes the request of a receive to `place`; false if it makes none.
 #[inline(always)]
 fn receive(frame: &Frame, shape: u32, at: usize, place: &mut Request) -> bool
     requires { at + 1 ≡ length frame.now.stack }
@@ -140,7 +140,7 @@ fn receive(frame: &Frame, shape: u32, at: usize, place: &mut Request) -> bool
     }
 }
 
-/// What a close asks, likewise.
+/// Writes the request of a close to `place`; false if it makes none.
 fn close(frame: &Frame, at: usize, place: &mut Request) -> bool
     requires { at + 1 ≡ length frame.now.stack }
     ensures { (code : CodeValue) → (callers : Frames) → AsksFor (instr_next code frame.now callers (take at frame.now.stack) (drop at frame.now.stack) Instr.Close) (cond result (Some place.new) None) }
@@ -154,7 +154,7 @@ fn close(frame: &Frame, at: usize, place: &mut Request) -> bool
     }
 }
 
-/// What is asked for the number of items in a buffer, likewise.
+/// Writes the request for the number of items in a buffer to `place`; false if it makes none.
 fn len(frame: &Frame, at: usize, place: &mut Request) -> bool
     requires { at + 1 ≡ length frame.now.stack }
     ensures { (code : CodeValue) → (callers : Frames) → AsksFor (instr_next code frame.now callers (take at frame.now.stack) (drop at frame.now.stack) Instr.Len) (cond result (Some place.new) None) }
@@ -168,7 +168,7 @@ fn len(frame: &Frame, at: usize, place: &mut Request) -> bool
     }
 }
 
-/// What is asked for a capacity, likewise.
+/// Writes the request for a capacity to `place`; false if it makes none.
 fn cap(frame: &Frame, at: usize, place: &mut Request) -> bool
     requires { at + 1 ≡ length frame.now.stack }
     ensures { (code : CodeValue) → (callers : Frames) → AsksFor (instr_next code frame.now callers (take at frame.now.stack) (drop at frame.now.stack) Instr.Cap) (cond result (Some place.new) None) }
@@ -195,8 +195,8 @@ fn channel(frame: &Frame, at: usize) -> Option<Option<u32>>
     }
 }
 
-/// What an instruction asks, whose operands begin at a place of the stack, where so many functions wait for the running one,
-/// likewise; false where it is a local step.
+/// Writes the request of an instruction to `place`; false if it is a local step. Its operands begin at `at` of the
+/// stack, and `depth` functions wait for the running one.
 fn ask(
     lists: &mut RequestLists,
     code: &Code,
@@ -255,7 +255,7 @@ fn panic_of(frame: &Frame, op: Op, at: usize) -> Option<Panic>
     }
 }
 
-/// What is asked by an operator that meets a panic, likewise.
+/// Writes the panic that an operator meets to `place`; false if it meets none.
 fn panics(frame: &Frame, op: Op, at: usize, place: &mut Request) -> bool
     requires { at + count (operands op) ≡ length frame.now.stack }
     ensures { (code : CodeValue) → (callers : Frames) → AsksFor (instr_next code frame.now callers (take at frame.now.stack) (drop at frame.now.stack) (Instr.Apply op)) (cond result (Some place.new) None) }
@@ -269,7 +269,7 @@ fn panics(frame: &Frame, op: Op, at: usize, place: &mut Request) -> bool
     }
 }
 
-/// The panic of a call where so many functions wait for the running one, likewise.
+/// Writes the panic of a call, if `depth` functions wait for the running one, to `place`; false if it meets none.
 fn too_deep(code: &Code, depth: usize, function: u32, place: &mut Request) -> bool
     ensures { (c : FrameValue) → (callers : Frames) → (low top : List WordValue) → length callers ≡ depth → AsksFor (instr_next code.now c callers low top (Instr.Call function)) (cond result (Some place.new) None) }
 {
@@ -283,8 +283,8 @@ fn too_deep(code: &Code, depth: usize, function: u32, place: &mut Request) -> bo
     false
 }
 
-/// Whether an instruction of verified code asks, whose operands begin at a place of the stack, where so many functions wait for the
-/// running one; at the limit also whether it ticks.
+/// Whether an instruction of verified code makes a request; its operands begin at `at` of the stack, and `depth`
+/// functions wait for the running one. At the limit also whether it ticks.
 fn asks(at_limit: bool, frame: &Frame, depth: usize, i: Instr, at: usize) -> bool
     requires at { FitsAt i at (length frame.now.stack) }
     requires below { at ≤ length frame.now.stack }
@@ -310,8 +310,8 @@ fn asks(at_limit: bool, frame: &Frame, depth: usize, i: Instr, at: usize) -> boo
     }
 }
 
-/// Whether frames ask that were told nothing, and do not make a local step; what they ask is written to this place. Most often they
-/// send or receive.
+/// Whether frames that got no reply make a request, not a local step; writes the request to `place`. The most frequent
+/// ones, sends and receives, come first.
 #[inline(always)]
 pub fn request(
     lists: &mut RequestLists,
@@ -343,7 +343,7 @@ pub fn request(
     }
 }
 
-/// The same at any instruction.
+/// Like `request`, at any instruction.
 #[inline(never)]
 fn request_any(
     lists: &mut RequestLists,
@@ -369,7 +369,7 @@ fn request_any(
     }
 }
 
-/// Whether frames of verified code ask that were told nothing; at the limit also whether they tick.
+/// Whether frames of verified code that got no reply make a request; at the limit also whether they tick.
 pub fn is_asking(at_limit: bool, code: &Code, frames: &CallStack) -> bool
     requires verified { IsVerified code.now }
     requires sound { code_next code.now frames.now ≡ Stuck → ⊥ }

@@ -1,4 +1,4 @@
-//! What a goroutine asks.
+//! The request of a goroutine.
 #![tactic(auto)]
 
 mod asked;

@@ -7,7 +7,7 @@ use std::mem;
 use word::request::{Case, Request};
 use word::value::Word;
 
-/// The lists of requests that were performed, in whose room those of later ones stand. Contracts don't see them.
+/// The lists of requests that were performed, whose buffers later requests reuse. Contracts don't see them.
 pub struct RequestLists {
     pub(crate) alloc: Global,
     pub(crate) cases: Vec<Case>,
@@ -27,7 +27,7 @@ impl Drop for RequestLists {
 }
 
 impl RequestLists {
-    /// No room. It takes no memory.
+    /// No buffers. It takes no memory.
     pub fn new(alloc: Global) -> RequestLists {
         RequestLists {
             alloc,
@@ -36,7 +36,7 @@ impl RequestLists {
         }
     }
 
-    /// Keeps the list of a request that was performed. What stands at its place then is of no account.
+    /// Keeps the list of a request that was performed. What `performed` holds afterwards is ignored.
     pub fn keep(&mut self, performed: &mut Request) {
         match performed {
             Request::Select(cases, _) => {
@@ -49,7 +49,7 @@ impl RequestLists {
         }
     }
 
-    /// An empty list of cases, with the room of an earlier one.
+    /// An empty list of cases, with the buffer of an earlier one.
     pub(crate) fn cases(&mut self) -> Vec<Case>
         ensures { result.items ≡ [] }
     {
@@ -58,7 +58,7 @@ impl RequestLists {
         cases
     }
 
-    /// A list of these arguments, likewise.
+    /// A list of these arguments, with the buffer of an earlier one.
     pub(crate) fn arguments(&mut self, words: &[Word]) -> Result<Vec<Word>, AllocError>
         ensures { IfOk result (λ arguments. arguments.items ≡ words.now) }
     {

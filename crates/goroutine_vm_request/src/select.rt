@@ -1,4 +1,4 @@
-//! What a select asks.
+//! The request of a select.
 
 ghost use Rattle.std.specs.Prelude.{◌≤◌, IfOk, None, Some, cond, drop, length, take};
 ghost use Rattle.bytecode.specs.Machine.{Frames, instr_next};
@@ -12,7 +12,7 @@ use operands::select::cases;
 use std::alloc::AllocError;
 use word::request::Request;
 
-/// What a select asks, whose operands begin at a place of the stack, written to this place; false where it asks nothing.
+/// Writes the request of a select, whose operands begin at `at` of the stack, to `place`; false if it makes none.
 pub(crate) fn select(
     lists: &mut RequestLists,
     code: &Code,

@@ -138,7 +138,7 @@ impl Uses {
     }
 }
 
-/// Appends `channel N: `, its capacity, what its buffer holds, and who sleeps there.
+/// Appends `channel N: `, its capacity, what its buffer holds, and the goroutines that sleep there.
 fn push_one(said: &mut Words, number: u32, channel: &Channel, sleepers: &[Sleeper]) {
     push_channel(said, number);
     if channel.capacity == 0 {

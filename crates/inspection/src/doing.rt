@@ -36,7 +36,7 @@ fn push_pause(said: &mut Words, ticks: u64) {
     said.text(if ticks == 1 { " tick; " } else { " ticks; " });
 }
 
-/// Appends what a goroutine that is awake does next, and what its request or its call gave, if it has just been told.
+/// Appends what a goroutine that is awake does next, and what its request or its call gave, if that has just returned.
 fn push_next(said: &mut Words, scene: Scene<'_, '_>, row: &Row<'_, '_>) {
     let Some(top) = row.placed.frames.last() else {
         said.text("ends");

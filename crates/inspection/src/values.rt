@@ -76,7 +76,7 @@ fn after<T>(list: &[T], index: usize) -> &[T] {
     list.get(index.saturating_add(1)..).unwrap_or(&[])
 }
 
-/// Whether a variable is seen behind these newer ones of its block and these inner blocks.
+/// Whether a variable can be named: it is not `_`, and neither `newer`, of its block, nor `inner` blocks shadow it.
 fn is_seen(variable: &Variable<'_>, newer: &[Variable<'_>], inner: &[Block<'_>]) -> bool {
     variable.name != b"_".as_slice()
         && !has_name(newer, variable.name)

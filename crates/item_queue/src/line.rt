@@ -111,7 +111,8 @@ fn copy_item(words: &VecDeque<Word>, width: usize, room: &mut Item)
     }
 }
 
-/// Writes the item of `width` words, from place `from` on, to `room`. It is a call, so that an item of one word makes no room for more.
+/// Writes the item of `width` words, from index `from` on, to `room`. It is a call, so that an item of one word
+/// reserves no stack space for more.
 #[inline(never)]
 fn copy_words(words: &VecDeque<Word>, from: usize, width: usize, room: &mut Item)
     requires few { width ≤ MAX_WORDS }

@@ -20,8 +20,8 @@ pub(crate) enum Kept {
     Items(VecDeque<Item>),
 }
 
-/// Items in order. As long as each has the `width` words that `new` was told, it takes 16 bytes a word. Once another one comes,
-/// each takes 272. There is no memory before the first one, and then at most twice what the items take.
+/// Items in order. As long as each has the `width` words that `new` was given, it takes 16 bytes a word. Once another
+/// one comes, each takes 272. It takes no memory before the first one, and then at most twice what the items take.
 #[derive(Drop)]
 pub struct ItemQueue {
     kept: Kept,
@@ -116,7 +116,7 @@ fn push(kept: &mut Kept, alloc: Global, item: &Item) -> Result<(), AllocError>
     push_other(kept, alloc, item)
 }
 
-/// Puts an item of any number of words at the back. It is a call, so that no other item makes room for it.
+/// Puts an item of any number of words at the back. It is a call, so that no other item reserves stack space for it.
 #[inline(never)]
 fn push_other(kept: &mut Kept, alloc: Global, item: &Item) -> Result<(), AllocError>
     ensures ok { OnOk result (items_of kept.new ≡ items_of kept.old ++ item.now ∷ []) }

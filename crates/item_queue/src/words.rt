@@ -7,7 +7,7 @@ use std::alloc::AllocError;
 use std::collections::VecDeque;
 use word::value::Word;
 
-/// Makes room for more words: at most twice as much as was there.
+/// Reserves capacity for more words: at most twice as much as was there.
 pub(crate) fn make_room(words: &mut VecDeque<Word>, more: usize) -> Result<(), AllocError>
     ensures room { OnOk result (deque_len words.new + more ≤ deque_capacity words.new) }
     ensures items { words.new.items ≡ words.old.items }

@@ -17,7 +17,7 @@ use Rattle.book.proofs.Pieces.{appends_none}
 pub nothing_begins : (kind : Kind) (K : GoroutineKind) (limit : ℕ) (old : Option (List ℕ)) → Begins kind K limit old old
 nothing_begins kind K limit old = (0, 0, appends_none old)
 
--- the same of a kind of goroutines that nobody can tell apart
+-- `Begins` for a kind of goroutines that is equal to M
 begins_also : (kind : Kind) (K M : GoroutineKind) (limit : ℕ) (old new : Option (List ℕ)) → Equal K M → Begins kind M limit old new → Begins kind K limit old new
 begins_also kind K M limit old new e b =
     let s = e.back limit b.0 in
@@ -28,7 +28,7 @@ all_also kind K M limit old new ending e b =
     let s = e.back limit b.0 in
     (s.0, subst (Appends old new) (ap (bytes_of kind) s.1.shared) b.1, sym s.1.ends ∙ b.2)
 
--- the same of code that is the code that was proved
+-- `Begins` for code that is equal to the code that was proved
 pub begins_code : (kind : Kind) (K : GoroutineKind) (code code' : Code) (limit : ℕ) (old new : Option (List ℕ)) → code' ≡ code → Equal K (code_kind code) → Begins kind (code_kind code') limit old new → Begins kind K limit old new
 begins_code kind K code code' limit old new is e b =
     begins_also kind K (code_kind code) limit old new e (subst (λ x. Begins kind (code_kind x) limit old new) is b)
@@ -37,14 +37,14 @@ pub all_code : (kind : Kind) (K : GoroutineKind) (code code' : Code) (limit : �
 all_code kind K code code' limit old new ending is e b =
     all_also kind K (code_kind code) limit old new ending e (subst (λ x. IsAll kind (code_kind x) limit old new ending) is b)
 
--- the same of a program whose code it is
+-- `Begins` for a program whose code it is
 pub begins_of : (kind : Kind) (code code' : Code) (limit : ℕ) (old new : Option (List ℕ)) → code' ≡ code → Begins kind (code_kind code') limit old new → Begins kind (code_kind code) limit old new
 begins_of kind code code' limit old new is b = subst (λ (x : Code). Begins kind (code_kind x) limit old new) is b
 
 pub all_of : (kind : Kind) (code code' : Code) (limit : ℕ) (old new : Option (List ℕ)) (outcome : Result Ending Fault) → code' ≡ code → IfOk outcome (IsAll kind (code_kind code') limit old new) → IfOk outcome (IsAll kind (code_kind code) limit old new)
 all_of kind code code' limit old new outcome is b = subst (λ (x : Code). IfOk outcome (IsAll kind (code_kind x) limit old new)) is b
 
--- a run of so many workers up to this limit stops for want of memory, or for a writer
+-- a run on `workers` workers up to this limit stops because it is out of memory, or for a writer
 pub stops_for : (workers limit : ℕ) (outcome : Result Ending Fault) → IsWorkers workers → IsLimit limit → IsErrOf outcome faults.BadWorkers ↔ (IsWorkers workers → ⊥) → IsErrOf outcome faults.BadLimit ↔ (IsWorkers workers × (IsLimit limit → ⊥))
     → IfErr outcome (λ fault. (fault ≡ faults.Memory) ⊎ ((fault ≡ faults.Write) ⊎ ((fault ≡ faults.BadWorkers) ⊎ (fault ≡ faults.BadLimit)))) → IfErr outcome (λ fault. (fault ≡ faults.Memory) ⊎ (fault ≡ faults.Write))
 stops_for workers limit (Ok ending) many within bad_workers bad_limit only = tt

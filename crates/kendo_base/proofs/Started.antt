@@ -1,4 +1,4 @@
--- What is said of the workers that are started is said of those that were asked for.
+-- What holds of the workers that are started holds of those that were requested.
 use Rattle.std.proofs.Common.{◌↔◌, ℕ}
 use Rattle.whole_run.specs.Runs.{IsWorkers}
 

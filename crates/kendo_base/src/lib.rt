@@ -1,4 +1,4 @@
-//! From bytes to bytes: a run of a text.
+//! From bytes to bytes: a run of a source file.
 #![tactic(auto)]
 
 mod command;

@@ -17,12 +17,12 @@ use word::Write;
 use word::end::End;
 use worker_pool::{Gate, TraceWriter};
 
-/// Runs the program that a text is, up to the clock limit (1 to 2^62 steps) on 1 to 64 workers,
-/// and answers how it ended. What is written to `out` begins the output of the one-thread run, and
-/// what is written to `trace` a line for each of its events; at an end it is all of both. A text
-/// without a reading is refused before anything is written.
+/// Runs the program in a source file, up to the clock limit (1 to 2^62 steps), on 1 to 64 workers,
+/// and returns how it ended. What is written to `out` is a prefix of the output of the one-thread run,
+/// and what is written to `trace` is a prefix of the lines of its events; both are complete if the run ends.
+/// A source file that is no program is refused before anything is written.
 ///
-/// Errors: by the numbers 1 to 10 why it is none, with line and column; `Memory`; `Write`; `BadWorkers`; `BadLimit`.
+/// Errors: the numbers 1 to 10 if it is no program, with line and column; `Memory`; `Write`; `BadWorkers`; `BadLimit`.
 pub fn run_bytes<R: Threads + Wait + Sync, G: Gate + Sync, O: Write, T: TraceWriter>(
     rt: &R,
     alloc: Global,

@@ -1,4 +1,4 @@
-//! What is made of a program's code beside a run of it: its listing, and the recording of its run for pictures.
+//! What is made of a program's code besides a run of it: its listing, and the recording of its run for pictures.
 #![tactic(auto)]
 
 mod lines;

@@ -1,4 +1,4 @@
-//! The listing of a text's code.
+//! The listing of a source file's code.
 
 ghost use Rattle.std.specs.Prelude.{◌≡◌, ◌⊎◌, IfErr, IfOk, IsErrOf, true};
 ghost use Rattle.kendo_code.specs.Listed.{BeginsListing, IsListing};
@@ -12,9 +12,10 @@ use kendo_reading::read;
 use std::alloc::Global;
 use word::{Write, write_all};
 
-/// Writes the listing of the code that a text is compiled to. A text without a reading is refused before anything is written.
+/// Writes the listing of the code that a source file is compiled to. A file that is no valid program is refused before
+/// anything is written.
 ///
-/// Errors: by the numbers 1 to 10 why it is none, with line and column; `Memory`; `Write`.
+/// Errors: by the numbers 1 to 10 why it is no program, with line and column; `Memory`; `Write`.
 pub fn list_bytes<O: Write>(alloc: Global, bytes: Vec<u8>, out: &mut O) -> Result<(), Fault>
     ensures refused { IfErr result (λ fault. IsRefusal fault → HasNoReading bytes.items) }
     ensures why { IfErr result (λ fault. IsRefusal fault → IsWhy bytes.items fault) }

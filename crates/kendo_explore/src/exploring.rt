@@ -23,9 +23,9 @@ use word::end::End;
 /// How many states are visited between two reports of progress.
 const BETWEEN: usize = 100_000;
 
-/// What is told of an exploration while it goes on.
+/// Reports on an exploration while it goes on.
 pub trait Progress {
-    /// So many states were visited.
+    /// `states` states were visited.
     fn visited(&mut self, states: usize);
 }
 
@@ -46,7 +46,7 @@ pub struct PlanFile {
 /// What is found in other orders of a program's events.
 #[derive(Drop)]
 pub struct Explored {
-    /// What is told of it.
+    /// The report of it.
     pub report: Vec<u8>,
     /// The plans that show the ends again.
     pub plans: Vec<PlanFile>,
@@ -138,7 +138,7 @@ fn compiled(alloc: Global, typed: &Typed) -> Result<(Verified, StatementMap), Fa
     Ok((program, map))
 }
 
-/// What is told of an exploration, with the files of its plans.
+/// The report of an exploration, with the files of its plans.
 fn told(
     scene: Scene<'_>,
     exploration: &Exploration<'_>,
@@ -159,7 +159,7 @@ fn told(
     })
 }
 
-/// The names of the files of so many plans.
+/// The names of the files of `count` plans.
 fn names(scene: Scene<'_>, count: usize) -> Result<Vec<String>, Memory> {
     let mut names = Vec::new(scene.alloc);
     for index in 0..count {

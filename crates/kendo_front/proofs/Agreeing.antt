@@ -30,7 +30,7 @@ module _ (K : GoroutineKind) (limit : ℕ) where
   abbrev moves_on : Whole → Bool → Whole
   moves_on w over = cond over w (move_next (rules K limit) w (next (rules K limit) w.awake))
 
-  -- behind an end nothing moves
+  -- after an end nothing moves
   one_rests : (w : Whole) (e : Ending) → end_of w ≡ Some e → one (rules K limit) w ≡ w
   one_rests w e ends = go w.shared.shared.ending refl ends where
     go : (o : Option Ending) → w.shared.shared.ending ≡ o → end_of w ≡ Some e → one (rules K limit) w ≡ w

@@ -1,4 +1,4 @@
-//! What is said of the end of a run.
+//! The report on the end of a run.
 
 ghost use Rattle.std.specs.Prelude.{◌≡◌, ◌≤◌, ◌^◌, ◌⊎◌, ◌↔◌, IfErr, IsErrOf};
 ghost use Rattle.whole_run.specs.Runs.{IsLimit};
@@ -11,10 +11,10 @@ use kendo_report::text_of_panic;
 use std::alloc::Global;
 use word::end::End;
 
-/// Where the goroutines of a text stand at this end of its run up to the clock limit, in lines; of a run that finished those that
+/// Where the goroutines of a program stand at this end of its run up to the clock limit, in lines; of a run that finished those that
 /// had not ended. FILE in them is the path as it was typed.
 ///
-/// Errors: `BadLimit`; by the numbers 1 to 10 why the text has no reading; `Memory`.
+/// Errors: `BadLimit`; by the numbers 1 to 10 why the source file is no program; `Memory`.
 pub fn explain_end(
     alloc: Global,
     path: &str,

@@ -1,4 +1,4 @@
-//! What needs no code: the run of a text by the interpreter, with and without pauses, and what is said of an end.
+//! What needs no code: the run of a program by the interpreter, with and without pauses, and the report on its end.
 #![tactic(auto)]
 
 mod agreement;

@@ -19,7 +19,7 @@ IsAfter K limit events (Some Deadlock) = IsAt K limit events (Some Deadlock)
 IsAfter K limit events (Some (Panicked cause)) = IsAt K limit events (Some (Panicked cause))
 IsAfter K limit events None = IsAt K limit events None
 
--- there were no more events than were asked for, and, where the run goes on, as many
+-- there were no more events than the request allows, and, if the run goes on, as many
 abbrev pub IsWanted : Until → ℕ → Option Ending → Type 0
 IsWanted (untils.Event n) events end = (events ≤ n) × (end ≡ None → events ≡ n)
 IsWanted (untils.Clock c) events end = Unit {0}

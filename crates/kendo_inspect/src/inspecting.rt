@@ -35,8 +35,8 @@ pub struct Inspected {
     pub end: Option<End>,
 }
 
-/// Runs the program that a source file is, by the interpreter up to the clock limit (1 to 2^62), only so far, and shows where all
-/// goroutines stand then. FILE in what is shown is the path as it was typed.
+/// Runs the program of a source file by the interpreter, with this clock limit (1 to 2^62), up to a moment, and shows where all
+/// goroutines are then. FILE in the output is the path as it was typed.
 ///
 /// Errors: by the numbers 1 to 10 why it is no program, with line and column; `BadLimit`; `Memory`.
 pub fn inspect_bytes(
@@ -87,7 +87,7 @@ pub fn inspect_paused_bytes(
     Ok(seen)
 }
 
-/// Runs a checked program only so far, and shows where all goroutines stand then.
+/// Runs a checked program up to a moment, and shows where all goroutines are then.
 fn inspect(
     alloc: Global,
     path: &str,

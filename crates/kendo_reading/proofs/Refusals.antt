@@ -68,7 +68,7 @@ pub wrong : (bytes text : List ℕ) (ts : List Token) (tree : Tree) {told : Faul
 wrong bytes text ts tree same short utf8 scanned spelt placed low few clauses (inl memory) = inl memory
 wrong bytes text ts tree same short utf8 scanned spelt placed low few clauses (inr w) = explains bytes text same (inr (w.0, IsWrong short utf8 tree (record { tokens = ts; scanned = scanned; spelt = spelt; placed = placed; low = low; few = few; clauses = clauses }) w.1, w.2))
 
--- why a fault is told is why it is told with its line and column
+-- a fault's reason is also its reason once it has line and column
 pub told_why : (Why : Fault → Type 0) (text : List ℕ) (fault told : Fault) → told ≡ located_in text fault → (fault ≡ faults.Memory) ⊎ Why fault → (told ≡ faults.Memory) ⊎ ((one : Fault) × Why one × (told ≡ located_in text one))
 told_why Why text fault told is (inl memory) = inl (is ∙ ap (located_in text) memory)
 told_why Why text fault told is (inr why) = inr (fault, why, is)

@@ -18,7 +18,7 @@ use Rattle.syntax.specs.Spans.{tree_of, spans_of}
 use Rattle.syntax.specs.Tree.{File}
 use Rattle.syntax.specs.Measures.{height, most_entries, most_clauses}
 
--- the file spells the tokens of the text, within all limits, and no typing rule is broken
+-- the file spells the tokens of the text, within all limits, and violates no typing rule
 pub record Reads (text : List ℕ) (file : File) : Type 0 where
   pub utf8 : IsUtf8 text
   pub short : length text ≤ MAX_LENGTH
@@ -57,7 +57,7 @@ fault_number faults.BadLimit = 16
 abbrev pub IsRefusal : Fault → Type 0
 IsRefusal fault = fault_number fault ≤ 10
 
--- a refusal of the text, or want of memory
+-- a refusal of the text, or out of memory
 abbrev pub IsOfText : Fault → Type 0
 IsOfText fault = IsRefusal fault ⊎ (fault ≡ faults.Memory)
 
@@ -65,17 +65,17 @@ IsOfText fault = IsRefusal fault ⊎ (fault ≡ faults.Memory)
 abbrev pub HasNoTokens : List ℕ → Type 0
 HasNoTokens text = (tokens : List Token) → tokens_of text ≡ Ok tokens → ⊥
 
--- no file within the limits spells them
+-- no file within the limits spells these tokens
 abbrev pub HasNoTree : List Lexeme → Type 0
 HasNoTree words = (file : File) → Spells words file → height file ≤ 200 → most_entries file ≤ 64 → most_clauses file ≤ 64 → ⊥
 
 -- ---- why a text has no reading
 
--- the same place, with the line and the column of its first byte in the text
+-- a place with the line and the column of its first byte in the text
 abbrev pub placed : List ℕ → Place → Place
 placed text place = record { span = place.span; position = Some (position_after 1 1 (take place.span.from text)) }
 
--- the same fault, where it has a place with its line and column in the text
+-- a fault with its line and column in the text, if it has a place
 abbrev pub located_in : List ℕ → Fault → Fault
 located_in text (faults.BadCharacter place) = faults.BadCharacter (placed text place)
 located_in text (faults.BadNumber place) = faults.BadNumber (placed text place)
@@ -87,7 +87,7 @@ located_in text (faults.Typing rule node place) = faults.Typing rule node (place
 located_in text (faults.Limit kind node place) = faults.Limit kind node (placed text place)
 located_in text fault = fault
 
--- no file spells them: none at all, or none that is so low, or none whose lists are so short
+-- no file spells these tokens: none at all, or none that is so low, or none whose lists are so short
 abbrev pub IsUnspelt : List Lexeme → Fault → Type 0
 IsUnspelt words (faults.Syntax place) = (file : File) → Spells words file → ⊥
 IsUnspelt words (faults.TooDeep place) = (file : File) → Spells words file → height file ≤ 200 → ⊥
@@ -95,7 +95,7 @@ IsUnspelt words (faults.Limit limits.ListEntries at place) = (file : File) → S
 IsUnspelt words (faults.Limit limits.SelectClauses at place) = (file : File) → Spells words file → most_clauses file ≤ 64 → ⊥
 IsUnspelt words fault = ⊥
 
--- the tree is what the text spells, within the limits, and each of its nodes stands where its tokens do
+-- the tree is that of the text, within the limits, and each of its nodes stands where its tokens do
 pub record IsTreeOf (text : List ℕ) (tree : Tree) : Type 0 where
   pub tokens : List Token
   pub scanned : tokens_of text ≡ Ok tokens
@@ -113,9 +113,9 @@ pub data Flaw (text : List ℕ) (fault : Fault) : Type 0 where
   HasFault : length text ≤ MAX_LENGTH → IsUtf8 text → tokens_of text ≡ Err fault → Flaw text fault
   -- its tokens are no file's
   IsUnread : length text ≤ MAX_LENGTH → IsUtf8 text → (tokens : List Token) → tokens_of text ≡ Ok tokens → IsUnspelt (lexemes text tokens) fault → Flaw text fault
-  -- a rule is broken or a limit exceeded at a node of its tree
+  -- a rule is violated or a limit exceeded at a node of its tree
   IsWrong : length text ≤ MAX_LENGTH → IsUtf8 text → (tree : Tree) → IsTreeOf text tree → Tells tree fault → Flaw text fault
 
--- the fault tells why the text has no reading, with line and column
+-- the fault says why the text has no reading, with line and column
 abbrev pub IsWhy : List ℕ → Fault → Type 0
 IsWhy text told = (fault : Fault) × Flaw text fault × (told ≡ located_in text fault)

@@ -1,4 +1,4 @@
-//! The reading of a text: from bytes to a checked program, or why there is none.
+//! Reads a source file: from bytes to a checked program, or why there is none.
 #![tactic(auto)]
 
 mod checking;

@@ -56,7 +56,7 @@ fn tokens(alloc: Global, source: &Source) -> Result<Vec<Token>, Fault>
     }
 }
 
-/// The tree that spells the tokens.
+/// The syntax tree of the tokens.
 fn tree(alloc: Global, source: &Source, tokens: &[Token]) -> Result<Tree, Fault>
     requires { length tokens.now < 2 ^ 32 }
     ensures spelt { IfOk result (λ tree. Spells (lexemes (bytes_of source.now) tokens.now) (tree_of tree)) }
@@ -88,7 +88,7 @@ fn checked(alloc: Global, source: &Source, tree: Tree) -> Result<Typed, Fault>
     }
 }
 
-/// The same fault, with the line and the column of its first byte.
+/// `fault`, with the line and the column of its first byte.
 fn located(source: &Source, fault: Fault) -> Fault
     ensures { result ≡ located_in (bytes_of source.now) fault }
 {

@@ -44,12 +44,12 @@ limit_number ListEntries = 4
 limit_number FunctionWords = 5
 limit_number Declarations = 6
 
--- ` at LINE:COLUMN`, or nothing where they are not known
+-- ` at LINE:COLUMN`, or nothing if they are not known
 abbrev pub position_text : Option Position → List ℕ
 position_text None = []
 position_text (Some p) = codes " at " ++ decimal p.line ++ codes ":" ++ decimal p.column
 
--- what stands behind the title of a refusal: its details, and where it lies
+-- what stands after the title of a refusal: its details, and where it lies
 abbrev pub fault_details : Fault → List ℕ
 fault_details (fault.BadCharacter place) = position_text place.position
 fault_details (fault.BadNumber place) = position_text place.position

@@ -18,11 +18,11 @@ const WORKERS: u64 = 4;
 /// The most bytes that a program may print whose output is compared.
 pub(crate) const MOST_BYTES: usize = 1 << 24;
 
-/// What came of a run.
+/// The outcome of a run.
 #[derive(Drop)]
 pub(crate) struct Ran {
     pub end: End,
-    /// What it printed; nothing if that doesn't count.
+    /// What it printed; empty if that doesn't count.
     pub output: Vec<u8>,
     /// Whether output and end are the expected ones.
     pub is_met: bool,

@@ -38,7 +38,7 @@ pub enum Verdict {
     Untested,
 }
 
-/// What came of a test.
+/// The outcome of a test.
 #[derive(Drop)]
 pub struct Tested {
     pub verdict: Verdict,
@@ -50,9 +50,8 @@ pub struct Tested {
     pub outcome: Result<End, Fault>,
 }
 
-/// Tests the program that a text is: runs it up to the clock limit, on 4 workers, and compares its output and its end with what its
-/// comments say; if `options` ask for it, searches its other orders for ends that they don't say. FILE in the lines is the path as
-/// it was typed.
+/// Tests a program: runs it up to the clock limit, on 4 workers, and compares its output and its end with what its comments say; if
+/// `options` request it, searches its other orders for ends that they don't name. FILE in the lines is the path as it was typed.
 ///
 /// Errors: `Memory`; `BadLimit`.
 pub fn test_bytes<R: Threads + Wait + Sync, P: Progress>(
@@ -105,7 +104,7 @@ fn source_of(alloc: Global, bytes: &[u8]) -> Result<Source, Fault> {
     Ok(source)
 }
 
-/// Compares the run of a program with what is expected, and then, if that is asked for, its other orders.
+/// Compares the run of a program with what is expected, and then, if this is requested, searches its other orders.
 #[tactic(auto, using(crate::proofs::Verdicts::failed_is_right))]
 fn compare<R: Threads + Wait + Sync, P: Progress>(
     rt: &R,
@@ -131,7 +130,7 @@ fn compare<R: Threads + Wait + Sync, P: Progress>(
     }
 }
 
-/// Searches the other orders of a program whose run is as expected, if that is asked for.
+/// Searches the other orders of a program whose run is as expected, if this is requested.
 #[tactic(auto, using(crate::proofs::Verdicts::failed_is_right))]
 fn search_others<P: Progress>(
     alloc: Global,
@@ -241,7 +240,7 @@ fn unknown_end(alloc: Global, path: &str, words: &str) -> Result<Tested, Memory>
     told(alloc, failure, Verdict::Untested, Ok(End::Finished))
 }
 
-/// What came of a test for these reasons, after a run with this outcome.
+/// The outcome of a test for these reasons, after a run with this outcome.
 fn told(
     alloc: Global,
     failure: Failure,

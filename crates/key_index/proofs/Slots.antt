@@ -40,7 +40,7 @@ pub lift_old : (o : Option Key) (v : Key) → MatchOption o ⊥ (λ old. is_befo
 lift_old None v h = absurd h
 lift_old (Some k) v h = (k, refl, h)
 
--- the entry of a slot stands at q, where the heap had room or the slot's own entry
+-- the entry of a slot stands at q, where the heap had space or the slot's own entry
 module _ (keys : List (Option Key)) (heap heap1 : List Entry) (places : List ℕ) (x : IsIndex keys heap places) (slot q : ℕ) (v : Key) (e : Entry) (is : e ≡ record { key = v; slot = slot }) (within : slot < length keys) (ql : q < length heap1) (le : length heap ≤ length heap1)
     (same : (i : ℕ) → i < length heap → i ≢ q → entry_at heap1 i ≡ entry_at heap i) (back : (i : ℕ) → i < length heap1 → i ≢ q → i < length heap)
     (own : (i : ℕ) → i < length heap → i ≢ q → (entry_at heap i).slot ≢ slot) (apart : (s : ℕ) (k : Key) → s ≢ slot → slice_index_or keys s None ≡ Some k → slice_index places s ≢ q) where
@@ -212,7 +212,7 @@ module _ (keys : List (Option Key)) (heap : List Entry) (places : List ℕ) (x :
       (below_from (slots_of heap) (length keys) (λ i il. let il' : i < length heap = omega (arith, size) in omega (arith, read i 0 il', slot_below i il'))) in
       omega (arith, most, size)
 
-  -- a slot that is free leaves room
+  -- a slot that is free leaves space for one more entry
   pub fits_more : (slot : ℕ) → slot < length keys → slice_index_or keys slot None ≡ None → length heap + 1 ≤ length keys
   fits_more slot within free =
       let more = slots_of heap ++ slot ∷ [] in

@@ -24,7 +24,7 @@ fn rank(key: Key) -> u128
     (u128::from(key.clock.time()) << 64) + u128::from(key.number)
 }
 
-/// Whether the first key is before the second one, told without a branch: which of two keys of a heap is first can't be foreseen.
+/// Whether the first key is before the second one, found without a branch: which of two keys of a heap is first can't be predicted.
 #[inline(always)]
 fn is_before(a: &Key, b: &Key) -> bool
     ensures { result ≡ is_before a.now b.now }
@@ -79,7 +79,7 @@ fn put(heap: &mut [Entry], places: &mut [usize], place: usize, entry: Entry)
     places[slot] = place;
 }
 
-/// Puts an entry at a hole or, where its key is before theirs, above those that stand there.
+/// Puts an entry at a hole or, if its key is before theirs, above those that stand there.
 pub(crate) fn sift_up<L: Ledger>(
     heap: &mut [Entry],
     places: &mut [usize],
@@ -104,7 +104,7 @@ pub(crate) fn sift_up<L: Ledger>(
     sift_up(heap, places, parent, entry, steps)
 }
 
-/// Puts an entry at a hole with one child at most or, where its key is after the child's, below it.
+/// Puts an entry at a hole with one child at most or, if its key is after the child's, below it.
 #[inline(always)]
 fn sift_last<L: Ledger>(
     heap: &mut [Entry],
@@ -144,7 +144,7 @@ fn lesser_child<L: Ledger>(heap: &[Entry], place: usize, steps: &mut Steps<L>) -
     right - usize::from(compare(heap, right - 1, right, steps))
 }
 
-/// Puts an entry at a hole or, where its key is after theirs, below those that stand there.
+/// Puts an entry at a hole or, if its key is after theirs, below those that stand there.
 pub(crate) fn sift_down<L: Ledger>(
     heap: &mut [Entry],
     places: &mut [usize],
@@ -213,7 +213,7 @@ pub(crate) fn refill<L: Ledger>(
     }
 }
 
-/// The least key behind the first place; none where nothing stands there.
+/// The least key after the first entry; `None` if there is no other entry.
 pub(crate) fn second(heap: &[Entry]) -> Option<Key>
     requires { IsHeap (key_at heap.now) (length heap.now) }
     ensures none { IfNone result (length heap.now ≤ 1) }

@@ -47,7 +47,7 @@ impl KeyIndex {
         }
     }
 
-    /// So many slots, all free.
+    /// `slots` slots, all free.
     pub fn new(alloc: Global, slots: usize) -> Result<KeyIndex, Memory>
         ensures { IfOk result (λ x. x ≡ replicate slots None) }
     {
@@ -74,7 +74,7 @@ impl KeyIndex {
         Ok(())
     }
 
-    /// Gives a slot this key, or frees it, where there is such a slot. It takes no more comparisons than `insert`.
+    /// Gives a slot this key, or frees it, if there is such a slot. It takes no more comparisons than `insert`.
     #[inline(always)]
     pub fn set<L: Ledger>(&mut self, slot: usize, key: Option<Key>, steps: &mut Steps<L>)
         ensures contents { self.new ≡ slice_set self.old slot key }
@@ -170,7 +170,7 @@ impl KeyIndex {
         self.keys[slot] = None;
     }
 
-    /// A taken slot of least key, and that key; none where all are free. It compares nothing.
+    /// A taken slot of least key, and that key; `None` if all are free. It compares nothing.
     pub fn least(&self) -> Option<(usize, Key)>
         ensures none { IfNone result ((s : ℕ) → slice_index_or self.now s None ≡ None) }
         ensures least { IfSome result (λ r. (slice_index_or self.now r.0 None ≡ Some r.1) × ((s : ℕ) (k : Key) → slice_index_or self.now s None ≡ Some k → is_before k r.1 ≡ false)) }
@@ -182,7 +182,7 @@ impl KeyIndex {
         Some((first.slot, first.key))
     }
 
-    /// The least key of the slots but this one; none where all others are free. It compares at most two keys.
+    /// The least key of the slots but this one; `None` if all others are free. It compares at most two keys.
     pub fn least_but(&self, slot: usize) -> Option<Key>
         ensures none { IfNone result ((s : ℕ) → s ≢ slot → slice_index_or self.now s None ≡ None) }
         ensures there { IfSome result (λ key. (s : ℕ) × (s ≢ slot) × (slice_index_or self.now s None ≡ Some key)) }

@@ -46,7 +46,7 @@ enum Seen {
     Chosen(Choice),
 }
 
-/// What the one that asked is told.
+/// The reply to the goroutine that made the request.
 #[derive(Clone, Copy, PartialEq, Eq)]
 enum Answer {
     Channel(Option<u32>),
@@ -70,7 +70,7 @@ const DONE: Seen = Seen::Replied(Answer::Other, NOBODY);
 /// What the making of the one channel says.
 const MADE: Seen = Seen::Replied(Answer::Channel(ONE), NOBODY);
 
-/// Calls one behind the other, and what they say.
+/// Calls, one after the other, and what each of them gives.
 type Talk = &'static [(Call, Seen)];
 
 const TALKS: [(&str, Talk); 9] = [

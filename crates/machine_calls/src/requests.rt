@@ -170,7 +170,7 @@ fn called(request: Option<Request>) -> &'static str {
     }
 }
 
-/// A `main` that selects: where it received it prints the item; where it sent, 1; in its default, 2.
+/// A `main` that selects: if it received it prints the item; if it sent, 1; in its default, 2.
 const SELECT: [Instr; 12] = [
     Nil(0),
     Nil(0),
@@ -206,7 +206,7 @@ fn asks_first(alloc: Global, instrs: &[Instr], name: &str, time: u64) -> Result<
     Ok(called(request) == name && when == time)
 }
 
-/// The request to which a goroutine comes behind its next one, which is answered so at 5.
+/// The request that a goroutine makes after its next one, whose reply at clock 5 is `reply`.
 fn request_after(
     alloc: Global,
     program: &Verified,
@@ -220,7 +220,7 @@ fn request_after(
     next_request(alloc, program, state)
 }
 
-/// Whether a `main` with these instructions prints this text behind its first request, which is answered so at 5.
+/// Whether a `main` with these instructions prints `text` after its first request, whose reply at clock 5 is `reply`.
 fn prints_after(alloc: Global, instrs: &[Instr], reply: Reply, text: &str) -> Result<bool, Fault> {
     let program = main_program(alloc, instrs)?;
     let mut state = main_state(alloc, &program, LAST)?;

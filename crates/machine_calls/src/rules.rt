@@ -9,7 +9,7 @@ use std::alloc::{AllocError, Global};
 use verifier::verify;
 use word::apply::Op;
 
-/// The rule, the function and the place that a code is refused with; none where it is accepted.
+/// The rule, the function and the place that a code is refused with; none if it is accepted.
 type Refusal = Option<(u8, usize, usize)>;
 
 /// What is wrong with a `main`, its instructions, the rule that refuses it, and the place.
@@ -127,7 +127,7 @@ const LOOP: [Instr; 13] = [
     Loop(0),
 ];
 
-/// Whether code is refused by these rules, and accepted where it keeps them.
+/// Whether code is refused by these rules, and accepted if it keeps them.
 pub(crate) fn check(alloc: Global, checks: &mut Checks) -> Result<(), Memory> {
     for (name, instrs, rule, place) in &REFUSED {
         let wanted = Some((*rule, 0, *place));
@@ -209,7 +209,7 @@ fn is_accepted(alloc: Global, instrs: &[Instr]) -> Result<bool, Fault> {
     Ok(main_program(alloc, instrs).is_ok())
 }
 
-/// Whether code of a `main` with these instructions is refused so.
+/// Whether code of a `main` with these instructions is refused with `wanted`.
 fn is_main_refused(alloc: Global, instrs: &[Instr], wanted: Refusal) -> Result<bool, Fault> {
     Ok(refusal(alloc, main_code(alloc, instrs)?) == wanted)
 }
@@ -234,7 +234,7 @@ fn refusal_of(
     Ok(refusal(alloc, code.with_selects(selects)))
 }
 
-/// Whether code of one shape of so many of these kinds is refused so.
+/// Whether code of one shape of `count` words of kind `kind` is refused with `wanted`.
 fn is_shape_refused(
     alloc: Global,
     kind: WordKind,
@@ -254,21 +254,21 @@ fn int_parts(alloc: Global, count: usize) -> Result<Vec<Part>, AllocError> {
     Ok(parts)
 }
 
-/// Whether code of one print of so many ints is refused so.
+/// Whether code of one print of `count` ints is refused with `wanted`.
 fn is_print_refused(alloc: Global, count: usize, wanted: Refusal) -> Result<bool, Fault> {
     let table = PrintTable::new(int_parts(alloc, count)?, true);
     let prints = Vec::from_array(alloc, [table])?;
     Ok(refusal_of(alloc, Vec::new(alloc), prints, Vec::new(alloc))? == wanted)
 }
 
-/// Whether code of one select of so many clauses that send, and a default, is refused so.
+/// Whether code of one select of `count` clauses that send, and a default, is refused with `wanted`.
 fn is_select_refused(alloc: Global, count: usize, wanted: Refusal) -> Result<bool, Fault> {
     let clauses = Vec::from_elem(alloc, Clause::Send(0, 1), count)?;
     let selects = Vec::from_array(alloc, [SelectTable::new(clauses, Some(1))])?;
     Ok(refusal_of(alloc, Vec::new(alloc), Vec::new(alloc), selects)? == wanted)
 }
 
-/// Whether code of a function of this name, so many parameters and these results alone is refused for want of a `main`.
+/// Whether code of a single function `name`, with `params` parameters and these results, is refused for lack of a `main`.
 fn lacks_main(alloc: Global, name: &str, params: u32, results: &[WordKind]) -> Result<bool, Fault> {
     let function = Body {
         name,

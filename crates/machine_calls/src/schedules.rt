@@ -14,8 +14,8 @@ use world_core::{Core, run_schedule};
 /// A clock limit that is not reached.
 const LIMIT: u64 = 1 << 40;
 
-/// What is compared of an event: clock, number, the letter of its request, and its outcome: `.` where it is done, `s` where
-/// its goroutine sleeps, `p` where it panics.
+/// What is compared of an event: clock, number, the letter of its request, and its outcome: `.` if it is done, `s` if
+/// its goroutine sleeps, `p` if it panics.
 type Told = (u64, u64, char, char);
 
 fn letter(request: &Request) -> char {
@@ -47,7 +47,7 @@ fn told(event: &Event) -> Told {
     )
 }
 
-/// Whether these are the events that are told.
+/// Whether `events` are the events in `wanted`.
 fn are_told(events: &[Event], wanted: &[Told]) -> bool {
     events.len() == wanted.len()
         && events
@@ -74,7 +74,7 @@ fn leads(
     )
 }
 
-/// The goroutine is lent, makes so many local steps, and comes back.
+/// The goroutine is lent, makes `local` local steps, and comes back.
 fn turn(steps: &mut Vec<Step>, number: u64, local: u32) -> Result<(), AllocError> {
     steps.push(Step::Lend(number))?;
     for _ in 0..local {
@@ -84,7 +84,7 @@ fn turn(steps: &mut Vec<Step>, number: u64, local: u32) -> Result<(), AllocError
     Ok(())
 }
 
-/// So many rounds, in each of which these goroutines have a turn and then there is a Settle.
+/// `count` rounds, in each of which these goroutines have a turn and then there is a Settle.
 fn rounds(alloc: Global, goroutines: u64, count: u32) -> Result<Vec<Step>, AllocError> {
     let mut steps = Vec::new(alloc);
     for _ in 0..count {

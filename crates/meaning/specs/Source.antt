@@ -2,7 +2,7 @@
 --
 -- A goroutine is a stack of frames, the function that runs first. A frame has the variables of its function, by name and in
 -- blocks, the tasks that are still to be done, the next one first, and what the calls and requests within the next one have given
--- so far. Where one more is needed, it is done, and the task goes on with what it gave; where none is, the task is done, or is taken
+-- so far. If one more is needed, it is done, and the task goes on with what it gave; if none is, the task is done, or is taken
 -- apart into smaller ones. What a step costs: an assignment one, a loop's way back to its head one, the call of a function one, and
 -- nothing else.
 use Rattle.std.specs.Prelude.{ℕ, zero, suc, nat_lt, pos, Bool, true, false, cond, List, [], ◌∷◌, ◌++◌, map, flat_map, length, take, drop, Option, Some, None, option_map, slice_get, if◌then◌else◌, codes}
@@ -37,7 +37,7 @@ abbrev pub spaced : Bool → List (List ℕ) → List ℕ
 spaced line [] = cond line (10 ∷ []) []
 spaced line (text ∷ rest) = cond line (32 ∷ []) [] ++ (text ++ spaced line rest)
 
--- a line has a space between two parts, and a newline behind the last
+-- a line has a space between two parts, and a newline after the last
 abbrev pub printed : Bool → List (List ℕ) → List ℕ
 printed line [] = cond line (10 ∷ []) []
 printed line (text ∷ rest) = text ++ spaced line rest
@@ -65,7 +65,7 @@ module _ (globals : Globals) where
   abbrev pub entered_with : Function → List Value → Frame
   entered_with function arguments = frame (bound (parameters_of function) arguments (entered [])) (all_of function.body)
 
--- the variables, and what is to be done behind the task
+-- the variables, and what is to be done after the task
 module _ (globals : Globals) (blocks : Blocks) (rest : List Task) where
   abbrev pub go_on : List Task → Worked Course
   go_on tasks = ready (Goes (frame blocks (tasks ++ rest)))
@@ -161,7 +161,7 @@ module _ (globals : Globals) (blocks : Blocks) (rest : List Task) where
   item_destinations kind (DefineTarget name) = new globals blocks name kind ∷ []
   item_destinations kind (AssignTarget place) = placed globals blocks place ∷ []
 
-  -- a range's channel is valued once, and kept in a block of its own
+  -- a range's channel is evaluated once, and kept in a block of its own
   abbrev pub keeps : ValueType → Option ℕ → Blocks
   keeps kind c = declare (holding globals.structs blank kind (Chan c ∷ [])) (entered blocks)
 
@@ -183,12 +183,12 @@ module _ (globals : Globals) (blocks : Blocks) (rest : List Task) where
   abbrev pub body_work : Loop → Statements → Worked Course
   body_work loop body = ready (Goes (frame (entered blocks) (all_of body ++ Again loop ∷ rest)))
 
-  -- an item that was received is assigned where there is a left side, in a block of its own, and then these tasks are done
+  -- an item that was received is assigned if there is a left side, in a block of its own, and then these tasks are done
   abbrev pub assigned : List Destination → List Value → List Task → Course
   assigned [] all tasks = Goes (frame (entered blocks) tasks)
   assigned (first ∷ more) all tasks = Moves (frame (all_stored globals.structs (first ∷ more) all (entered blocks)) tasks)
 
-  -- where no item is there any more, the loop has ended; the body is a block within that of the item
+  -- if no item is left, the loop has ended; the body is a block within that of the item
   abbrev pub next_item : List Destination → Value → Statements → List Value → Course
   next_item destinations z body (item ∷ ((Truth true ∷ ok) ∷ more)) =
       assigned destinations (item ∷ ((Truth true ∷ ok) ∷ more)) (Do (Block body) ∷ (Again (Ranging destinations z body) ∷ rest))
@@ -208,7 +208,7 @@ module _ (globals : Globals) (blocks : Blocks) (rest : List Task) where
       ready (Goes (frame (entered (left blocks)) (Do (Alone post) ∷ (EndBlock ∷ (Turn (Repeating condition (Some post) body) ∷ rest)))))
   again_work (Ranging destinations z body) = leaves_block (Turn (Ranging destinations z body) ∷ [])
 
-  -- ---- select (Go: Select statements): all channels and values are valued on entry, in source order
+  -- ---- select (Go: Select statements): all channels and values are evaluated on entry, in source order
 
   abbrev pub received_case : Expression → Worked Case
   received_case from = and_then (channel from) (λ c. ready (record { chan = c; item = None }))

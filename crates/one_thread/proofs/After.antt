@@ -47,7 +47,7 @@ module _ {S : Type 0} (K : GoroutineKind) (held : S → K.State) (limit : ℕ) w
       ∙ ap (λ (o : Option Request). cond (is_some o) (by_asked w key.number s (asks K limit s)) w) ask
       ∙ ap (by_asked w key.number s) ask
 
-  -- ---- those who are woken
+  -- ---- the goroutines that are woken
 
   abbrev AllBeds : List (Bed K.State) → Places → List (ℕ × Reply) → Type 0
   AllBeds beds places [] = Unit {0}
@@ -68,7 +68,7 @@ module _ {S : Type 0} (K : GoroutineKind) (held : S → K.State) (limit : ℕ) w
         λ k apart. rest.1 k apart.1 ∙ h.1.others k apart.0,
       )
 
-  -- ---- those who sleep
+  -- ---- the goroutines that sleep
 
   lies : (places : Places) (beds : List (Bed K.State)) (ss : List Sleeper) → LieIn K held places beds ss → (x : Sleeper) → In x ss → in_bed x.number beds ≡ bed_at held places x.number
   lies places beds [] h x i = elim i [ ]
@@ -85,7 +85,7 @@ module _ {S : Type 0} (K : GoroutineKind) (held : S → K.State) (limit : ℕ) w
       let y : Sleeper = wake.0.0 in
       (subst (λ (k : ℕ). in_bed k beds ≡ bed_at held mid k) wake.0.2 (h y wake.0.1 ∙ sym (on y.number)), all_beds old mid beds ss ws h on wake.1)
 
-  -- who is new is awake
+  -- a new goroutine is awake
   bed_new : (places : Places) (g : Goroutine S) (k : ℕ) → g.asleep ≡ false → bed_at held (places ++ Some g ∷ []) k ≡ bed_at held places k
   bed_new [] g zero up = no_bed held g up
   bed_new [] g (suc k) up = refl

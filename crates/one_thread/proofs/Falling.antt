@@ -31,7 +31,7 @@ slid_less weight n next new falls is = subst (Falls weight n) is falls
 pub ticked_less : (limit old new : ℕ) → new ≡ old + 1 → new ≤ limit → limit - new < limit - old
 ticked_less limit old new later within = omega (arith, later, within)
 
--- who makes a request has nothing that falls
+-- a goroutine that makes a request has nothing that falls
 pub asking_falls : {S : Type 0} (weight : S → ℕ) (limit : ℕ) (turn : Turn) (request : Asked) (clock : ℕ) (later : Option ℕ) (old new : Goroutine S) → turn ≡ asking request clock later → FallsInTurn weight limit turn old new
 asking_falls weight limit turn request clock None old new is = subst (λ (t : Turn). FallsInTurn weight limit t old new) (sym is) tt
 asking_falls weight limit turn request clock (Some later) old new is = subst (λ (t : Turn). FallsInTurn weight limit t old new) (sym is) tt
@@ -60,7 +60,7 @@ module _ {S : Type 0} (weight : S → ℕ) (limit : ℕ) where
   turn_falls_ok (Ok turn) old n g h there at f = λ clock up. turn_falls old n g h turn there at f
   turn_falls_ok (Err e) old n g h there at f = tt
 
--- ---- who is not awake
+-- ---- goroutines that are not awake
 
 module _ {S : Type 0} where
   pub none_beyond : (old : List (Option (Goroutine S))) (n clock : ℕ) → length old ≤ n → here clock_of old n ≡ Some clock → ⊥
@@ -74,7 +74,7 @@ module _ {S : Type 0} where
       let e : here clock_of old n ≡ None = ap clock_of at ∙ ap (λ (b : Bool). cond b None (Some g.clock)) down in
       cc
 
-  -- who has the least key is awake
+  -- the goroutine that has the least key is awake
   pub least_awake : (places : List (Option (Goroutine S))) (key : Key) → least (keys clock_of 0 places) ≡ Some key → here clock_of places key.number ≡ Some key.clock
   least_awake places key is = (subst (IsNext clock_of None places) is (next_is clock_of None refl places)).0
 

@@ -34,7 +34,7 @@ module _ {S H : Type 0} (held : S → H) where
       go true e' = cc
       go false e' = ap (option_map (λ (t : Clocked H). t.clock)) e'
 
-  -- the clock of whoever moves next
+  -- the clock of the goroutine that moves next
   turn_clock : (places : List (Option (Goroutine S))) (turn : Key) (s : Clocked H) → least (keys clock_of 0 places) ≡ Some turn → here (awake_of held) places turn.number ≡ Some s → s.clock ≡ turn.clock
   turn_clock places turn s is up =
       let first : IsNext clock_of None places (Some turn) = rw is at (next_is clock_of None refl places) in
@@ -130,7 +130,7 @@ module _ {S : Type 0} (K : GoroutineKind) (held : S → K.State) (limit : ℕ) w
             end = ends_after K held limit None None old v st place clock q deed v' ask does x (sym h');
           }
 
-  -- whoever has the turn is at the clock limit
+  -- the goroutine that has the turn is at the clock limit
   pub exhausted_asks : (old new : Places) (turn : Key) → least (keys clock_of 0 old) ≡ Some turn → AdvancesAt K held limit turns.Exhausted old turn.number new → IsAsked K held limit old turn.number turn.clock Exhausted
   exhausted_asks old new turn is ask = record {
     state = ask.0;
@@ -142,7 +142,7 @@ module _ {S : Type 0} (K : GoroutineKind) (held : S → K.State) (limit : ℕ) w
     number = refl;
   }
 
-  -- whoever asks, at which clock
+  -- the goroutine that makes a request, at which clock
   pub asked_clock : (old new : Places) (turn : Key) (clock : ℕ) (request : Asked) → least (keys clock_of 0 old) ≡ Some turn → AdvancesAt K held limit (turns.Asks request clock) old turn.number new → clock ≡ turn.clock
   asked_clock old new turn clock request is ask = ask.3 ∙ turn_clock held old turn ask.0 is ask.1.here
 
@@ -174,7 +174,7 @@ module _ {S : Type 0} (K : GoroutineKind) (held : S → K.State) where
           exhausted_history K held old.limit old.places old.shared events output (going_on old events output goes h) (ready.going goes) turn.number turn.clock request deed v'
           (subst (λ (q : Request). IsAsked K held old.limit old.places turn.number turn.clock q) (sym same) (exhausted_asks K held old.limit old.places new turn is at_limit)) does (event_of e) by same new
 
-      -- whoever has the turn asks, before its request is performed
+      -- the goroutine that has the turn makes a request, before its request is performed
       pub asked_adds : (clock : ℕ) (request : Asked) → AdvancesAt K held old.limit (turns.Asks request clock) old.places turn.number new → (found : Option Recorded) (then : OpenValue S)
           → (IsAsked K held old.limit new turn.number clock (request_of request) → Adds K held (record old { places = new }) found then) → Adds K held old found then
       asked_adds clock request ask found then more = λ events output h.

@@ -85,7 +85,7 @@ module _ {S : Type 0} (K : GoroutineKind) (held : S → K.State) (limit : ℕ) w
   keys_is n [] = refl
   keys_is n (x ∷ xs) = ap (λ (o : Option ℕ). with_key n o (keys (option_map (rules K limit).clock) (suc n) (awake_in held xs))) (clock_is x) ∙ ap (with_key n (clock_of x)) (keys_is (suc n) xs)
 
-  -- ---- nobody is awake
+  -- ---- no goroutine is awake
 
   nobody_by : (n : ℕ) (x : Option (Goroutine S)) (o : Option ℕ) (ks : List Key) → clock_of x ≡ o → least (with_key n o ks) ≡ None → (clock_of x ≡ None) × (least ks ≡ None)
   nobody_by n x None ks e h = (e, h)
@@ -105,7 +105,7 @@ module _ {S : Type 0} (K : GoroutineKind) (held : S → K.State) (limit : ℕ) w
       let t = nobody_by n x (clock_of x) (keys clock_of (suc n) xs) refl h in
       ap (λ (b : Bool). not b && is_deserted (map is_some (awake_in held xs))) (not_awake x t.0) ∙ deserted (suc n) xs t.1
 
-  -- ---- somebody is awake
+  -- ---- a goroutine is awake
 
   is_awake : (x : Option (Goroutine S)) (c : ℕ) → clock_of x ≡ Some c → is_some (awake_of held x) ≡ true
   is_awake None c e = cc
@@ -193,7 +193,7 @@ module _ {S : Type 0} (K : GoroutineKind) (held : S → K.State) (limit : ℕ) w
       goes_on = st.goes_on;
     }
 
-    -- the world of a goroutine that asks stays
+    -- the world of a goroutine that makes a request stays
     pub asked_world : (new : List (Option (Goroutine S))) → awake_in held new ≡ awake_in held old → SleepOn held old new → IsWorldOf K held w new v
     asked_world new same on = record { awake = same ∙ st.world.awake; beds = lie_on old new w.shared.beds w.shared.shared.asleep on st.world.beds; shared = st.world.shared; once = st.world.once }
 

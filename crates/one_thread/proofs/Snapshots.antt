@@ -56,12 +56,12 @@ module _ {S : Type 0} (K : GoroutineKind) (held : S → K.State) where
     going_history : run.end ≡ None → HasHistory K held limit run.places run.shared has.0 has.1
     going_history goes = subst (λ (k : ℕ). HasHistory K held k run.places run.shared has.0 has.1) same (going_on K held run has.0 has.1 goes has.2)
 
-    -- nobody is awake
+    -- no goroutine is awake
     pub deserted_seen : run.end ≡ None → IsReady run → least (keys clock_of 0 run.places) ≡ None → IsSeen K held limit run.places run.shared (option_map event_of last) (Some Deadlock)
     deserted_seen goes ready none =
         ended_seen limit run.places run.shared has.0 has.1 (option_map event_of last) has.3 Deadlock (deserted_history K held limit run.places run.shared has.0 has.1 (going_history goes) (ready.going goes) none)
 
-    -- it is somebody's turn
+    -- it is a goroutine's turn
     pub stopped_seen : run.end ≡ None → IsReady run → (turn : Key) → least (keys clock_of 0 run.places) ≡ Some turn → IsSeen K held limit run.places run.shared (option_map event_of last) None
     stopped_seen goes ready turn first = going_seen limit run.places run.shared has.0 has.1 (option_map event_of last) has.3 (going_history goes) (ready.going goes) turn first
 

@@ -37,7 +37,7 @@ module _ {S H : Type 0} (held : S → H) where
   pub awake_is : (g : Goroutine S) → g.asleep ≡ false → awake_of held (Some g) ≡ Some (clocked held g)
   awake_is g e = ap (λ b. cond b None (Some (clocked held g))) e
 
-  -- who is awake at a place
+  -- the goroutine that is awake at a place
   pub here_is : (xs : List (Option (Goroutine S))) (n : ℕ) → slice_index_or (awake_in held xs) n None ≡ here (awake_of held) xs n
   here_is [] n = refl
   here_is (x ∷ xs) zero = refl
@@ -53,14 +53,14 @@ module _ {S H : Type 0} (held : S → H) where
     others = λ k ne. ap (bed_of held) (get_or-set_other old n k x None ne);
   }
 
-  -- who was awake and stays awake sleeps neither before nor after
+  -- a goroutine that was awake and stays awake sleeps neither before nor after
   pub sleep_on : (old new : List (Option (Goroutine S))) (n : ℕ) (a : Option (Clocked H)) → bed_at held old n ≡ None → Sets held old new n a None → SleepOn held old new
   sleep_on old new n a none h k = elim (cases_eq k n) [
     | inl e ↦ ap (bed_at held new) e ∙ h.bed ∙ sym none ∙ ap (bed_at held old) (sym e)
     | inr ne ↦ h.others k ne
   ]
 
-  -- who is awake has no bed
+  -- a goroutine that is awake has no bed
   pub awake_no_bed : (x : Option (Goroutine S)) (s : Clocked H) → awake_of held x ≡ Some s → bed_of held x ≡ None
   awake_no_bed None s e = cc
   awake_no_bed (Some g) s e = go g.asleep e
@@ -105,7 +105,7 @@ module _ {S E : Type 0} (K : GoroutineKind) (held : S → K.State) (limit : ℕ)
   turned_ok (Err e) old n g h at lt up same step = tt
 
 module _ {S : Type 0} (K : GoroutineKind) (held : S → K.State) where
-  -- who is told something goes on
+  -- a goroutine that gets a reply goes on
   pub told_there : (old : List (Option (Goroutine S))) (n : ℕ) (g h : Goroutine S) (s : Clocked K.State) (clock : ℕ) (reply : Reply) → slice_index_or old n None ≡ Some g → n < length old → h.asleep ≡ false → clocked held h ≡ told K (clocked held g) clock reply → here (awake_of held) old n ≡ Some s → Sets held old (slice_set old n (Some h)) n (Some (told K s clock reply)) None
   told_there old n g h s clock reply at lt up told_is is =
       sets held old n (Some h) (Some (told K s clock reply)) None lt
@@ -121,7 +121,7 @@ module _ {S : Type 0} (K : GoroutineKind) (held : S → K.State) where
   told_ok (Ok x) old n g h clock reply at lt told_is up = λ s is. told_there old n g h s clock reply at lt up told_is is
   told_ok (Err e) old n g h clock reply at lt told_is up = tt
 
-  -- who was asleep goes on, told this
+  -- a goroutine that was asleep goes on with its reply
   woken_there : (old : List (Option (Goroutine S))) (n : ℕ) (g h : Goroutine S) (clock : ℕ) (reply : Reply) → slice_index_or old n None ≡ Some g → n < length old → g.asleep ≡ true → h.asleep ≡ false → clocked held h ≡ told K (clocked held g) clock reply → Sets held old (slice_set old n (Some h)) n (woken_to K clock reply (bed_at held old n)) None
   woken_there old n g h clock reply at lt down up told_is =
       let bed : bed_at held old n ≡ Some (clocked held g) = ap (bed_of held) at ∙ ap (λ b. cond b (Some (clocked held g)) None) down in
@@ -134,7 +134,7 @@ module _ {S : Type 0} (K : GoroutineKind) (held : S → K.State) where
   woken_ok (Ok x) old n g h clock reply at lt down told_is up = woken_there old n g h clock reply at lt down up told_is
   woken_ok (Err e) old n g h clock reply at lt down told_is up = tt
 
-  -- who was not asleep has ended
+  -- a goroutine that was not asleep has ended
   pub none_woken : (old : List (Option (Goroutine S))) (n : ℕ) (clock : ℕ) (reply : Reply) → bed_at held old n ≡ None → n < length old → Sets held old (slice_set old n None) n (woken_to K clock reply (bed_at held old n)) None
   none_woken old n clock reply none lt = sets held old n None (woken_to K clock reply (bed_at held old n)) None lt (sym (ap (woken_to K clock reply) none)) refl
 
@@ -173,7 +173,7 @@ module _ {S H : Type 0} (held : S → H) where
   pub beyond : (old : List (Option (Goroutine S))) (n : ℕ) (s : Clocked H) → length old ≤ n → here (awake_of held) old n ≡ Some s → ⊥
   beyond old n s le is = let none = get_or_past old n None le in let e : here (awake_of held) old n ≡ None = ap (awake_of held) none in cc
 
-  -- who is awake has a place
+  -- a goroutine that is awake has a place
   pub within : (old : List (Option (Goroutine S))) (n : ℕ) (s : Clocked H) → here (awake_of held) old n ≡ Some s → n < length old
   within old n s up = elim (cases_lt n (length old)) [ inl lt ↦ lt | inr le ↦ absurd (beyond old n s le up) ]
 

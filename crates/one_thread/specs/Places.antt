@@ -70,11 +70,11 @@ module _ {S H : Type 0} (held : S → H) where
     pub bed : bed_at new n ≡ down
     pub others : (k : ℕ) → k ≢ n → bed_at new k ≡ bed_at old k
 
-  -- nobody fell asleep, or was woken
+  -- no goroutine fell asleep, or was woken
   abbrev pub SleepOn : List (Option (Goroutine S)) → List (Option (Goroutine S)) → Type 0
   SleepOn old new = (k : ℕ) → bed_at new k ≡ bed_at old k
 
--- told this at this clock, who was woken goes on
+-- a goroutine that was woken gets this reply, and goes on at this clock
 abbrev pub woken_to : (K : GoroutineKind) → ℕ → Reply → Option (Clocked K.State) → Option (Clocked K.State)
 woken_to K clock reply bed = option_map (λ (s : Clocked K.State). told K s clock reply) bed
 
@@ -85,7 +85,7 @@ module _ {S : Type 0} (K : GoroutineKind) (held : S → K.State) where
   Wakes clock old (w ∷ ws) new =
       (mid : List (Option (Goroutine S))) × Sets held old mid w.0 (woken_to K clock w.1 (bed_at held old w.0)) None × Wakes clock mid ws new
 
-  -- goroutine n is awake, and asks
+  -- goroutine n is awake, and makes a request
   pub record IsAt (limit : ℕ) (places : List (Option (Goroutine S))) (n : ℕ) (s : Clocked K.State) : Type 0 where
     pub here : here (awake_of held) places n ≡ Some s
     pub asks : local K limit s ≡ None
@@ -95,7 +95,7 @@ module _ {S : Type 0} (K : GoroutineKind) (held : S → K.State) where
   StepsAt limit old n new =
       ((w : Rest K.State) → move_at (rules K limit) (record { awake = awake_in held old; shared = w }) n (here (awake_of held) old n) ≡ record { awake = awake_in held new; shared = w }) × SleepOn held old new
 
-  -- the goroutine at place n, if it is awake, makes its local step, or has none and asks
+  -- the goroutine at place n, if it is awake, makes its local step, or has none and makes a request
   abbrev pub AdvancesAt : ℕ → Turn → List (Option (Goroutine S)) → ℕ → List (Option (Goroutine S)) → Type 0
   AdvancesAt limit turns.Slid old n new = StepsAt limit old n new
   AdvancesAt limit turns.Ticked old n new = StepsAt limit old n new

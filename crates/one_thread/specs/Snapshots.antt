@@ -44,7 +44,7 @@ abbrev pub IsFar : Until → ℕ → Key → Type 0
 IsFar (untils.Event n) events turn = n ≤ events
 IsFar (untils.Clock c) events turn = c < turn.clock
 
--- a run that goes on has come so far: the event has this number, or whoever moves next does so at a later clock
+-- a run that goes on has come so far: the event has this number, or the goroutine that moves next does so at a later clock
 abbrev pub IsReached : {S : Type 0} → Until → List (Option (Goroutine S)) → SharedValue → Type 0
 IsReached (untils.Event n) places v = v.events ≡ n
 IsReached (untils.Clock c) places v = (turn : Key) → least (keys clock_of 0 places) ≡ Some turn → c < turn.clock

@@ -9,13 +9,13 @@ use Rattle.one_thread.specs.declared.goroutine.Turn.TheVariants as turns
 use Rattle.one_thread.specs.declared.interpreter.Step.{Step}
 use Rattle.one_thread.specs.declared.interpreter.Step.TheVariants as steps
 
--- this step comes next, and leads from the old state to the new one; who asks stays as it is
+-- this step comes next, and leads from the old state to the new one; a goroutine that makes a request stays as it is
 abbrev pub Moves : {A : Type 0} → Next A → Step → A → A → Type 0
 Moves next steps.Slides new old = next ≡ Slides new
 Moves next steps.Ticks new old = next ≡ Ticks new
 Moves next (steps.Asks request) new old = (next ≡ Asks (request_of request)) × (new ≡ old)
 
--- the goroutine makes this local step, or has none and asks
+-- the goroutine makes this local step, or has none and makes a request
 abbrev pub Advances : (K : GoroutineKind) (limit : ℕ) → Turn → Clocked K.State → Clocked K.State → Type 0
 Advances K limit turns.Slid old new = local K limit old ≡ Some new
 Advances K limit turns.Ticked old new = local K limit old ≡ Some new

@@ -49,7 +49,7 @@ module _ {S : Type 0} (K : GoroutineKind) (held : S → K.State) where
     pub written : Appends known now (moment K limit moves).shared.shared.output
     pub goes_on : v.ending ≡ None
 
-  -- what a deed does to the goroutines: n is the actor's number, s its state, and whoever goes on is at this clock
+  -- what a deed does to the goroutines: n is the actor's number, s its state, and the goroutines that go on are at this clock
   abbrev pub Applies : ℕ → ℕ → Clocked K.State → Deed → List (Option (Goroutine S)) → List (Option (Goroutine S)) → Type 0
   Applies clock n s (deeds.Done reply woken) old new =
       (mid : List (Option (Goroutine S))) × Sets held old mid n (Some (told K s clock (reply_of reply))) None × Wakes K held clock mid woken.items new
@@ -67,7 +67,7 @@ module _ {S : Type 0} (K : GoroutineKind) (held : S → K.State) where
   Goes limit known now places v None = Stands limit known now places v
   Goes limit known now places v (Some ending) = IsWhole K limit known now ending
 
-  -- where nobody has a turn any more, the goroutines are those of a moment at which the run has ended in deadlock
+  -- if no goroutine has a turn any more, the goroutines are those of a moment at which the run has ended in deadlock
   abbrev pub IsLast : ℕ → Option Key → List (Option (Goroutine S)) → Type 0
   IsLast limit None places = (n : ℕ) × (v : SharedValue) × IsWorldOf (moment K limit n) places v × (end_of (moment K limit n) ≡ Some Deadlock)
   IsLast limit (Some key) places = Unit {0}

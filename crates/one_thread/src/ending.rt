@@ -20,14 +20,14 @@ use word::end::End;
 pub struct Ended<S: Drop> {
     /// How it ended.
     pub end: End,
-    /// Whose turn was the last one, at which clock; none where nobody was awake.
+    /// The goroutine that had the last turn, and at which clock; none if no goroutine was awake.
     pub turn: Option<Key>,
     /// All goroutines that had not ended, goroutine n at place n.
     pub goroutines: Vec<Option<Goroutine<S>>>,
 }
 
-/// Runs goroutine 1 at `main`, and all that come of it, up to the clock limit, as `run` does, but for at most so many moves,
-/// and answers where all goroutines stand when the run has ended; none where it has not ended by then.
+/// Like `run`, but makes at most `most` moves, and returns where all goroutines stand when the run has ended; none if it has not
+/// ended by then.
 ///
 /// Errors: `Write`; `Memory`.
 pub fn last_moment<P: Interpreter, W: Write>(
@@ -55,7 +55,7 @@ pub fn last_moment<P: Interpreter, W: Write>(
     Ok(None)
 }
 
-/// Nobody is awake.
+/// No goroutine is awake.
 fn deserted<S: Drop>(goroutines: Vec<Option<Goroutine<S>>>) -> Ended<S>
     ensures end { result.end ≡ End.Deadlock }
     ensures turn { result.turn ≡ None }

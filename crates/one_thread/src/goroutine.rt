@@ -24,7 +24,7 @@ pub struct Goroutine<S: Drop> {
     pub state: S,
 }
 
-/// What came of a goroutine's turn.
+/// The outcome of a goroutine's turn.
 #[derive(Drop)]
 pub(crate) enum Turn {
     /// It made a step of its own that costs nothing.
@@ -37,7 +37,7 @@ pub(crate) enum Turn {
     Exhausted,
 }
 
-/// A goroutine has its turn. At the limit its state is of no more use.
+/// A goroutine has its turn. At the limit its state is not used any more.
 pub(crate) fn advance<P: Interpreter>(
     program: &P,
     alloc: Global,
@@ -78,7 +78,7 @@ fn later(clock: Clock, limit: u64) -> Option<Clock>
     tick(clock, limit)
 }
 
-/// A request at this clock; at the limit, where there is no later clock, the goroutine is exhausted.
+/// A request at this clock; at the limit, if there is no later clock, the goroutine is exhausted.
 fn asking(request: Request, clock: Clock, later: Option<Clock>) -> Turn
     ensures turn { result ≡ asking request clock later }
     ensures soon { (limit : _) → IfSome later (λ later. (later ≡ clock + 1) × (later ≤ limit)) → IsSoon limit result }
@@ -89,7 +89,7 @@ fn asking(request: Request, clock: Clock, later: Option<Clock>) -> Turn
     }
 }
 
-/// A goroutine that asked, or was woken, is told this, and goes on at this clock.
+/// A goroutine that made a request, or was woken, gets `reply`, and goes on at `clock`.
 pub(crate) fn tell<P: Interpreter>(
     program: &P,
     alloc: Global,

@@ -70,7 +70,7 @@ impl<S: Drop> OpenRun<S> {
         }
     }
 
-    /// The goroutine of this number, if it has not ended. In a run whose time is exhausted nothing is said of it.
+    /// Goroutine `number`, if it has not ended. In a run whose time is exhausted nothing is claimed about it.
     pub fn goroutine(&self, number: u64) -> Option<&Goroutine<S>>
         ensures none { IfNone result (slice_index_or self.now.places number None ≡ None) }
         ensures some { IfSome result (λ goroutine. slice_index_or self.now.places number None ≡ Some goroutine.now) }
@@ -192,7 +192,7 @@ pub(crate) fn take_turn<P: Interpreter>(
     }
 }
 
-/// Performs the request that the goroutine at this place, whose turn it is, makes at this clock, and returns the event.
+/// Performs the request that the goroutine at `place`, whose turn it is, makes at this clock, and returns the event.
 fn make_request<P: Interpreter>(
     alloc: Global,
     program: &P,

@@ -1,4 +1,4 @@
-//! What the run asks of a kind of goroutine.
+//! What the run needs of a kind of goroutine.
 
 ghost use Rattle.std.specs.Prelude.{◌≡◌, ℕ, List, IfOk, OnOk};
 ghost use Rattle.word.specs.Related.{Falls, Parts};
@@ -37,11 +37,11 @@ pub trait Interpreter {
     // What a state weighs: less after each step that costs nothing.
     ghost weight: { Self → Held → ℕ };
 
-    /// The next step of a goroutine. One that asks stays as it is.
+    /// The next step of a goroutine. One that makes a request stays as it is.
     fn step(&self, alloc: Global, state: &mut Self::State) -> Result<Step, Memory>
         ensures { IfOk result (λ step. Moves ((parts self.now).next (held self.now state.old)) step (held self.now state.new) (held self.now state.old)) };
 
-    /// Tells a goroutine what it asked for.
+    /// Gives a goroutine the reply to its request.
     fn answer(&self, alloc: Global, state: &mut Self::State, reply: Reply) -> Result<(), Memory>
         ensures { OnOk result (held self.now state.new ≡ (parts self.now).answer (held self.now state.old) (reply_of reply)) };
 

@@ -20,7 +20,7 @@ use std::sync::ledger::{Blank, Ledger};
 use steps::Steps;
 use word::request::Reply;
 
-/// All goroutines, goroutine n at place n; nobody is at place 0. The keys of those that are awake stand in a heap, so the least one
+/// All goroutines, goroutine n at place n; place 0 is empty. The keys of those that are awake stand in a heap, so the least one
 /// is found without a walk.
 pub(crate) struct Places<S: Drop> {
     all: Vec<Option<Goroutine<S>>>,
@@ -71,7 +71,7 @@ impl<S: Drop> Places<S> {
         Ok(())
     }
 
-    /// The goroutine at this place, if there is one.
+    /// The goroutine at `place`, if there is one.
     pub(crate) fn get(&self, place: usize) -> Option<&Goroutine<S>>
         ensures none { IfNone result (slice_index_or self.now place None ≡ None) }
         ensures some { IfSome result (λ goroutine. slice_index_or self.now place None ≡ Some goroutine.now) }
@@ -99,7 +99,7 @@ impl<S: Drop> Places<S> {
         Some(key)
     }
 
-    /// The awake goroutine at this place falls asleep.
+    /// The awake goroutine at `place` falls asleep.
     pub(crate) fn lay(&mut self, place: usize)
         ensures within { (limit : ℕ) → AreWithin limit self.old → AreWithin limit self.new }
         ensures laid { IsLaid self.old place self.new }
@@ -114,7 +114,7 @@ impl<S: Drop> Places<S> {
         note(&mut self.keys, place, None);
     }
 
-    /// The awake goroutine at this place has ended.
+    /// The awake goroutine at `place` has ended.
     pub(crate) fn end(&mut self, place: usize)
         ensures within { (limit : ℕ) → AreWithin limit self.old → AreWithin limit self.new }
         ensures ended { self.new ≡ slice_set self.old place None }
@@ -126,7 +126,7 @@ impl<S: Drop> Places<S> {
     }
 }
 
-/// The key of this goroutine, which is at this place, if it is awake.
+/// The key of this goroutine, which is at `place`, if it is awake.
 fn key_of<S: Drop>(goroutine: &Goroutine<S>, place: usize) -> Option<Key>
     ensures { result ≡ key_of place (Some goroutine.now) }
 {
@@ -139,7 +139,7 @@ fn key_of<S: Drop>(goroutine: &Goroutine<S>, place: usize) -> Option<Key>
     })
 }
 
-/// The goroutine at this place has this key now, or none.
+/// The goroutine at `place` has this key now, or none.
 fn note(keys: &mut KeyIndex, place: usize, key: Option<Key>)
     ensures { keys.new ≡ slice_set keys.old place key }
 {
@@ -157,7 +157,7 @@ fn note_counted<L: Ledger>(keys: &mut KeyIndex, place: usize, key: Option<Key>, 
     keys.set(place, key, &mut steps);
 }
 
-/// The goroutine at this place has its turn, if it is awake.
+/// The goroutine at `place` has its turn, if it is awake.
 pub(crate) fn advance_at<P: Interpreter>(
     program: &P,
     alloc: Global,
@@ -186,7 +186,7 @@ pub(crate) fn advance_at<P: Interpreter>(
     turn
 }
 
-/// The awake goroutine at this place goes on at this clock, and is told this.
+/// The awake goroutine at `place` gets `reply`, and goes on at `clock`.
 pub(crate) fn tell_at<P: Interpreter>(
     program: &P,
     alloc: Global,
@@ -209,7 +209,7 @@ pub(crate) fn tell_at<P: Interpreter>(
     told
 }
 
-/// The sleeping goroutine at this place is woken, told this, and goes on at this clock.
+/// The sleeping goroutine at `place` is woken, gets `reply`, and goes on at `clock`.
 fn wake_at<P: Interpreter>(
     program: &P,
     alloc: Global,
@@ -237,7 +237,7 @@ fn wake_at<P: Interpreter>(
     Ok(())
 }
 
-/// Those who were asleep are woken, in this order, and go on at this clock.
+/// The goroutines that were asleep are woken, in this order, and go on at `clock`.
 pub(crate) fn wake_all<P: Interpreter>(
     program: &P,
     alloc: Global,

@@ -23,7 +23,7 @@ use word::end::End;
 use word::request::{Reply, Request};
 use word::{Write, write_all};
 
-/// Runs goroutine 1 at `main`, and all that come of it, up to the clock limit (1 to 2^62 steps), and answers how the run
+/// Runs goroutine 1 at `main`, and all that it starts, up to the clock limit (1 to 2^62 steps), and returns how the run
 /// ended. What is written begins the output of the one-thread run; at an end it is all of it.
 ///
 /// Errors: `BadLimit`; `Write`; `Memory`.
@@ -47,7 +47,7 @@ pub fn run<P: Interpreter, W: Write>(
     Ok(end)
 }
 
-/// The run at a limit that is none too high.
+/// Like `run`, at a limit that is not too high.
 fn run_below<P: Interpreter, W: Write>(
     alloc: Global,
     program: &P,
@@ -183,7 +183,7 @@ pub(crate) fn one_move<P: Interpreter, W: Write>(
     }
 }
 
-/// Performs the request that the goroutine at this place, whose turn it is, makes at this clock.
+/// Performs the request that the goroutine at `place`, whose turn it is, makes at this clock.
 fn perform<P: Interpreter, W: Write>(
     alloc: Global,
     program: &P,
@@ -231,7 +231,7 @@ fn print<W: Write>(deed: &Deed, output: &mut W) -> Result<(), Fault>
     }
 }
 
-/// Does to the goroutines what became of a request of the one at this place; whoever goes on is at this clock.
+/// Applies the outcome of a request to the goroutines: its actor is at `place`, and those that go on are at clock `later`.
 pub(crate) fn apply<P: Interpreter>(
     alloc: Global,
     program: &P,

@@ -44,7 +44,7 @@ pub struct Snapshot<S: Drop> {
     pub event: Option<Event>,
     /// All goroutines that have not ended, goroutine n at place n.
     pub goroutines: Vec<Option<Goroutine<S>>>,
-    /// The channels, who sleeps there, and how many events there were.
+    /// The channels, the goroutines that sleep there, and how many events there were.
     pub shared: Shared,
 }
 
@@ -62,8 +62,8 @@ impl<S: Drop> Drop for Snapshot<S> {
     }
 }
 
-/// Runs goroutine 1 at `main`, and all that come of it, up to the clock limit, as `run` does, but only so far, and returns where all
-/// goroutines stand then. What they print is dropped. At the clock limit nothing is said of where they stand.
+/// Like `run`, but only goes as far as `until`, and returns where all
+/// goroutines stand then. What they print is dropped. At the clock limit nothing is claimed about where they stand.
 ///
 /// Errors: out of memory, as which 2^64 moves count.
 pub fn run_until<P: Interpreter>(

@@ -32,7 +32,7 @@ zeros_more made new all ks i d w h inv is e =
     let s : fitted (drop i ks) [] ≡ w ∷ rest = rw add-one (zeros_suc ks i d h ∙ ap (λ (v : Word). v ∷ fitted (drop (suc i) ks) []) (sym is)) in
     ap (λ (l : List Word). l ++ rest) e ∙ append_assoc made (w ∷ []) rest ∙ ap (λ (l : List Word). made ++ l) (sym s) ∙ inv
 
--- a word was put first, and zeros behind it
+-- a word was put first, and zeros after it
 pub first_put : (ls : List Word) (ks : List WordKind) (d : WordKind) (w : Word) → length ls ≡ length ks → 0 < length ks → take 1 (slice_set ls 0 (as_kind (get_or ks 0 d) w)) ++ fitted (drop 1 ks) [] ≡ fitted ks (w ∷ [])
 first_put ls [] d w same some = absurd (omega (arith, some))
 first_put [] (k ∷ ks) d w same some = absurd (omega (arith, same))

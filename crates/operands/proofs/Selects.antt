@@ -34,7 +34,7 @@ drop_taken zero xs = refl
 drop_taken (suc n) [] = refl
 drop_taken (suc n) (x ∷ xs) = drop_taken n xs
 
--- the clause at an index, and those behind it
+-- the clause at an index, and those after it
 at_clause : (code : Code) (clauses : List Clause) (ws : List Word) (i : ℕ) (d : Clause) → i < length clauses
     → cases_of code (drop i clauses) ws ≡ also (case_of (get_or clauses i d) (take (length (clause_kinds code (get_or clauses i d))) ws)) (cases_of code (drop (suc i) clauses) (drop (length (clause_kinds code (get_or clauses i d))) ws))
 at_clause code clauses ws i d h = ap (λ xs. cases_of code xs ws) (drop-cons clauses i d h)

@@ -19,7 +19,7 @@ pub fn zero_of(kind: WordKind) -> Word
     }
 }
 
-/// The word where it is of the kind, else the kind's zero.
+/// The word if it is of the kind, else the kind's zero.
 fn as_kind(kind: WordKind, word: Word) -> Word
     ensures { result ≡ as_kind_of kind word }
 {
@@ -39,7 +39,7 @@ fn as_kind(kind: WordKind, word: Word) -> Word
     }
 }
 
-/// The word of a kind that stands at an index of these, a zero where there is none.
+/// The word of a kind that stands at an index of these, a zero if there is none.
 pub fn word_at(kind: WordKind, words: &[Word], index: usize) -> Word
     ensures { result ≡ word_for kind (drop index words.now) }
 {
@@ -96,7 +96,7 @@ fn overwrite_any(made: &mut [Word], kinds: &[WordKind], from: usize)
     }
 }
 
-/// The same; most are ints.
+/// Like `overwrite_any`, but expects most of them to be ints.
 #[inline(always)]
 fn overwrite_rest(made: &mut [Word], kinds: &[WordKind], from: usize)
     requires same { length made.old ≡ length kinds.now }
@@ -114,7 +114,7 @@ fn overwrite_rest(made: &mut [Word], kinds: &[WordKind], from: usize)
     }
 }
 
-/// Words of these kinds in place of others: the one given first, and zeros behind it.
+/// Replaces the words in `made` by words of these kinds: `word` first, and zeros after it.
 #[inline(always)]
 pub fn fit_one(made: &mut Vec<Word>, kinds: &[WordKind], word: Word) -> Result<(), AllocError>
     ensures { OnOk result (made.new.items ≡ fitted_of kinds.now (word ∷ [])) }

@@ -14,7 +14,7 @@ pub fn put_words(into: &mut [Word], from: usize, words: &[Word])
     into[from..from + words.len()].copy_from_slice(words);
 }
 
-/// The same word. It is taken by its variant, so that what an operator just wrote in parts is not read as a whole, for which the
+/// Returns `word`. It is taken by its variant, so that what an operator just wrote in parts is not read as a whole, for which the
 /// processor would wait.
 #[inline(always)]
 pub fn by_variant(word: Word) -> Word

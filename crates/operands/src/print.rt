@@ -8,7 +8,7 @@ use std::alloc::{AllocError, Global};
 use word::text::append;
 use word::value::Word;
 
-/// Appends the text of a part, which takes its value from the words at an index, and answers the index behind it.
+/// Appends the text of a part, which takes its value from `words` at `index`, and returns the index after it.
 fn put_part(
     text: &mut Vec<u8>,
     part: &Part,
@@ -30,7 +30,7 @@ fn put_part(
     }
 }
 
-/// Appends the text of the word at an index, and answers the index behind it.
+/// Appends the text of the word at `index`, and returns the index after it.
 fn put_word(text: &mut Vec<u8>, words: &[Word], index: usize) -> Result<usize, AllocError>
     requires { index ≤ length words.now }
     ensures text { OnOk result (text.new.items ≡ text.old.items ++ part_text Part.Int (drop index words.now)) }

@@ -11,7 +11,7 @@ use word::limits::MAX_WORDS;
 use word::request::Case;
 use word::value::{Item, Word};
 
-/// What a clause offers, by its operands; none where they are not of its kinds.
+/// What a clause offers, by its operands; `None` if they are not of its kinds.
 fn case(alloc: Global, clause: Clause, words: &[Word]) -> Option<Case>
     ensures { result ≡ case_of clause words.now }
 {
@@ -38,7 +38,7 @@ fn case(alloc: Global, clause: Clause, words: &[Word]) -> Option<Case>
     }
 }
 
-/// So many words from an index on, or as many as there are.
+/// `count` words from `index` on, or as many as there are.
 fn words_from(words: &[Word], index: usize, count: usize) -> &[Word]
     requires { index ≤ length words.now }
     ensures { result.now ≡ take count (drop index words.now) }
@@ -51,7 +51,7 @@ fn words_from(words: &[Word], index: usize, count: usize) -> &[Word]
     }
 }
 
-/// What the clauses offer, by their operands, in the room of an empty list; none where they are not of their kinds.
+/// What the clauses offer, by their operands, in the buffer of the empty list `room`; `None` if these are not of their kinds.
 pub fn cases(
     alloc: Global,
     code: &Code,

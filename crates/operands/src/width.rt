@@ -8,7 +8,7 @@ ghost use Rattle.bytecode.specs.Rules.{IsVerified};
 use bytecode::{Clause, Code, Function, Instr, Part};
 use word::apply::Op;
 
-/// The clauses of a select table; none where it is not there.
+/// The clauses of a select table; none if it is not there.
 pub fn clauses_of(code: &Code, table: u32) -> &[Clause]
     ensures { result.now ≡ clauses_in (slice_get code.now.selects table) }
 {
@@ -18,7 +18,7 @@ pub fn clauses_of(code: &Code, table: u32) -> &[Clause]
     }
 }
 
-/// How many words an item of a shape has; none where the shape is not there.
+/// How many words an item of a shape has; none if the shape is not there.
 fn item_width(code: &Code, shape: u32) -> usize
     requires { IsVerified code.now }
     ensures width { result ≡ length (shape_kinds code.now shape) }

@@ -93,7 +93,7 @@ mutual
 value_counts : (e : Expression) (rest : List Lexeme) → length (before e rest) ≡ expression_count e + length rest
 value_counts e rest = omega (arith, expression_counts e, length-append (expression_words e) rest)
 
--- an expression, and the mark behind it
+-- an expression, and the mark after it
 abbrev value_step : Expression → ℕ
 value_step e = expression_count e + 1
 

@@ -54,7 +54,7 @@ tops_separate room most = record {
   end = end_again;
 }
 
--- declarations with a semicolon behind each are those with one between each two, and one behind them
+-- declarations with a semicolon after each are those with one between each two, and one after them
 tops_joined : (t : Top) (ts : List Top) → tops_words (t ∷ ts) ≡ joined top_words (behind kinds.Semicolon) (t ∷ ts) (Mark kinds.Semicolon ∷ [])
 tops_joined t [] = refl
 tops_joined t (next ∷ ts) = ap (λ (x : List Lexeme). top_words t (Mark kinds.Semicolon ∷ x)) (tops_joined next ts)
@@ -217,7 +217,7 @@ no_few room most ws listing e f spelt few =
           absurd (omega (arith, ap (λ (l : Listing). longest l f) is))
     ]
 
--- with room enough the file itself is read
+-- with enough levels the file itself is read
 found_again : (room most : ℕ) (ws : List Lexeme) (f : File) → Spells ws f → height f ≤ room + 3 → AreFew (λ listing. longest listing f) most → file most room ws ≡ Ok f
 found_again room most ws f spelt low few =
     elim (file_again room most f spelt.well_formed) [

@@ -114,7 +114,7 @@ pub record IsTopSound (most room : ℕ) (ws : List Lexeme) (t : Top) (rest : Lis
 abbrev made_struct : List ℕ → List Declared × Bool → Top
 made_struct name fields = StructTop (record { name = name; fields = fields.0; trailing = fields.1 })
 
--- a mark or a name, and what was read behind it
+-- a mark or a name, and what was read after it
 behind_word : (word : Lexeme) (ws rest tail : List Lexeme) → ws ≡ word ∷ rest → rest ≡ tail → ws ≡ word ∷ tail
 behind_word word ws rest tail first others = first ∙ ap (λ (x : List Lexeme). word ∷ x) others
 
@@ -173,7 +173,7 @@ block_sound most room ws found e =
 abbrev parameters_words : List Declared × Bool → List Lexeme → List Lexeme
 parameters_words parameters rest = joined declared_words (behind kinds.Comma) parameters.0 (closing kinds.Comma kinds.RightParenthesis parameters.1 rest)
 
--- parameters, and the result and block behind them
+-- parameters, and the result and block after them
 typed_parts : (parameters : List Declared × Bool) (kind : Option TypeExpression) (inside typed bare tail : List Lexeme) → inside ≡ parameters_words parameters typed → typed ≡ result_words kind bare → bare ≡ tail → inside ≡ parameters_words parameters (result_words kind tail)
 typed_parts parameters kind inside typed bare tail first second third = first ∙ ap (parameters_words parameters) (second ∙ ap (result_words kind) third)
 

@@ -14,14 +14,14 @@ use Rattle.parser_statement.specs.Reading.{statement, statement_next}
 
 -- ---- fields and parameters
 
--- at most so many names, and their type, of at most so many levels
+-- at most `most` names, and their type, of at most `room` levels
 unfoldable pub declared : ℕ → ℕ → List Lexeme → Reading Declared
 declared most room words = do
   all ← names kinds.Comma most words
   kind ← type_at room all.1
   Ok (record { names = all.0.0; type_expression = kind.0 }, kind.1)
 
--- at least one field or parameter, of which there are at most so many, to the closing mark; `left` is how many names
+-- at least one and at most `most` fields or parameters, to the closing mark; `left` is how many names
 -- there may still be
 unfoldable pub some_declared : (separator close : TokenKind) → (room most left : ℕ) → List Lexeme → Reading (List Declared × Bool)
 some_declared separator close room zero left words = Err (TooMany Entries)
@@ -37,7 +37,7 @@ all_declared separator close most room words =
 
 -- ---- declarations
 
--- a struct type, with types of at most so many levels
+-- a struct type, with types of at most `room` levels
 unfoldable pub structure : ℕ → ℕ → List Lexeme → Reading Top
 structure most room words = do
   first ← expect kinds.TypeKeyword words
@@ -55,7 +55,7 @@ result_type room words = if begins_with kinds.LeftBrace words then Ok (None, wor
 unfoldable pub block : ℕ → ℕ → List Lexeme → Reading (List Statement × Bool)
 block most room words = expect kinds.LeftBrace words >>= λ rest. listed (statement most room) statement_next Syntax (length rest) rest
 
--- a function, with statements and types of parameters of at most so many levels
+-- a function, with statements and types of parameters of at most `room` levels
 unfoldable pub function : ℕ → ℕ → List Lexeme → Reading Top
 function most room words = do
   first ← expect kinds.Func words
@@ -84,7 +84,7 @@ unfoldable pub tops : ℕ → ℕ → List Lexeme → Reading (List Top × Bool)
 tops most room [] = Ok (([], false), [])
 tops most room (word ∷ rest) = listed (top most room) top_next Syntax (length (word ∷ rest)) (word ∷ rest)
 
--- a file with statements of at most so many levels, whose lists have at most so many entries
+-- a file with statements of at most `room` levels, whose lists have at most `most` entries
 unfoldable pub file : ℕ → ℕ → List Lexeme → Result File Refusal
 file most room words = do
   clause ← expect kinds.Package words

@@ -68,7 +68,7 @@ IsTop (FunctionTop function) = IsFunction function
 
 -- ---- files
 
--- declarations, with a semicolon behind each
+-- declarations, with a semicolon after each
 abbrev pub tops_words : List Top → List Lexeme
 tops_words [] = []
 tops_words (top ∷ rest) = top_words top (Mark kinds.Semicolon ∷ tops_words rest)

@@ -43,7 +43,7 @@ fn declared_next(
     closed(close, false, cursor)
 }
 
-/// At most so many names and their type, of at most so many levels.
+/// At most `most` names and their type, of at most `room` levels.
 #[tactic(auto, unfolding(crate::specs::Reading::declared))]
 fn declared(
     alloc: Global,
@@ -92,7 +92,7 @@ fn some_declared(
     Err(ParseFault::TooManyEntries(rest.place()))
 }
 
-/// Fields or parameters to the closing mark, behind the opening one; their types have at most so many levels.
+/// Fields or parameters to the closing mark, after the opening one; their types have at most `room` levels.
 #[tactic(auto, unfolding(crate::specs::Reading::all_declared))]
 pub(crate) fn all_declared(
     alloc: Global,

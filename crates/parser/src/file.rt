@@ -51,7 +51,7 @@ fn declaration_list(alloc: Global, cursor: Cursor<'_>) -> Result<List<'_, TopNod
     Err(ParseFault::Syntax(rest.place()))
 }
 
-/// The declarations of a file behind the semicolon of its first line.
+/// The declarations of a file after the semicolon of its first line.
 #[tactic(auto, unfolding(crate::specs::Reading::tops))]
 fn declarations(alloc: Global, cursor: Cursor<'_>) -> Result<List<'_, TopNode>, ParseFault>
     ensures { Gives (λ x. ((map top_of x.entries.items, x.trailing), ahead x.rest)) result (tops MAX_ENTRIES STATEMENT_ROOM (ahead cursor.entry)) }

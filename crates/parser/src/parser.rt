@@ -1,4 +1,4 @@
-//! The tree of a text's tokens.
+//! The syntax tree of the tokens of a source file.
 
 ghost use Rattle.std.specs.Prelude.{◌≡◌, ◌<◌, ◌≤◌, ◌^◌, ◌⊎◌, List, Some, IsSome, IfOk, IfErr, length};
 ghost use Rattle.go_text.specs.Source.{bytes_of};
@@ -20,11 +20,11 @@ use std::alloc::Global;
 use syntax::Tree;
 use syntax::limits::{MAX_CLAUSES, MAX_ENTRIES, MAX_HEIGHT};
 
-/// The tree that spells the tokens of a text.
+/// The syntax tree of the tokens of a source file.
 ///
-/// A fault lies at the first token up to which no tree's tokens begin so, or at the text's end: `Syntax` where no tree
-/// at all has such tokens, `TooDeep` where none of at most `MAX_HEIGHT` levels has, and `Limit` of kind `ListEntries` or
-/// `SelectClauses` where none has whose lists have at most `MAX_ENTRIES` entries, or whose selects have at most
+/// A fault lies at the first token up to which no tree's tokens begin so, or at the text's end: `Syntax` if no tree
+/// at all has such tokens, `TooDeep` if none of at most `MAX_HEIGHT` levels has, and `Limit` of kind `ListEntries` or
+/// `SelectClauses` if none has whose lists have at most `MAX_ENTRIES` entries, or whose selects have at most
 /// `MAX_CLAUSES` clauses. At one token `Syntax` comes before `TooDeep`, and that before `Limit`.
 pub fn parse(alloc: Global, source: &Source, tokens: &[Token]) -> Result<Tree, Fault>
     requires { length tokens.now < 2 ^ 32 }
@@ -37,11 +37,11 @@ pub fn parse(alloc: Global, source: &Source, tokens: &[Token]) -> Result<Tree, F
     ensures spans { IfOk result (λ tree. spans_of tree ≡ file_spans tokens.now (tree_of tree)) }
     // No tree at all has them.
     ensures syntax { IfErr result (λ fault. refusal_of fault ≡ Some Syntax → (file : File) → Spells (lexemes (bytes_of source.now) tokens.now) file → ⊥) }
-    // No tree of at most so many levels has them.
+    // No tree of at most `MAX_HEIGHT` levels has them.
     ensures deep { IfErr result (λ fault. refusal_of fault ≡ Some TooDeep → (file : File) → Spells (lexemes (bytes_of source.now) tokens.now) file → height file ≤ MAX_HEIGHT → ⊥) }
-    // No tree whose lists have at most so many entries has them.
+    // No tree whose lists have at most `MAX_ENTRIES` entries has them.
     ensures many { IfErr result (λ fault. refusal_of fault ≡ Some (TooMany Entries) → (file : File) → Spells (lexemes (bytes_of source.now) tokens.now) file → most_entries file ≤ MAX_ENTRIES → ⊥) }
-    // No tree whose selects have at most so many clauses has them.
+    // No tree whose selects have at most `MAX_CLAUSES` clauses has them.
     ensures wide { IfErr result (λ fault. refusal_of fault ≡ Some (TooMany SelectClauses) → (file : File) → Spells (lexemes (bytes_of source.now) tokens.now) file → most_clauses file ≤ MAX_CLAUSES → ⊥) }
     ensures only { IfErr result (λ fault. (fault ≡ faults.Memory) ⊎ IsSome (refusal_of fault)) }
 {

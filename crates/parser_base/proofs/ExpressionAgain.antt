@@ -290,7 +290,7 @@ abbrev pub IsRead : (literals : Bool) (most : ℕ) → Expression → Type 0
 IsRead literals most t = (room least : ℕ) (rest : List Lexeme) → least ≤ outer_precedence t → step_at least rest ≡ None → Shut literals rest
     → ReadBack (expression literals most room least (expression_words t ++ rest)) t rest (expression_height t) room (λ listing. expression_longest listing t) most
 
--- A tree's words are read as the tree, and reading goes on behind it; or it is too high, or has too long a list.
+-- A tree's words are read as the tree, and reading goes on after it; or it is too high, or has too long a list.
 data Reads (literals : Bool) (most room least : ℕ) (t : Expression) (rest : List Lexeme) : Type 0 where
   Goes : (turns : ℕ) → suc (suc room) ≤ turns + expression_height t → expression_height t ≤ suc room → AreFew (λ listing. expression_longest listing t) most
       → expression literals most (suc room) least (expression_words t ++ rest) ≡ operations (expression literals most room) (suc room) least turns t rest → Reads literals most room least t rest
@@ -326,7 +326,7 @@ unfolding operations operation
 no_room deeper room least zero left s ws le high = refl
 no_room deeper room least (suc turns) left s ws le high = rw (at_step least s ws le, le-leb room (expression_height left) high) refl
 
--- the same, behind an expression that is read
+-- like `one_step`, after an expression that is read
 step_read : (literals : Bool) (most room least turns : ℕ) (left : Expression) (s : Infix) (ws : List Lexeme) (read : Reading Expression) → 1 ≤ turns → least ≤ strength s → expression_height left < suc room
     → read ≡ operations (expression literals most room) (suc room) least turns left (Mark (step_kind s) ∷ ws)
     → read ≡ (applied (expression literals most room) left (s, ws) >>= λ more. operations (expression literals most room) (suc room) least (turns - 1) more.0 more.1)
@@ -385,12 +385,12 @@ reads_selection literals most whole field goes strong plain room least rest le n
       | TooLong listing many e ↦ TooLong listing many (begin ∙ e)
     ]
 
--- how an operand is read below which there are at most so many levels
+-- how an operand is read that has at most `room` levels below it
 abbrev pub IsOperandRead : (literals : Bool) (most : ℕ) → Expression → Type 0
 IsOperandRead literals most t = (room : ℕ) (rest : List Lexeme) → step_at (suc (outer_precedence t)) rest ≡ None → Shut literals rest
     → ReadBack (operand literals (expression literals most room) room most (expression_words t ++ rest)) t rest (expression_height t) (suc room) (λ listing. expression_longest listing t) most
 
--- an expression as it is read behind its first operand
+-- an expression as it is read after its first operand
 pub behind_operand : (literals : Bool) (most room least : ℕ) (ws : List Lexeme) (r : Reading Expression) → operand literals (expression literals most room) room most ws ≡ r
     → expression literals most (suc room) least ws ≡ (r >>= λ first. operations (expression literals most room) (suc room) least (suc room) first.0 first.1)
 unfolding expression
@@ -573,7 +573,7 @@ unfolding entry_next
 ending_again separator starts close true rest other none = rw (is_kind_same separator, none, expect_again close rest) refl
 ending_again separator starts close false rest other none = rw (other, expect_again close rest) refl
 
--- another entry is read behind a separator, where one starts so
+-- another entry is read after a separator, where one starts so
 pub more_entries : (separator : TokenKind) (starts : List Lexeme → Bool) (close : TokenKind) (words : List Lexeme) → starts words ≡ true → entry_next separator starts close (Mark separator ∷ words) ≡ Ok (More, words)
 unfolding entry_next
 more_entries separator starts close words is = rw (is_kind_same separator, is) refl

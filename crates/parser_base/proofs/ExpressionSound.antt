@@ -454,7 +454,7 @@ capacity_sound literals most deeper room sound ws t rest e =
       none = none_strong rest;
     })
 
--- a `make` behind its type
+-- a `make` after its type
 record IsMade (literals : Bool) (most room : ℕ) (channel : TypeExpression) (ws : List Lexeme) (t : Expression) (rest : List Lexeme) : Type 0 where
   parts : Name (codes "make") ∷ Mark kinds.LeftParenthesis ∷ (type_words channel ++ ws) ≡ expression_words t ++ rest
   grouped : IsType channel → IsGrouped literals t

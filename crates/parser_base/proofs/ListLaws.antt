@@ -31,7 +31,7 @@ pub data ReadBack {A : Type 0} (read : Reading A) (x : A) (rest : List Lexeme) (
   High : room < height → read ≡ Err TooDeep → ReadBack read x rest height room longest most
   Many : (listing : Listing) → most < longest listing → read ≡ Err (TooMany listing) → ReadBack read x rest height room longest most
 
--- the same of a list, which may also be longer than there are turns
+-- like `ReadBack`, for a list, which may also be longer than there are turns
 pub data ListOutcome {X : Type 0} (read : Reading (List X × Bool)) (xs : List X) (trailing : Bool) (rest : List Lexeme) (height room : ℕ) (longest : Listing → ℕ) (most turns : ℕ) (full : Refusal) : Type 0 where
   Found : height ≤ room → AreFew longest most → length xs ≤ turns → read ≡ Ok ((xs, trailing), rest) → ListOutcome read xs trailing rest height room longest most turns full
   High : room < height → read ≡ Err TooDeep → ListOutcome read xs trailing rest height room longest most turns full
@@ -131,7 +131,7 @@ pub record AreEntries {X : Type 0} (l : Entries X) (turns : ℕ) (words : List L
   pub few : AreFew (λ listing. highest (l.longest listing) found.0.0) l.most
   pub count : length found.0.0 ≤ turns
 
--- the entries behind a separator
+-- the entries after a separator
 behind_one : {X : Type 0} (l : Entries X) (xs : List X) (rest : List Lexeme) → AreSome l.IsOne xs → separated l.each l.separator xs rest ≡ l.separator (joined l.each l.separator xs rest)
 behind_one l [] rest some = absurd some
 behind_one l (x ∷ xs) rest some = refl
@@ -141,7 +141,7 @@ pub all_of : {X : Type 0} (P : X → Type 0) (xs : List X) → AreSome P xs → 
 all_of P [] some = absurd some
 all_of P (x ∷ xs) some = some
 
--- an entry, what follows it, and the entries behind that
+-- an entry, what follows it, and the entries after that
 followed_sound : {X : Type 0} (l : Entries X) → ReadsSoundly l → (turns : ℕ) (others : List Lexeme → Reading (List X × Bool)) → ((words : List Lexeme) (found : (List X × Bool) × List Lexeme) → others words ≡ Ok found → AreEntries l turns words found)
     → (words : List Lexeme) (x : X) (after : List Lexeme) → IsEntry l words x after → (next : Next × List Lexeme) (found : (List X × Bool) × List Lexeme) → l.next after ≡ Ok next → followed x others next ≡ Ok found → AreEntries l (suc turns) words found
 followed_sound l sound turns others deeper words x after entry (More, rest) found n e =

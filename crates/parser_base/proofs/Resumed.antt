@@ -91,7 +91,7 @@ pub data FromFirst (literals : Bool) (most room least : ℕ) (e : Expression) (r
   Again : ReadBack (resumed literals most room least first tail) e rest (expression_height e) room (λ listing. expression_longest listing e) most → FromFirst literals most room least e rest first tail
   Alone : room < expression_height e → resumed literals most room least first tail ≡ Ok (e, rest) → FromFirst literals most room least e rest first tail
 
--- what is read from the first operand on is what is read from its begin, if there is room for that operand
+-- what is read from the first operand on is what is read from its begin, if that operand is not too high
 resumed_as : (literals : Bool) (most room least : ℕ) (first : Expression) (tail : List Lexeme) → ReadBack (operand literals (expression literals most room) room most (before first tail)) first tail (expression_height first) (suc room) (λ listing. expression_longest listing first) most
     → expression_height first ≤ suc room → AreFew (λ listing. expression_longest listing first) most → resumed literals most (suc room) least first tail ≡ expression literals most (suc room) least (before first tail)
 unfolding resumed

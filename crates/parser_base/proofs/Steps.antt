@@ -7,7 +7,7 @@ use Rattle.parser_base.specs.Reading.{Refusal, TooDeep, TooMany, Reading, ◌>>=
 use Rattle.parser_base.proofs.Marks.{when_ok, ok_is}
 use Rattle.parser_base.proofs.ListLaws.{AreFew, ReadBack, Found, High, Many, entries-le, ListOutcome, Found as AllFound, High as AllHigh, Many as AllMany, Full}
 
--- a part, and what is read behind it
+-- a part, and what is read after it
 pub then_again : {A B : Type 0} (f : A × List Lexeme → Reading B) {read : Reading A} {x : A} {mid : List Lexeme} {y : B} {rest : List Lexeme} {part room height room' : ℕ} {longest longest' : Listing → ℕ} {most : ℕ}
     → ReadBack read x mid part room longest most → (room < part → room' < height) → ((listing : Listing) → longest listing ≤ longest' listing)
     → (part ≤ room → AreFew longest most → ReadBack (f (x, mid)) y rest height room' longest' most) → ReadBack (read >>= f) y rest height room' longest' most
@@ -32,7 +32,7 @@ listed_outcome (AllHigh high e) = High high e
 listed_outcome (AllMany listing many e) = Many listing (omega (arith, many)) e
 listed_outcome (Full count e) = Many Entries (omega (arith, count)) e
 
--- the same reading in other words
+-- `ReadBack` for equal readings
 pub read_as : {A : Type 0} {read read' : Reading A} {x : A} {rest : List Lexeme} {height room : ℕ} {longest : Listing → ℕ} {most : ℕ} → read ≡ read' → ReadBack read' x rest height room longest most → ReadBack read x rest height room longest most
 read_as same (Found low few e) = Found low few (same ∙ e)
 read_as same (High high e) = High high (same ∙ e)

@@ -33,7 +33,7 @@ escapes bytes inside i all lt is so_far =
     let next : text_behind false (drop i inside) ≡ text_behind true (drop (i + 1) inside) = begins false inside i lt ∙ rw is refl in
     ap (λ (rest : List ℕ). bytes ++ rest) (sym next) ∙ so_far
 
--- behind a backslash
+-- after a backslash
 pub escaped_next : (bytes inside : List ℕ) (i : ℕ) (all : List ℕ) → i < length inside → bytes ++ text_behind true (drop i inside) ≡ all → (bytes ++ escape (get_or inside i 0) ∷ []) ++ text_behind false (drop (i + 1) inside) ≡ all
 escaped_next bytes inside i all lt so_far =
     append_assoc bytes (escape (get_or inside i 0) ∷ []) (text_behind false (drop (i + 1) inside)) ∙ ap (λ (rest : List ℕ). bytes ++ rest) (sym (begins true inside i lt)) ∙ so_far

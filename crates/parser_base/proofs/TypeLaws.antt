@@ -23,7 +23,7 @@ type_height_positive (NamedType name) = omega arith
 type_height_positive (ParenthesizedType inner) = omega arith
 type_height_positive (Channel direction element) = omega arith
 
--- behind `chan`, a type that is no channel to receive from stands for the elements
+-- after `chan`, a type that is no channel to receive from stands for the elements
 both_again : (deeper : List Lexeme → Reading TypeExpression) (element : TypeExpression) (rest : List Lexeme) → is_receiver element ≡ false → behind_chan deeper (type_words element ++ rest) ≡ channel_type directions.Both deeper (type_words element ++ rest)
 unfolding behind_chan
 both_again deeper (NamedType name) rest other = refl

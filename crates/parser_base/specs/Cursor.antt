@@ -18,7 +18,7 @@ lexeme_of (words.Mark kind) = Mark kind
 abbrev pub ahead : Cursor → List Lexeme
 ahead cursor = lexemes (bytes_of cursor.source.now) cursor.tokens.now
 
--- the place of the first token, or the end of a text of so many bytes
+-- the place of the first token, or the end of a source of `end` bytes
 abbrev pub place_at : ℕ → List Token → Span
 place_at end [] = record { from = end; to = end }
 place_at end (token ∷ rest) = token.span

@@ -7,7 +7,7 @@ use Rattle.scanner.specs.declared.kind.TokenKind.TheVariants as kinds
 use Rattle.scanner.specs.declared.token.Token.{Token}
 
 pub data Lexeme : Type 0 where
-  -- a number's value, or None where that is over 2^100
+  -- a number's value, or None if that is over 2^100
   Literal : (value : Option ℕ) → Lexeme
   Name : (bytes : List ℕ) → Lexeme
   -- the bytes that a string stands for
@@ -32,11 +32,11 @@ is_hexadecimal digits = false
 abbrev pub integer_value : List ℕ → ℕ
 integer_value text = if is_hexadecimal text then number_behind 16 0 (drop 2 text) else number_behind 10 0 text
 
--- its value, or None where that is over 2^100
+-- its value, or None if that is over 2^100
 abbrev pub literal : List ℕ → Option ℕ
 literal text = if nat_le (integer_value text) (2 ^ 100) then Some (integer_value text) else None
 
--- the byte that a letter behind a backslash stands for
+-- the byte that a letter after a backslash stands for
 abbrev pub escape : ℕ → ℕ
 escape letter = if letter == 110 then 10 else (if letter == 116 then 9 else letter)
 

@@ -85,7 +85,7 @@ abbrev pub ◌>>=◌ : {A B : Type 0} → Result A Refusal → (A → Result B R
 abbrev pub as_one : {A B : Type 0} → (A → B) → Reading A → Reading B
 as_one make read = read >>= λ found. Ok (make found.0, found.1)
 
--- what needs at least so many levels
+-- what needs at least `least` levels
 abbrev pub needing : {A : Type 0} → (least room : ℕ) → Result A Refusal → Result A Refusal
 needing least room read = if nat_le least room then read else Err TooDeep
 
@@ -115,7 +115,7 @@ abbrev pub followed : {A : Type 0} → A → (List Lexeme → Reading (List A ×
 followed first others (More, words) = others words >>= λ found. Ok ((first ∷ found.0.0, found.0.1), found.1)
 followed first others (End trailing, words) = Ok ((first ∷ [], trailing), words)
 
--- the entries of a list, of which there are at most so many, to its end, and whether a separator stands before that
+-- the entries of a list, at most n, to its end, and whether a separator stands before that
 unfoldable pub listed : {A : Type 0} → (List Lexeme → Reading A) → (List Lexeme → Reading Next) → Refusal → ℕ → List Lexeme → Reading (List A × Bool)
 listed one next full zero words = Err full
 listed one next full (suc most) words = one words >>= λ first. next first.1 >>= λ after. followed first.0 (listed one next full most) after
@@ -134,7 +134,7 @@ begins (Mark kind ∷ rest) =
 abbrev pub closed : TokenKind → Bool → List Lexeme → Reading Next
 closed close trailing words = expect close words >>= λ after. Ok (End trailing, after)
 
--- what follows a list's separator, behind which another entry `starts`, or the list ends
+-- what follows a list's separator, after which another entry `starts`, or the list ends
 abbrev pub behind_separator : (List Lexeme → Bool) → TokenKind → List Lexeme → Reading Next
 behind_separator starts close words = if starts words then Ok (More, words) else closed close true words
 
@@ -150,7 +150,7 @@ value_next close = entry_next kinds.Comma begins close
 
 -- ---- types
 
--- what stands in parentheses, behind the first one
+-- a type in parentheses, after the opening one
 unfoldable pub parenthesized_type : (List Lexeme → Reading TypeExpression) → List Lexeme → Reading TypeExpression
 parenthesized_type deeper rest = do
   inner ← deeper rest
@@ -161,17 +161,17 @@ parenthesized_type deeper rest = do
 abbrev pub channel_type : Direction → (List Lexeme → Reading TypeExpression) → List Lexeme → Reading TypeExpression
 channel_type direction deeper rest = deeper rest >>= λ element. Ok (Channel direction element.0, element.1)
 
--- a channel type behind `chan`
+-- a channel type after `chan`
 unfoldable pub behind_chan : (List Lexeme → Reading TypeExpression) → List Lexeme → Reading TypeExpression
 behind_chan deeper (Mark kind ∷ rest) =
     if is_kind kind kinds.Arrow then channel_type directions.Send deeper rest else channel_type directions.Both deeper (Mark kind ∷ rest)
 behind_chan deeper words = channel_type directions.Both deeper words
 
--- a channel type behind `<-`
+-- a channel type after `<-`
 unfoldable pub behind_arrow : (List Lexeme → Reading TypeExpression) → List Lexeme → Reading TypeExpression
 behind_arrow deeper rest = expect kinds.Chan rest >>= λ after. channel_type directions.Receive deeper after
 
--- a type of at most so many levels
+-- a type of at most n levels
 unfoldable pub type_at : ℕ → List Lexeme → Reading TypeExpression
 type_at zero words = Err TooDeep
 type_at (suc room) [] = Err Syntax
@@ -226,12 +226,12 @@ abbrev pub strength : Infix → ℕ
 strength (Operator operator) = precedence operator
 strength Period = 7
 
--- a step, if it binds at least so strongly
+-- a step, if it binds at least as strongly as `least`
 abbrev pub binding : ℕ → List Lexeme → Option Infix → Option (Infix × List Lexeme)
 binding least rest None = None
 binding least rest (Some step) = if nat_le least (strength step) then Some (step, rest) else None
 
--- the step at the front, if it binds at least so strongly, and what follows it
+-- the step at the front, if it binds at least as strongly as `least`, and what follows it
 unfoldable pub step_at : ℕ → List Lexeme → Option (Infix × List Lexeme)
 step_at least (Mark kind ∷ rest) = binding least rest (infix_of kind)
 step_at least words = None
@@ -250,13 +250,13 @@ to_parenthesis deeper words = do
   after ← expect kinds.RightParenthesis inner.1
   Ok (inner.0, after)
 
--- values to a closing mark, behind the opening one
+-- values to a closing mark, after the opening one
 unfoldable pub values : (ℕ → List Lexeme → Reading Expression) → TokenKind → ℕ → List Lexeme → Reading (List Expression × Bool)
 values deeper close most words =
     if begins words then listed (deeper 0) (value_next close) (TooMany Entries) most words
     else (expect close words >>= λ after. Ok (([], false), after))
 
--- the rest of a composite literal, behind its first brace
+-- the rest of a composite literal, after its first brace
 unfoldable pub composite : (ℕ → List Lexeme → Reading Expression) → ℕ → List ℕ → List Lexeme → Reading Expression
 composite deeper most name words = values deeper kinds.RightBrace most words >>= λ all. Ok (Composite name (expressions all.0.0) all.0.1, all.1)
 
@@ -298,7 +298,7 @@ builtin deeper room name rest =
     else (if bytes_eq name (codes "cap") then needing 1 room (as_one Capacity (argument deeper rest))
     else Err Syntax))
 
--- what is no operation and no selection, below which there are at most so many levels
+-- what is no operation and no selection, with at most `room` levels below it
 unfoldable pub operand : Bool → (ℕ → List Lexeme → Reading Expression) → (room : ℕ) → ℕ → List Lexeme → Reading Expression
 operand literals deeper room most [] = Err Syntax
 operand literals deeper room most (Literal value ∷ rest) = Ok (Integer value, rest)
@@ -328,8 +328,8 @@ operations deeper room least zero left words = Err TooDeep
 operations deeper room least (suc turns) left words =
     operation deeper (operations deeper room least turns) room left words (step_at least words)
 
--- an expression of at most so many levels, whose lists have at most so many entries, and whose outermost operator binds
--- at least so strongly
+-- an expression of at most n levels, whose lists have at most `most` entries, and whose outermost operator binds
+-- at least as strongly as `least`
 unfoldable pub expression : Bool → ℕ → ℕ → ℕ → List Lexeme → Reading Expression
 expression literals most zero least words = Err TooDeep
 expression literals most (suc room) least words =

@@ -27,12 +27,12 @@ is_builtin name = makes_value name || bytes_eq name (codes "close") || bytes_eq 
 abbrev pub behind : TokenKind → List Lexeme → List Lexeme
 behind kind rest = Mark kind ∷ rest
 
--- each of a list behind a separator, and then these; `each x` and `separator` say what stands before what follows
+-- each of a list after a separator, and then these; `each x` and `separator` say what stands before what follows
 abbrev pub separated : {A : Type 0} → (A → List Lexeme → List Lexeme) → (List Lexeme → List Lexeme) → List A → List Lexeme → List Lexeme
 separated each separator [] rest = rest
 separated each separator (first ∷ others) rest = separator (each first (separated each separator others rest))
 
--- the same with a separator between each two alone
+-- like `separated`, with a separator only between each two
 abbrev pub joined : {A : Type 0} → (A → List Lexeme → List Lexeme) → (List Lexeme → List Lexeme) → List A → List Lexeme → List Lexeme
 joined each separator [] rest = rest
 joined each separator (first ∷ others) rest = each first (separated each separator others rest)
@@ -47,12 +47,12 @@ abbrev pub AreSome : {A : Type 0} → (A → Type 0) → List A → Type 0
 AreSome P [] = ⊥
 AreSome P (first ∷ rest) = P first × AreAll P rest
 
--- what closes a list, behind whose last entry a separator may stand, and then these
+-- what closes a list, after whose last entry a separator may stand, and then these
 abbrev pub closing : (separator close : TokenKind) → (trailing : Bool) → List Lexeme → List Lexeme
 closing separator close true rest = Mark separator ∷ Mark close ∷ rest
 closing separator close false rest = Mark close ∷ rest
 
--- A separator stands only behind an entry.
+-- A separator stands only after an entry.
 abbrev pub IsTrailing : {A : Type 0} → List A → (trailing : Bool) → Type 0
 IsTrailing [] trailing = trailing ≡ false
 IsTrailing (first ∷ rest) trailing = Unit {0}
@@ -130,7 +130,7 @@ precedence binaries.LogicalAnd = 2
 precedence binaries.LogicalOr = 1
 precedence operator = 5
 
--- how strongly the outermost operator binds: 1 to 5 a binary one, 6 a unary one or the arrow of a receive; 7 where there is
+-- how strongly the outermost operator binds: 1 to 5 a binary one, 6 a unary one or the arrow of a receive; 7 if there is
 -- none, or a selection
 abbrev pub outer_precedence : Expression → ℕ
 outer_precedence (Unary operator operand) = 6
@@ -165,7 +165,7 @@ abbrev mutual
   expressions_words NoMore = []
   expressions_words (Behind first rest) = expression_words first ++ more_words rest
 
-  -- each of these behind a comma
+  -- each of these after a comma
   pub more_words : Expressions → List Lexeme
   more_words NoMore = []
   more_words (Behind first rest) = Mark kinds.Comma ∷ (expression_words first ++ more_words rest)

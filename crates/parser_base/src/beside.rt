@@ -1,11 +1,11 @@
-//! What waits while more is read. A value that is held in these calls is let go by them, where what is read fails, and
-//! not by each function that reads on: the proofs of those are much cheaper so.
+//! Holds what was read while more is read. If reading on fails, these functions drop the value that they hold, so that their
+//! callers need not: this makes the proofs of those much cheaper.
 
 ghost use Rattle.std.specs.Prelude.{◌≡◌, Ok, Err, IfErr, IfOk};
 
 use crate::fault::ParseFault;
 
-/// What was read, beside what was read before it.
+/// Pairs what was read with what was read before it.
 pub fn beside<T: Drop, U: Drop>(
     before: T,
     read: Result<U, ParseFault>,

@@ -1,4 +1,4 @@
-//! A place between the tokens of a text.
+//! A position between the tokens of a source file.
 
 ghost use Rattle.std.specs.Prelude.{◌≡◌, ◌∷◌, [], IfOk, IfErr, MatchOption, length};
 ghost use Rattle.go_text.specs.Source.{bytes_of};
@@ -23,14 +23,14 @@ pub enum Word<'a> {
     Mark(TokenKind),
 }
 
-/// The tokens of a text from some place on.
+/// The tokens of a source file from some position on.
 #[derive(Clone, Copy)]
 pub struct Cursor<'a> {
     source: &'a Source,
     tokens: &'a [Token],
 }
 
-/// The bytes of a text at a span; those that the text has, where the span reaches beyond its end.
+/// The bytes of a text at a span; those that the text has, if the span reaches beyond its end.
 fn piece(text: &[u8], span: Span) -> &[u8]
     ensures { result.now ≡ piece text.now span }
 {
@@ -86,7 +86,7 @@ impl<'a> Cursor<'a> {
         }
     }
 
-    /// The first word, and the place behind it; `None` at the end.
+    /// The first word, and the cursor after it; `None` at the end.
     pub fn next(self) -> Option<(Word<'a>, Cursor<'a>)>
         ensures { MatchOption result (ahead self.entry ≡ []) (λ x. ahead self.entry ≡ lexeme_of x.0 ∷ ahead x.1) }
     {
@@ -106,7 +106,7 @@ impl<'a> Cursor<'a> {
         ))
     }
 
-    /// The place behind a mark that is wanted here.
+    /// The cursor after a mark that must stand here.
     #[tactic(auto, unfolding(crate::specs::Reading::expect))]
     pub fn expect(self, kind: TokenKind) -> Result<Cursor<'a>, ParseFault>
         ensures gives { Gives (λ x. ahead x) result (expect kind (ahead self.entry)) }
@@ -118,7 +118,7 @@ impl<'a> Cursor<'a> {
         }
     }
 
-    /// The place behind a name that is wanted here.
+    /// The cursor after a name that must stand here.
     #[tactic(auto, unfolding(crate::specs::Reading::expect_name))]
     pub fn expect_name(self, name: &[u8]) -> Result<Cursor<'a>, ParseFault>
         ensures gives { Gives (λ x. ahead x) result (expect_name name.now (ahead self.entry)) }
@@ -130,7 +130,7 @@ impl<'a> Cursor<'a> {
         }
     }
 
-    /// A name that may be declared, and the place behind it.
+    /// A name that may be declared, and the cursor after it.
     #[tactic(auto, unfolding(crate::specs::Reading::plain_name))]
     pub fn plain_name(self) -> Result<(&'a [u8], Cursor<'a>), ParseFault>
         ensures gives { Gives (λ x. (x.0.now, ahead x.1)) result (plain_name (ahead self.entry)) }

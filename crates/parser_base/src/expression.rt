@@ -35,7 +35,7 @@ pub struct Measured<'a> {
     pub rest: Cursor<'a>,
 }
 
-/// The step here, if it binds at least so strongly, and the place behind its mark.
+/// The step here, if it binds at least as strongly as `least`, and the cursor after its mark.
 #[tactic(auto, unfolding(crate::specs::Reading::step_at))]
 fn step_at(least: u32, cursor: Cursor<'_>) -> Option<(Infix, Cursor<'_>)>
     ensures { option_map (λ x. (x.0, ahead x.1)) result ≡ step_at least (ahead cursor.entry) }
@@ -71,7 +71,7 @@ pub fn begins(cursor: Cursor<'_>) -> bool
     }
 }
 
-/// The end of a list, and the place behind it.
+/// The end of a list, and the cursor after it.
 pub fn closed(
     close: TokenKind,
     trailing: bool,
@@ -84,7 +84,7 @@ pub fn closed(
     Ok((Next::End(trailing), rest))
 }
 
-/// What follows a value of a list, and the place of the next one or behind the list.
+/// What follows a value of a list, and the cursor at the next one or after the list.
 #[tactic(auto, unfolding(crate::specs::Reading::entry_next))]
 pub fn value_next(close: TokenKind, cursor: Cursor<'_>) -> Result<(Next, Cursor<'_>), ParseFault>
     ensures gives { Gives (λ x. (x.0, ahead x.1)) result (value_next close (ahead cursor.entry)) }
@@ -103,7 +103,7 @@ pub fn value_next(close: TokenKind, cursor: Cursor<'_>) -> Result<(Next, Cursor<
     }
 }
 
-/// The values of a list to its closing mark, behind the opening one, and the height of the highest of them, or 0.
+/// The values of a list to its closing mark, after the opening one, and the height of the highest of them, or 0.
 #[cycle(expression)]
 #[tactic(auto, unfolding(crate::specs::Reading::values))]
 pub fn values(
@@ -165,7 +165,7 @@ fn expression_list(
     Err(ParseFault::TooManyEntries(rest.place()))
 }
 
-/// A composite literal of a type of this name, behind its first brace.
+/// A composite literal of the type `name`, after its first brace.
 #[cycle(expression)]
 #[tactic(auto, unfolding(crate::specs::Reading::composite))]
 fn composite_literal<'a>(
@@ -274,7 +274,7 @@ pub fn argument(
     to_parenthesis(alloc, literals, room, inside)
 }
 
-/// An expression in parentheses, behind the first of them, which stands at `first`.
+/// An expression in parentheses, after the opening one, which stands at `first`.
 #[cycle(expression)]
 #[tactic(auto, unfolding(crate::specs::Reading::to_parenthesis, crate::specs::Reading::expression))]
 fn parenthesized<'a>(
@@ -492,7 +492,7 @@ fn unary_expression<'a>(
     })
 }
 
-/// What is no operation and no selection, of at most so many levels.
+/// An expression that is no operation and no selection, of at most `room` levels.
 #[cycle(expression)]
 #[tactic(auto, unfolding(crate::specs::Reading::operand))]
 fn operand(
@@ -536,7 +536,7 @@ fn operand(
     }
 }
 
-/// A step on what was read so far, behind the step's mark: as the left operand of an operator, or a field of it.
+/// A step on what was read so far, after the step's mark: as the left operand of an operator, or a field of it.
 #[cycle(expression)]
 fn applied<'a>(
     alloc: Global,
@@ -560,7 +560,7 @@ fn applied<'a>(
     }
 }
 
-/// A binary operation, behind its operator.
+/// A binary operation, after its operator.
 #[cycle(expression)]
 fn binary_expression<'a>(
     alloc: Global,
@@ -586,7 +586,7 @@ fn binary_expression<'a>(
     })
 }
 
-/// A selection, behind its period.
+/// A selection, after its period.
 fn selection<'a>(
     alloc: Global,
     room: u32,
@@ -633,7 +633,7 @@ pub fn resumed_expression<'a>(
     Err(ParseFault::TooDeep(left.rest.place()))
 }
 
-/// An expression of at most so many levels, as `expression` reads it, with its height.
+/// An expression of at most `room` levels, as `expression` reads it, with its height.
 #[cycle(expression)]
 #[tactic(auto, unfolding(crate::specs::Reading::expression, crate::specs::Reading::resumed))]
 pub fn measured_expression(
@@ -653,8 +653,8 @@ pub fn measured_expression(
     resumed_expression(alloc, literals, room, least, left)
 }
 
-/// An expression of at most so many levels, whose outermost operator binds at least so strongly. Composite literals stand
-/// in it only where `literals` holds.
+/// An expression of at most `room` levels, whose outermost operator binds at least as strongly as `least`. Composite literals
+/// stand in it only if `literals` holds.
 pub fn expression(
     alloc: Global,
     literals: bool,

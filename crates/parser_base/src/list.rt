@@ -15,7 +15,7 @@ pub enum Next {
 #[derive(Drop)]
 pub struct List<'a, T: Drop> {
     pub entries: Vec<T>,
-    /// Whether a separator stands behind the last entry.
+    /// Whether a separator stands after the last entry.
     pub trailing: bool,
     pub rest: Cursor<'a>,
 }

@@ -19,7 +19,7 @@ fn digit_of(byte: u8) -> u8
     }
 }
 
-/// The value of digits in base 10 or 16, or one more than 2^100 where it is over 2^100.
+/// The value of digits in base 10 or 16, or one more than 2^100 if it is over 2^100.
 fn number_behind(base: u8, digits: &[u8]) -> u128
     requires { (base ≡ 10) ⊎ (base ≡ 16) }
     ensures { result ≡ min (number_behind base 0 digits.now) (2 ^ 100 + 1) }
@@ -32,7 +32,7 @@ fn number_behind(base: u8, digits: &[u8]) -> u128
     value
 }
 
-/// The value of a decimal or hexadecimal number, or `None` where it is over 2^100.
+/// The value of a decimal or hexadecimal number, or `None` if it is over 2^100.
 pub fn literal(text: &[u8]) -> Option<u128>
     ensures { result ≡ literal text.now }
 {

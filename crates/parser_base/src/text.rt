@@ -7,7 +7,7 @@ ghost use Rattle.parser_base.specs.Lexemes.{escape, text_behind, text};
 use crate::fault::ParseFault;
 use std::alloc::Global;
 
-/// The byte that a letter behind a backslash stands for: `n` for a newline, `t` for a tab, and others for themselves.
+/// The byte that a letter after a backslash stands for: `n` for a newline, `t` for a tab, and others for themselves.
 fn escape(letter: u8) -> u8
     ensures { result ≡ escape letter }
 {

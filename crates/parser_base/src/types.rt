@@ -56,7 +56,7 @@ fn channel_node(
     Ok(TypeNode::Channel(direction, Box::new(alloc, element)?))
 }
 
-/// A type in parentheses, behind the first of them, which stands at `first`.
+/// A type in parentheses, after the opening one, which stands at `first`.
 #[cycle(type_at)]
 #[tactic(auto, unfolding(crate::specs::Reading::parenthesized_type, crate::specs::Reading::type_at))]
 fn parenthesized_type<'a>(
@@ -101,7 +101,7 @@ fn channel_type<'a>(
     })
 }
 
-/// A channel type behind `chan`, which stands at `first`: one to send alone where `<-` follows.
+/// A channel type after `chan`, which stands at `first`: send-only if `<-` follows.
 #[cycle(type_at)]
 #[tactic(auto, unfolding(crate::specs::Reading::behind_chan))]
 fn behind_chan<'a>(
@@ -121,7 +121,7 @@ fn behind_chan<'a>(
     channel_type(alloc, room, Direction::Both, first, cursor)
 }
 
-/// A channel type to receive from alone, behind `<-`, which stands at `first`.
+/// A receive-only channel type, after `<-`, which stands at `first`.
 #[cycle(type_at)]
 #[tactic(auto, unfolding(crate::specs::Reading::behind_arrow))]
 fn behind_arrow<'a>(
@@ -137,7 +137,7 @@ fn behind_arrow<'a>(
     channel_type(alloc, room, Direction::Receive, first, rest)
 }
 
-/// A type of at most so many levels ("Types" of the Go specification: a name, a channel type, or one in parentheses).
+/// A type of at most `room` levels ("Types" of the Go specification: a name, a channel type, or one in parentheses).
 #[cycle(type_at)]
 #[tactic(auto, unfolding(crate::specs::Reading::type_at))]
 pub fn type_at(

@@ -143,7 +143,7 @@ begins_receive most room c rest x after height longest channel tail from unary l
     read_as (on_again most room (ReceiveAlone channel) (Receive channel) tail none)
     (headed_from most room c rest x after height longest (Receive channel) tail (from few') ends low few next))
 
--- a condition, and what follows it, where that is no semicolon
+-- a condition, and what follows it, if that is no semicolon
 head_begun : (most room : ℕ) (c : Expression) (rest : List Lexeme) (x : Head) (after : List Lexeme) (height : ℕ) (longest : Listing → ℕ) → IsGrouped false c → EndsExpression false rest → begins_with kinds.Semicolon rest ≡ false
     → ends_condition c rest ≡ true → form_of false rest ≡ forms.Other → Fits (expression_height c) room (fits true false true 0 room (before c rest)) → expression_height c ≤ height → ((listing : Listing) → expression_longest listing c ≤ longest listing)
     → (expression_height c ≤ room → AreFew (λ listing. expression_longest listing c) most → ReadBack (condition_or_sent most room (c, rest)) x after height room longest most)

@@ -1,4 +1,4 @@
--- Reading what stands behind `if` and `for`, and what a clause of a select waits for, as the code does: these words are
+-- Reading what stands after `if` and `for`, and what a clause of a select waits for, as the code does: these words are
 -- proved against the grammar (`Spelling`), and claim nothing themselves.
 use Rattle.std.specs.Prelude.{ℕ, Bool, true, false, ◌&&◌, ◌||◌, ◌==◌, List, Option, Some, None, Ok, if◌then◌else◌}
 use Rattle.scanner.specs.declared.kind.TokenKind.{TokenKind}
@@ -14,7 +14,7 @@ use Rattle.parser_simple.specs.Reading.{behind_mark, before_mark, begins_with, b
 
 -- ---- headers
 
--- what stands behind `if` or `for`
+-- what stands after `if` or `for`
 pub data Head : Type 0 where
   HeadSimple : (simple : Simple) → Head
   HeadCondition : (condition : Expression) → Head
@@ -79,7 +79,7 @@ unfoldable pub second : {A : Type 0} → (List Lexeme → Reading A) → List Le
 second one words =
     if begins_with kinds.Comma words then (expect kinds.Comma words >>= λ behind. as_one (λ x. Some x) (one behind)) else Ok (None, words)
 
--- a receive behind this mark
+-- a receive after this mark
 abbrev pub received_behind : TokenKind → ℕ → ℕ → List Lexeme → Reading Expression
 received_behind mark most room words = behind_mark mark (received true most room) words
 
@@ -105,7 +105,7 @@ comm_formed most room (forms.Assign ranges) words = comm_assigned most room word
 comm_formed most room forms.List words = if defines true words then comm_defined most room words else comm_assigned most room words
 comm_formed most room form words = sent CommSend true most room words
 
--- what a clause of a select waits for, below which there are at most so many levels
+-- what a clause of a select waits for, with at most `room` levels below it
 unfoldable pub comm : ℕ → ℕ → List Lexeme → Reading Comm
 comm most room words =
     if begins_with kinds.Arrow words then as_one CommReceive (received true most room words) else comm_formed most room (place_form words) words
@@ -116,7 +116,7 @@ comm most room words =
 abbrev pub condition : ℕ → ℕ → List Lexeme → Reading Expression
 condition most room words = expression false most room 0 words
 
--- a condition behind a semicolon
+-- a condition after a semicolon
 abbrev pub behind_semicolon : ℕ → ℕ → List Lexeme → Reading Expression
 behind_semicolon most room words = expect kinds.Semicolon words >>= condition most room
 
@@ -138,11 +138,11 @@ if_header most room words =
 abbrev pub unless_next : {A : Type 0} → TokenKind → (List Lexeme → Reading A) → List Lexeme → Reading (Option A)
 unless_next kind one words = if begins_with kind words then Ok (None, words) else as_one (λ x. Some x) (one words)
 
--- what is done behind each turn, behind the second semicolon of a `for`
+-- the post statement, after the second semicolon of a `for`
 abbrev pub post_behind : ℕ → ℕ → List Lexeme → Reading (Option Simple)
 post_behind most room words = expect kinds.Semicolon words >>= unless_next kinds.LeftBrace (simple false false most room)
 
--- the clauses of a `for`, behind the first semicolon
+-- the clauses of a `for`, after the first semicolon
 unfoldable pub for_clauses : Option Simple → ℕ → ℕ → List Lexeme → Reading ForHead
 for_clauses first most room words = do
   test ← unless_next kinds.Semicolon (condition most room) words
@@ -169,7 +169,7 @@ ranges (forms.Assign is) = is
 ranges (forms.Define is) = is
 ranges form = false
 
--- what stands between a `for` and its block, where that is no mark
+-- what stands between a `for` and its block, if that is no mark
 unfoldable pub for_begun : ℕ → ℕ → List Lexeme → Reading ForHead
 for_begun most room words =
     if ranges (place_form words) then (if defines true words then range_defined most room words else range_assigned most room words)

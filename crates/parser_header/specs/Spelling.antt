@@ -1,4 +1,4 @@
--- The one list of lexemes that spells what stands behind `if` or `for`, or what a clause of a select waits for.
+-- The one list of lexemes that spells what stands after `if` or `for`, or what a clause of a select waits for.
 --
 -- Each of the words below is what stands before what follows: `name_words name rest` is the name, and then `rest`.
 use Rattle.std.specs.Prelude.{ℕ, true, false, List, ◌∷◌, Option, Some, None}
@@ -69,7 +69,7 @@ for_head_words (ForClauses first condition post) rest =
     optional simple_words first (Mark kinds.Semicolon ∷ optional before condition (Mark kinds.Semicolon ∷ optional simple_words post rest))
 for_head_words (Range target channel) rest = target_words target (Mark kinds.Range ∷ before channel rest)
 
--- what is done behind each turn is no `:=`
+-- the post statement is no `:=`
 abbrev pub IsForHead : ForHead → Type 0
 IsForHead Forever = Unit {0}
 IsForHead (While condition) = IsGrouped false condition

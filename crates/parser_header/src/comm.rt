@@ -21,7 +21,7 @@ use std::alloc::Global;
 use syntax::limits::MAX_ENTRIES;
 use syntax::{CommNode, ExpressionNode, Name, PlaceNode};
 
-/// A second name behind a comma, if there is one.
+/// A second name after a comma, if there is one.
 #[tactic(auto, unfolding(crate::specs::Reading::second))]
 fn second_name(alloc: Global, cursor: Cursor<'_>) -> Result<(Option<Name>, Cursor<'_>), ParseFault>
     ensures { Gives (λ x. (option_map name_of x.0, ahead x.1)) result (second plain_name (ahead cursor.entry)) }
@@ -34,7 +34,7 @@ fn second_name(alloc: Global, cursor: Cursor<'_>) -> Result<(Option<Name>, Curso
     Ok((Some(name), rest))
 }
 
-/// A second place behind a comma, if there is one.
+/// A second lvalue after a comma, if there is one.
 #[tactic(auto, unfolding(crate::specs::Reading::second))]
 fn second_place(
     alloc: Global,
@@ -50,7 +50,7 @@ fn second_place(
     Ok((Some(target.node), target.rest))
 }
 
-/// A receive behind this mark.
+/// A receive after this mark.
 fn receive_behind(
     alloc: Global,
     room: u32,
@@ -150,8 +150,7 @@ fn form_statement(
     }
 }
 
-/// What a clause of a `select` waits for, below which there are at most so many levels ("Select statements" of the Go
-/// specification).
+/// What a clause of a `select` waits for, with at most `room` levels below it ("Select statements" of the Go specification).
 #[tactic(auto, unfolding(crate::specs::Reading::comm))]
 pub fn comm_statement(
     alloc: Global,

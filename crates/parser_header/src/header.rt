@@ -1,4 +1,4 @@
-//! What stands behind `if` or `for`.
+//! What stands after `if` or `for`.
 
 ghost use Rattle.std.specs.Prelude.{◌≡◌, ◌<◌, ◌^◌, true, false, option_map, map};
 ghost use Rattle.syntax.specs.Measures.{highest, expression_height};
@@ -26,7 +26,7 @@ use std::alloc::Global;
 use syntax::limits::MAX_ENTRIES;
 use syntax::{ExpressionNode, ForHeader, IfHeader, RangeTarget, SimpleNode};
 
-/// What stands behind `if` or `for`: a simple statement, or a condition.
+/// What stands after `if` or `for`: a simple statement, or a condition.
 #[derive(Drop)]
 pub enum HeadNode {
     Simple(SimpleNode),
@@ -146,7 +146,7 @@ fn begun_by_call(
     call_or_condition(alloc, room, name, all, levels)
 }
 
-/// A simple statement or a condition, without composite literals, below which there are at most so many levels.
+/// A simple statement or a condition, without composite literals, with at most `room` levels below it.
 #[tactic(auto, unfolding(crate::specs::Reading::head))]
 pub fn simple_or_condition(
     alloc: Global,
@@ -173,8 +173,7 @@ pub fn simple_or_condition(
     }
 }
 
-/// What stands between an `if` and its block ("If statements" of the Go specification), below which there are at most
-/// so many levels.
+/// What stands between an `if` and its block ("If statements" of the Go specification), with at most `room` levels below it.
 #[tactic(auto, unfolding(crate::specs::Reading::if_header))]
 pub fn if_header(
     alloc: Global,
@@ -215,7 +214,7 @@ fn optional_condition(
     Ok((Some(found.node), found.rest))
 }
 
-/// What is done behind each turn, unless a brace comes next.
+/// The post statement of a `for`, unless a brace comes next.
 fn optional_post(
     alloc: Global,
     room: u32,
@@ -230,7 +229,7 @@ fn optional_post(
     Ok((Some(found.node), found.rest))
 }
 
-/// What is done behind each turn, behind the second semicolon of a `for`.
+/// The post statement, after the second semicolon of a `for`.
 fn post_behind_semicolon(
     alloc: Global,
     room: u32,
@@ -242,7 +241,7 @@ fn post_behind_semicolon(
     optional_post(alloc, room, rest)
 }
 
-/// The clauses of a `for` behind the first semicolon, before which `first` stands.
+/// The clauses of a `for` after the first semicolon, before which `first` stands.
 #[tactic(auto, unfolding(crate::specs::Reading::for_clauses))]
 fn for_clauses(
     alloc: Global,
@@ -260,7 +259,7 @@ fn for_clauses(
     Ok((ForHeader::Clauses(first, condition, post), rest))
 }
 
-/// The `range` of a `for` from its word on, which stands behind `target`.
+/// The `range` of a `for` from its word on, which stands after `target`.
 #[tactic(auto, unfolding(crate::specs::Reading::ranged))]
 fn range_clause(
     alloc: Global,
@@ -311,7 +310,7 @@ fn ranges(form: Form) -> bool
     matches!(form, Form::Assign(true) | Form::Define(true))
 }
 
-/// What stands between a `for` and its block, where that begins with no mark of its own.
+/// What stands between a `for` and its block, if that begins with no mark of its own.
 #[tactic(auto, unfolding(crate::specs::Reading::for_begun))]
 fn unmarked_for_header(
     alloc: Global,
@@ -336,8 +335,7 @@ fn unmarked_for_header(
     }
 }
 
-/// What stands between a `for` and its block ("For statements" of the Go specification), below which there are at most
-/// so many levels.
+/// What stands between a `for` and its block ("For statements" of the Go specification), with at most `room` levels below it.
 #[tactic(auto, unfolding(crate::specs::Reading::for_header))]
 pub fn for_header(
     alloc: Global,

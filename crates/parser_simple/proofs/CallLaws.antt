@@ -80,7 +80,7 @@ call_longest function all listing = rw (expressions_count-of all.values, express
 
 -- ---- what is spelt is read
 
--- what is too high for its room
+-- what needs more levels than there are is too deep
 no_need : {A : Type 0} (least have : ℕ) (read : Reading A) → have < least → needing least have read ≡ Err TooDeep
 no_need least have read high = rw (lt-leb least have high) refl
 

@@ -1,4 +1,4 @@
--- Names and selections that are too high as values are refused only where no value has room.
+-- Names and selections that are too high as values are refused only if no value fits.
 use Rattle.std.proofs.Common.{◌≡◌, ℕ, ◌<◌, ◌≤◌, Bool, true, false, cond, List, [], ◌∷◌, Result, Ok, Err, nat_le, ◌⊎◌, inl, inr, refl, arith, append_assoc, add-one}
 use Rattle.std.proofs.lemmas.Bool.{leb-false}
 use Rattle.scanner.specs.declared.kind.TokenKind.TheVariants as kinds
@@ -13,7 +13,7 @@ use Rattle.parser_base.proofs.ListLaws.{ReadBack, High}
 use Rattle.parser_base.proofs.ExpressionAgain.{height_positive, precedence-lt}
 use Rattle.parser_simple.specs.Reading.{goes_on, within, fits}
 
--- nothing is refused, or what has so many levels is too high
+-- nothing is refused, or `height` levels are too deep
 abbrev pub Fits : (height room : ℕ) → Result (Unit {0}) Refusal → Type 0
 Fits height room read = (read ≡ Ok tt) ⊎ ((read ≡ Err TooDeep) × (room < height))
 
@@ -24,7 +24,7 @@ either_fits false high room none = inr (refl, none refl)
 pub within_fits : (height high room : ℕ) → height ≤ high → Fits high room (within height room true)
 within_fits height high room low = either_fits (nat_le height room) high room (λ none. let over = leb-false height room none in omega (arith, over, low))
 
--- what is read behind that
+-- what is read after the guard
 pub fits_again : {A : Type 0} {part height room room' : ℕ} {longest : Listing → ℕ} {most : ℕ} {x : A} {rest : List Lexeme} (read : Reading A) (guard : Result (Unit {0}) Refusal)
     → Fits part room guard → (room < part → room' < height) → ReadBack read x rest height room' longest most → ReadBack (guard >>= λ low. read) x rest height room' longest most
 fits_again read guard (inl e) up again = rw e again

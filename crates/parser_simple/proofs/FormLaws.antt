@@ -1,4 +1,4 @@
--- What stands behind a place, and what that says of a statement.
+-- What follows an lvalue, and what that says of a statement.
 use Rattle.std.proofs.Common.{◌≡◌, ℕ, ◌≤◌, Bool, true, false, cond, ◌||◌, None, List, [], ◌∷◌, ◌++◌, Ok, refl, ap, ◌∙◌, subst, arith, append_assoc, bytes_eq, codes}
 use Rattle.scanner.specs.declared.kind.TokenKind.{TokenKind}
 use Rattle.scanner.specs.declared.kind.TokenKind.TheVariants as kinds
@@ -191,7 +191,7 @@ no_defines p (q ∷ ps) ws = no_defines_fields p.fields (Mark kinds.Comma ∷ jo
 
 -- ---- values
 
--- behind a value there is no form but where one follows it
+-- after a value there is no form unless one follows it
 pub no_form : (e : Expression) (ws : List Lexeme) → form_of false ws ≡ forms.Other → form_of true (before e ws) ≡ forms.Other
 unfolding form_of
 no_form (Integer value) ws none = refl

@@ -193,7 +193,7 @@ led_update literals defining most room p o v rest is strong grouped stops =
     rw (led_formed literals defining most room p (Mark (update_kind o) ∷ before v rest) is, update_again o (before v rest) strong)
     (some_again most room _ (Update p o v) rest (updated_again literals most room p o v rest is grouped stops))
 
--- what is found has a level behind its first place
+-- there is a level left after the first lvalue of what is found
 behind_place_again : {A : Type 0} (p : Place) (after : List Lexeme) {read : Reading A} {x : A} {rest : List Lexeme} {height room : ℕ} {longest : Listing → ℕ} {most : ℕ} → IsPlace p → begins_with kinds.Period after ≡ false → (room < 1 → room < height)
     → ReadBack read x rest height room longest most → ReadBack (behind_place room (place_words p after) read) x rest height room longest most
 behind_place_again p after {room = room} is none high again = rw (place_again p after is none) (needing_again 1 room high again)
@@ -327,7 +327,7 @@ unfolding step_at
 no_period kind rest true is none = let bad = rw (kind_is kind kinds.Period is) at none in absurd cc
 no_period kind rest false is none = refl
 
--- no selection goes on where nothing does
+-- no selection goes on if nothing does
 no_more : (literals : Bool) (rest : List Lexeme) → EndsExpression literals rest → begins_with kinds.Period rest ≡ false
 unfolding begins_with step_at
 no_more literals [] ends = refl

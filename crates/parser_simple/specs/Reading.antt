@@ -16,7 +16,7 @@ use Rattle.parser_simple.specs.declared.form.Form.{Form}
 use Rattle.parser_simple.specs.declared.form.Form.TheVariants as forms
 use Rattle.parser_simple.specs.Spelling.{update_kind}
 
--- what stands behind a mark that is wanted here
+-- what follows a mark that is required here
 abbrev pub behind_mark : {A : Type 0} → TokenKind → (List Lexeme → Reading A) → List Lexeme → Reading A
 behind_mark kind one words = expect kind words >>= one
 
@@ -25,24 +25,24 @@ unfoldable pub begins_with : TokenKind → List Lexeme → Bool
 begins_with kind (Mark first ∷ rest) = is_kind first kind
 begins_with kind words = false
 
--- ---- names and places
+-- ---- names and lvalues
 
 -- whether a name that may be declared comes next
 unfoldable pub begins_name : List Lexeme → Bool
 begins_name (Name name ∷ rest) = if is_builtin name then false else true
 begins_name words = false
 
--- what follows an entry of a list without a closing mark: behind a separator another one `starts`
+-- what follows an entry of a list without a closing mark: after a separator another one `starts`
 unfoldable pub separator_next : (List Lexeme → Bool) → TokenKind → List Lexeme → Reading Next
 separator_next starts separator (Mark kind ∷ rest) =
     if is_kind kind separator then (if starts rest then Ok (More, rest) else Err Syntax) else Ok (End false, Mark kind ∷ rest)
 separator_next starts separator words = Ok (End false, words)
 
--- names with a separator between each two, of which there are at most so many
+-- at most `most` names, with a separator between each two
 abbrev pub names : TokenKind → ℕ → List Lexeme → Reading (List (List ℕ) × Bool)
 names separator most words = listed plain_name (separator_next begins_name separator) (TooMany Entries) most words
 
--- the fields of a place, each behind a period
+-- the fields of an lvalue, each after a period
 unfoldable pub fields : List Lexeme → Reading (List (List ℕ))
 fields words =
     if begins_with kinds.Period words
@@ -55,11 +55,11 @@ place words = do
   path ← fields name.1
   Ok (record { name = name.0; fields = path.0 }, path.1)
 
--- places with a comma between each two
+-- lvalues with a comma between each two
 abbrev pub places : ℕ → List Lexeme → Reading (List Place × Bool)
 places most words = listed place (separator_next begins_name kinds.Comma) (TooMany Entries) most words
 
--- ---- what stands behind a place
+-- ---- what follows an lvalue
 
 -- the operator of an assignment with an operator
 abbrev pub update_of : TokenKind → Option BinaryOperator
@@ -80,7 +80,7 @@ abbrev pub update_form : Option BinaryOperator → Form
 update_form None = forms.Other
 update_form (Some operator) = forms.Update operator
 
--- the form that a mark behind a place begins
+-- the form that a mark after an lvalue begins
 abbrev pub form_at : TokenKind → List Lexeme → Form
 form_at kinds.Increment rest = forms.Increment
 form_at kinds.Decrement rest = forms.Decrement
@@ -89,14 +89,14 @@ form_at kinds.Assign rest = forms.Assign (begins_with kinds.Range rest)
 form_at kinds.Define rest = forms.Define (begins_with kinds.Range rest)
 form_at kind rest = update_form (update_of kind)
 
--- the form behind a place, of which a name comes next where `named` holds
+-- the form after an lvalue, of which a name comes next if `named` holds
 unfoldable pub form_of : (named : Bool) → List Lexeme → Form
 form_of true (Name name ∷ rest) = form_of false rest
 form_of true words = forms.Other
 form_of false (Mark kind ∷ rest) = if is_kind kind kinds.Period then form_of true rest else form_at kind rest
 form_of false words = forms.Other
 
--- the form of what begins with a place, if one comes next: no name of a built-in function is one
+-- the form of what begins with an lvalue, if one comes next: no name of a built-in function is one
 abbrev pub place_form : List Lexeme → Form
 place_form words = if begins_name words then form_of true words else forms.Other
 
@@ -107,7 +107,7 @@ defines true words = false
 defines false (Mark kind ∷ rest) = if is_kind kind kinds.Define then true else (if is_kind kind kinds.Comma then defines true rest else false)
 defines false words = false
 
--- ---- values that begin as a place does
+-- ---- values that begin as an lvalue does
 
 abbrev pub is_operator : Option BinaryOperator → Bool
 is_operator None = false
@@ -121,16 +121,16 @@ goes_on header literals alone kinds.LeftParenthesis = alone
 goes_on header literals alone kinds.LeftBrace = header || (literals && alone)
 goes_on header literals alone kind = header && is_operator (binary_of kind)
 
--- why what has so many levels is refused, if they are more than there is room for, by whether it `goes` on as a value
+-- why `height` levels are refused, if they are more than `room`, by whether they `go` on as a value
 abbrev pub within : (height room : ℕ) → (goes : Bool) → Result (Unit {0}) Refusal
 within height room goes = if nat_le height room then Ok tt else (if goes then Err TooDeep else Err Syntax)
 
--- the same where no value goes on; behind a period, where a name is to come next, there is room for none
+-- like `within` if no value goes on; after a period, when a name must come next, no level is allowed
 abbrev pub stopped : (named : Bool) → (height room : ℕ) → Result (Unit {0}) Refusal
 stopped named height room = within height (if named then 0 else room) false
 
--- why a name or a selection at the front is refused, if it is too high as a value: only what follows it tells that it is
--- no place. So many names of it stand before, and one comes next where `named` holds
+-- why a name or a selection at the front is refused, if it is too high as a value: only what follows shows that it is no lvalue. `height`
+-- names of it were read before, and one comes next if `named` holds
 unfoldable pub fits : (header literals named : Bool) → (height room : ℕ) → List Lexeme → Result (Unit {0}) Refusal
 fits header literals true height room (Name name ∷ rest) = if is_builtin name then stopped true height room else fits header literals false (height + 1) room rest
 fits header literals true height room words = stopped true height room
@@ -171,7 +171,7 @@ arguments literals most room words = do
 abbrev pub value_list : Bool → ℕ → ℕ → List Lexeme → Reading (List Expression × Bool)
 value_list literals most room words = listed (expression literals most room 0) (separator_next begins kinds.Comma) (TooMany Entries) most words
 
--- the right side of an assignment, of at most so many levels
+-- the right side of an assignment, of at most `room` levels
 unfoldable pub right : Bool → ℕ → ℕ → List Lexeme → Reading (List Expression)
 right literals most zero words = Err TooDeep
 right literals most (suc room) words = value_list literals most (suc room) words >>= λ all. Ok (all.0.0, all.1)
@@ -189,20 +189,20 @@ part literals most zero words = Err TooDeep
 part literals most (suc room) (Text bytes ∷ rest) = Ok (TextPart bytes, rest)
 part literals most (suc room) words = as_one Value (expression literals most (suc room) 0 words)
 
--- the arguments of print or println, behind the first parenthesis
+-- the arguments of print or println, after the opening parenthesis
 unfoldable pub parts : Bool → ℕ → ℕ → List Lexeme → Reading (List Part × Bool)
 parts literals most room words =
     if begins_part words then listed (part literals most room) (entry_next kinds.Comma begins_part kinds.RightParenthesis) (TooMany Entries) most words
     else (expect kinds.RightParenthesis words >>= λ after. Ok (([], false), after))
 
--- a print or, where `line` holds, a println, behind its name
+-- a print or, if `line` holds, a println, after its name
 unfoldable pub print : (line : Bool) → Bool → ℕ → ℕ → List Lexeme → Reading Simple
 print line literals most room words = do
   inside ← expect kinds.LeftParenthesis words
   all ← parts literals most room inside
   Ok (Print line all.0.0 all.0.1, all.1)
 
--- a built-in function that is called alone, behind its name
+-- a call of a built-in function as a statement, after its name
 unfoldable pub builtin_call : Bool → ℕ → ℕ → List ℕ → List Lexeme → Reading Simple
 builtin_call literals most room name rest =
     if bytes_eq name (codes "println") then print true literals most room rest
@@ -210,7 +210,7 @@ builtin_call literals most room name rest =
     else (if bytes_eq name (codes "close") then needing 1 room (as_one Close (argument (expression literals most room) rest))
     else Err Syntax))
 
--- an assignment to places
+-- an assignment to lvalues
 unfoldable pub assigned : Bool → ℕ → ℕ → List Lexeme → Reading Simple
 assigned literals most room words = do
   all ← places most words
@@ -224,11 +224,11 @@ defined literals most room words = do
   value ← behind_mark kinds.Define (right literals most room) all.1
   Ok (Define all.0.0 value.0, value.1)
 
--- a place before this mark
+-- an lvalue before this mark
 abbrev pub before_mark : TokenKind → List Lexeme → Reading Place
 before_mark kind words = place words >>= λ target. expect kind target.1 >>= λ after. Ok (target.0, after)
 
--- a `++` or `--` behind a place
+-- a `++` or `--` after an lvalue
 unfoldable pub stepped : (Place → Simple) → TokenKind → List Lexeme → Reading Simple
 stepped make kind words = as_one make (before_mark kind words)
 
@@ -239,11 +239,11 @@ updated literals most room operator words = do
   value ← behind_mark (update_kind operator) (expression literals most room 0) target.1
   Ok (Update target.0 operator value.0, value.1)
 
--- what needs a level from what follows a place on
+-- what needs a level, from what follows an lvalue on
 abbrev pub behind_place : {A : Type 0} → (room : ℕ) → List Lexeme → Reading A → Reading A
 behind_place room words read = if nat_le 1 room then read else (place words >>= λ target. Err TooDeep)
 
--- a statement of this form, or None where it has none of them
+-- a statement of this form, or None if it has none of them
 unfoldable pub formed : (literals defining : Bool) → ℕ → ℕ → Form → List Lexeme → Reading (Option Simple)
 formed literals defining most room forms.Increment words = as_one (λ s. Some s) (stepped Increment kinds.Increment words)
 formed literals defining most room forms.Decrement words = as_one (λ s. Some s) (stepped Decrement kinds.Decrement words)
@@ -264,7 +264,7 @@ led literals defining most room (Name name ∷ rest) =
     else formed literals defining most room (form_of true (Name name ∷ rest)) (Name name ∷ rest))
 led literals defining most room words = Ok (None, words)
 
--- the operand of a send, which may begin as a place does
+-- the operand of a send, which may begin as an lvalue does
 unfoldable pub send_operand : Bool → ℕ → ℕ → List Lexeme → Reading Expression
 send_operand literals most room words = fits false literals true 0 room words >>= λ low. primary literals most room words
 
@@ -312,8 +312,8 @@ called literals most room words = do
   all ← arguments literals most room function.1
   alone_or_sent literals most room function.0 all
 
--- a simple statement below which there are at most so many levels, whose lists have at most so many entries. Composite
--- literals stand only where `literals` holds, and a `:=` where `defining` does.
+-- a simple statement below which there are at most `room` levels, whose lists have at most `most` entries. Composite literals may stand
+-- in it only if `literals` holds, and it may be a `:=` only if `defining` does.
 unfoldable pub simple : (literals defining : Bool) → ℕ → ℕ → List Lexeme → Reading Simple
 simple literals defining most room words =
     if begins_with kinds.Arrow words then as_one ReceiveAlone (received literals most room words)

@@ -10,7 +10,7 @@ use Rattle.syntax.specs.Tree.{Expression, Arguments, Place, Part, Value, Text as
 use Rattle.parser_base.specs.Lexemes.{Lexeme, Name, Text, Mark}
 use Rattle.parser_base.specs.Spelling.{is_builtin, behind, separated, joined, closing, before, AreAll, AreSome, IsTrailing, outer_precedence, precedence, IsGrouped}
 
--- ---- names and places
+-- ---- names and lvalues
 
 abbrev pub name_words : List ℕ → List Lexeme → List Lexeme
 name_words name rest = Name name ∷ rest
@@ -19,7 +19,7 @@ name_words name rest = Name name ∷ rest
 abbrev pub IsName : List ℕ → Type 0
 IsName name = is_builtin name ≡ false
 
--- a name, and fields each behind a period
+-- a name, and fields each after a period
 abbrev pub place_words : Place → List Lexeme → List Lexeme
 place_words place rest = Name place.name ∷ separated name_words (behind kinds.Period) place.fields rest
 

@@ -1,4 +1,4 @@
-//! What stands behind a place, by which the forms of a statement differ.
+//! What follows an lvalue, by which the forms of a statement differ.
 
 ghost use Rattle.std.specs.Prelude.{◌≡◌, true, zero, IfErr};
 ghost use Rattle.parser_base.specs.Cursor.{ahead};
@@ -14,7 +14,7 @@ use parser_base::operator::binary_of;
 use scanner::TokenKind;
 use syntax::BinaryOperator;
 
-/// What follows a place, or a list of places that begins with it.
+/// What follows an lvalue, or a list of lvalues that begins with it.
 #[derive(Clone, Copy)]
 pub enum Form {
     /// `++`
@@ -67,7 +67,7 @@ pub fn begins_name(cursor: Cursor<'_>) -> bool
     }
 }
 
-/// What follows a name or a place of a list without a closing mark, and the place of the next one or behind the list.
+/// What follows a name or an lvalue of a list without a closing mark: the start of the next one, or the end of the list.
 #[tactic(auto, unfolding(crate::specs::Reading::separator_next))]
 pub fn name_next(separator: TokenKind, cursor: Cursor<'_>) -> Result<(Next, Cursor<'_>), ParseFault>
     ensures gives { Gives (λ x. (x.0, ahead x.1)) result (separator_next begins_name separator (ahead cursor.entry)) }
@@ -84,7 +84,7 @@ pub fn name_next(separator: TokenKind, cursor: Cursor<'_>) -> Result<(Next, Curs
     }
 }
 
-/// What follows a value of a list without a closing mark, and the place of the next one or behind the list.
+/// What follows a value of a list without a closing mark: the start of the next one, or the end of the list.
 #[tactic(auto, unfolding(crate::specs::Reading::separator_next))]
 pub fn value_next(cursor: Cursor<'_>) -> Result<(Next, Cursor<'_>), ParseFault>
     ensures gives { Gives (λ x. (x.0, ahead x.1)) result (separator_next begins TokenKind.Comma (ahead cursor.entry)) }
@@ -141,7 +141,7 @@ pub fn update_kind(operator: BinaryOperator) -> TokenKind
     }
 }
 
-/// The form that a mark behind a place begins, before what follows the mark.
+/// The form that a mark after an lvalue begins, before what follows the mark.
 fn form_at(kind: TokenKind, rest: Cursor<'_>) -> Form
     ensures { result ≡ form_at kind (ahead rest.entry) }
 {
@@ -158,7 +158,7 @@ fn form_at(kind: TokenKind, rest: Cursor<'_>) -> Form
     }
 }
 
-/// The form of what begins here with a place.
+/// The form of what begins here with an lvalue.
 #[tactic(auto, unfolding(crate::specs::Reading::form_of))]
 pub fn form_of(cursor: Cursor<'_>) -> Form
     ensures { result ≡ form_of true (ahead cursor.entry) }
@@ -184,7 +184,7 @@ pub fn form_of(cursor: Cursor<'_>) -> Form
     Form::Other
 }
 
-/// The form of what begins here with a place, if one comes next.
+/// The form of what begins here with an lvalue, if one comes next.
 pub fn place_form(cursor: Cursor<'_>) -> Form
     ensures { result ≡ place_form (ahead cursor.entry) }
 {
@@ -232,7 +232,7 @@ fn goes_on(header: bool, literals: bool, alone: bool, kind: TokenKind) -> bool
     }
 }
 
-/// Refuses what has more levels than there is room for, at what follows it: as too high where it `goes` on as a value.
+/// Refuses a `height` above `room`, at `behind`: as too deep if it `goes` on as a value, else as a syntax error.
 pub fn within(height: usize, room: u32, goes: bool, behind: Cursor<'_>) -> Result<(), ParseFault>
     ensures gives { Gives (λ x. x) result (within height room goes) }
     ensures refused { IfErr result NamesRefusal }
@@ -246,7 +246,7 @@ pub fn within(height: usize, room: u32, goes: bool, behind: Cursor<'_>) -> Resul
     Err(ParseFault::Syntax(behind.place()))
 }
 
-/// Refuses the same where no value goes on; behind a period, where a name is to come next, there is room for none.
+/// Like `within` if no value goes on. After a period, when a name must come next, no level is allowed.
 fn stopped(named: bool, height: usize, room: u32, behind: Cursor<'_>) -> Result<(), ParseFault>
     ensures gives { Gives (λ x. x) result (stopped named height room) }
     ensures refused { IfErr result NamesRefusal }
@@ -254,7 +254,7 @@ fn stopped(named: bool, height: usize, room: u32, behind: Cursor<'_>) -> Result<
     within(height, if named { 0 } else { room }, false, behind)
 }
 
-/// Refuses a name or a selection here that is too high as a value, at what follows it, since it could be a place before.
+/// Refuses a name or a selection here that is too high as a value, at what follows it, since up to there it could be an lvalue.
 #[tactic(auto, unfolding(crate::specs::Reading::fits))]
 pub fn fits(header: bool, literals: bool, room: u32, cursor: Cursor<'_>) -> Result<(), ParseFault>
     ensures gives { Gives (λ x. x) result (fits header literals true 0 room (ahead cursor.entry)) }

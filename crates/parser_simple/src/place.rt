@@ -1,4 +1,4 @@
-//! Names, and places that are assigned to.
+//! Names, and lvalues.
 
 ghost use Rattle.std.specs.Prelude.{map};
 ghost use Rattle.syntax.specs.Measures.{Entries};
@@ -19,7 +19,7 @@ use std::alloc::Global;
 use syntax::limits::MAX_ENTRIES;
 use syntax::{Name, PlaceNode};
 
-/// A name that may be declared, and the place behind it.
+/// A name that may be declared, and the position after it.
 pub fn name_at(alloc: Global, cursor: Cursor<'_>) -> Result<(Name, Cursor<'_>), ParseFault>
     ensures { Gives (λ x. (name_of x.0, ahead x.1)) result (plain_name (ahead cursor.entry)) }
 {
@@ -27,7 +27,7 @@ pub fn name_at(alloc: Global, cursor: Cursor<'_>) -> Result<(Name, Cursor<'_>), 
     Ok((name_node(alloc, name)?, rest))
 }
 
-/// Names with a separator between each two, of which there are at most so many.
+/// At most `most` names, with a separator between each two.
 pub fn names(
     alloc: Global,
     separator: TokenKind,
@@ -54,7 +54,7 @@ pub fn names(
     Err(ParseFault::TooManyEntries(rest.place()))
 }
 
-/// The fields of a place, each behind a period.
+/// The fields of an lvalue, each after a period.
 #[tactic(auto, unfolding(crate::specs::Reading::fields))]
 fn fields(alloc: Global, cursor: Cursor<'_>) -> Result<(Vec<Name>, Cursor<'_>), ParseFault>
     ensures { Gives (λ x. (map name_of x.0.items, ahead x.1)) result (fields (ahead cursor.entry)) }
@@ -67,7 +67,7 @@ fn fields(alloc: Global, cursor: Cursor<'_>) -> Result<(Vec<Name>, Cursor<'_>), 
     Ok((fields.entries, fields.rest))
 }
 
-/// A place: a name, or fields behind it.
+/// An lvalue: a name, and fields after it.
 #[tactic(auto, unfolding(crate::specs::Reading::place))]
 pub fn place(alloc: Global, cursor: Cursor<'_>) -> Result<Found<'_, PlaceNode>, ParseFault>
     ensures { Gives (λ x. (place_of x.node, ahead x.rest)) result (place (ahead cursor.entry)) }
@@ -80,7 +80,7 @@ pub fn place(alloc: Global, cursor: Cursor<'_>) -> Result<Found<'_, PlaceNode>, 
     })
 }
 
-/// A place before this mark, and what follows the mark.
+/// An lvalue before this mark, and what follows the mark.
 pub fn place_before(
     alloc: Global,
     mark: TokenKind,
@@ -92,7 +92,7 @@ pub fn place_before(
     beside(target.node, target.rest.expect(mark))
 }
 
-/// Places with a comma between each two.
+/// Lvalues with a comma between each two.
 pub fn places(alloc: Global, cursor: Cursor<'_>) -> Result<List<'_, PlaceNode>, ParseFault>
     ensures { Gives (λ x. ((map place_of x.entries.items, x.trailing), ahead x.rest)) result (places MAX_ENTRIES (ahead cursor.entry)) }
 {

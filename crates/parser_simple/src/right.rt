@@ -50,7 +50,7 @@ pub fn primary_expression(
     expression(alloc, literals, room, 7, cursor)
 }
 
-/// An expression behind this mark. Where there is no room for one, the mark is too deep.
+/// An expression after this mark. If no level is left for it, the mark is too deep.
 #[tactic(auto, unfolding(parser_base::specs::Reading::expression))]
 pub fn expression_behind(
     alloc: Global,
@@ -68,7 +68,7 @@ pub fn expression_behind(
     expression(alloc, literals, room, 0, rest)
 }
 
-/// A receive: its arrow, and its operand. Where there is no room for that, the arrow is too deep.
+/// A receive: its arrow, and its operand. If no level is left for the operand, the arrow is too deep.
 #[tactic(auto, unfolding(parser_base::specs::Reading::expression))]
 pub fn receive_operand(
     alloc: Global,
@@ -187,7 +187,7 @@ fn expression_list(
     Err(ParseFault::TooManyEntries(rest.place()))
 }
 
-/// The right side of an assignment, of at most so many levels.
+/// The right side of an assignment, of at most `room` levels.
 #[tactic(auto, unfolding(crate::specs::Reading::right))]
 pub fn right_side(
     alloc: Global,
@@ -204,7 +204,7 @@ pub fn right_side(
     Ok((values.entries, values.rest))
 }
 
-/// The right side of an assignment behind this mark. Where there is no room for one, the mark is too deep.
+/// The right side of an assignment after this mark. If no level is left for it, the mark is too deep.
 #[tactic(auto, unfolding(crate::specs::Reading::right))]
 pub fn right_behind(
     alloc: Global,

@@ -40,7 +40,7 @@ fn begins_print_argument(cursor: Cursor<'_>) -> bool
     }
 }
 
-/// An argument of `print` or `println`, of at most so many levels.
+/// An argument of `print` or `println`, of at most `room` levels.
 #[tactic(auto, unfolding(crate::specs::Reading::part))]
 fn print_argument(
     alloc: Global,
@@ -61,7 +61,7 @@ fn print_argument(
     Ok((PartNode::Value(value.node), value.rest))
 }
 
-/// What follows an argument of `print` or `println`, and the place of the next one or behind the arguments.
+/// What follows an argument of `print` or `println`: the start of the next one, or the end of the arguments.
 #[tactic(auto, unfolding(parser_base::specs::Reading::entry_next))]
 fn print_argument_next(cursor: Cursor<'_>) -> Result<(Next, Cursor<'_>), ParseFault>
     ensures gives { Gives (λ x. (x.0, ahead x.1)) result (entry_next TokenKind.Comma begins_part TokenKind.RightParenthesis (ahead cursor.entry)) }
@@ -107,7 +107,7 @@ fn print_argument_list(
     Err(ParseFault::TooManyEntries(rest.place()))
 }
 
-/// The arguments of `print` or `println`, behind the first parenthesis.
+/// The arguments of `print` or `println`, after the opening parenthesis.
 #[tactic(auto, unfolding(crate::specs::Reading::parts))]
 fn print_arguments(
     alloc: Global,
@@ -128,7 +128,7 @@ fn print_arguments(
     })
 }
 
-/// A `print` or, where `line` holds, a `println`, behind its name.
+/// A `print` or, if `line` holds, a `println`, after its name.
 #[tactic(auto, unfolding(crate::specs::Reading::print))]
 fn print_call(
     alloc: Global,
@@ -147,7 +147,7 @@ fn print_call(
     })
 }
 
-/// A `close` behind its name.
+/// A `close` after its name.
 fn close_call(
     alloc: Global,
     literals: bool,
@@ -163,7 +163,7 @@ fn close_call(
     })
 }
 
-/// A built-in function that is called alone, behind its name, which stands at `first`.
+/// A call of a built-in function as a statement, after its name, which stands at `first`.
 #[tactic(auto, unfolding(crate::specs::Reading::builtin_call))]
 fn builtin_call<'a>(
     alloc: Global,
@@ -287,7 +287,7 @@ fn receive_statement(
     })
 }
 
-/// An assignment to places.
+/// An assignment to lvalues.
 #[tactic(auto, unfolding(crate::specs::Reading::assigned))]
 fn assignment(
     alloc: Global,
@@ -329,7 +329,7 @@ fn short_var_declaration(
     })
 }
 
-/// A `++` behind a place.
+/// A `++` after an lvalue.
 #[tactic(auto, unfolding(crate::specs::Reading::stepped))]
 fn increment_statement(
     alloc: Global,
@@ -344,7 +344,7 @@ fn increment_statement(
     })
 }
 
-/// A `--` behind a place.
+/// A `--` after an lvalue.
 #[tactic(auto, unfolding(crate::specs::Reading::stepped))]
 fn decrement_statement(
     alloc: Global,
@@ -395,7 +395,7 @@ fn as_some(
     })
 }
 
-/// A statement that begins with a place and has this form, if it has any.
+/// A statement that begins with an lvalue and has this form, if it has any.
 #[tactic(auto, unfolding(crate::specs::Reading::formed))]
 fn place_statement(
     alloc: Global,
@@ -429,7 +429,7 @@ fn place_statement(
     }
 }
 
-/// A simple statement that begins with a place or a name of its own, if one comes next.
+/// A simple statement that begins with an lvalue or a name of its own, if one comes next.
 #[tactic(auto, unfolding(crate::specs::Reading::led))]
 pub fn statement_unless_value(
     alloc: Global,
@@ -455,7 +455,7 @@ pub fn statement_unless_value(
     }
 }
 
-/// The operand of a send, which may begin as a place does.
+/// The operand of a send, which may begin as an lvalue does.
 #[tactic(auto, unfolding(crate::specs::Reading::send_operand))]
 pub fn send_operand(
     alloc: Global,
@@ -490,8 +490,8 @@ fn send_statement(
     })
 }
 
-/// A simple statement, below which there are at most so many levels ("Simple statements" of the Go specification).
-/// Composite literals stand in it only where `literals` holds, and it is a `:=` only where `defining` does.
+/// A simple statement, below which there are at most `room` levels ("Simple statements" of the Go specification). It may have composite
+/// literals only if `literals` holds, and be a `:=` only if `defining` does.
 #[tactic(auto, unfolding(crate::specs::Reading::simple))]
 pub fn simple_statement(
     alloc: Global,

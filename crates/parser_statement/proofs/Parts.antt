@@ -17,7 +17,7 @@ enough : {A : Type 0} (least room : ℕ) (read : Result A Refusal) (b : Bool) �
 enough least room read true e h = refl
 enough least room read false e h = absurd (omega (arith, leb-false least room e))
 
--- where there are as many levels as are needed
+-- if there are as many levels as are needed
 has_room : {A : Type 0} (least room : ℕ) (read : Result A Refusal) → least ≤ room → needing least room read ≡ read
 has_room least room read h = enough least room read (nat_le least room) refl h
 
@@ -47,7 +47,7 @@ pub if_done : (most room : ℕ) (inside : List Lexeme → Reading Statements) (b
 unfolding branched
 if_done most room inside below ws head body last h read read' read'' = has_room 2 room _ h ∙ rw (read, read', read'') refl
 
--- ---- what stands behind `else`
+-- ---- what follows `else`
 
 branch_begins : (most room : ℕ) (ws : List Lexeme) → 1 ≤ room → branch most room ws ≡ branched most (room - 1) (block most (room - 1)) (branch most (room - 1)) ws
 unfolding statement

@@ -1,4 +1,4 @@
--- A statement and its parts, in the room that is left below them.
+-- A statement and its parts, with the levels that are left below them.
 use Rattle.std.proofs.Common.{◌≡◌, ℕ, zero, suc, ◌-◌, ◌≤◌, Bool, List, length, Ok, refl, ap, ◌∙◌, arith}
 use Rattle.parser_base.specs.declared.fault.ParseFault.{ParseFault}
 use Rattle.scanner.specs.declared.kind.TokenKind.TheVariants as kinds

@@ -12,7 +12,7 @@ use Rattle.parser_statement.specs.Spelling.{returned_words, initial_words, claus
 use Rattle.parser_simple.proofs.Sizes.{value_size, arguments_grow, right_grows, names_grow, simple_grows, simple_positive}
 use Rattle.parser_header.proofs.Sizes.{if_head_grows, for_head_grows, comm_grows}
 
--- ---- what stands behind `return`, `var` and `case`
+-- ---- what follows `return`, `var` and `case`
 
 returned_grows : (r : Returned) (rest : List Lexeme) → returned_size r + length rest ≤ length (returned_words r rest)
 returned_grows NoValue rest = omega arith

@@ -44,7 +44,7 @@ statements_to next ending room most = record {
   IsOne = IsStatement;
 }
 
--- those of a block, behind its first brace
+-- those of a block, after its first brace
 abbrev pub statements : (room most : ℕ) → Entries Statement
 statements room most = statements_to statement_next (λ rest. Mark kinds.RightBrace ∷ rest) room most
 
@@ -68,7 +68,7 @@ clause_ends _ (ClauseAtBrace rest) = AtBrace rest
 clause_ends _ (ClauseAtCase rest) = AtCase rest
 clause_ends _ (ClauseAtDefault rest) = AtDefault rest
 
--- those of a clause, behind its colon
+-- those of a clause, after its colon
 abbrev pub clause_statements : (room most : ℕ) → Entries Statement
 clause_statements room most = statements_to clause_next unseparated room most
 
@@ -195,7 +195,7 @@ comm_positive (CommAssign item ok c) = omega (arith, height_positive c)
 abbrev pub block_words : Statements → List Lexeme → List Lexeme
 block_words body rest = Mark kinds.LeftBrace ∷ body_words body (Mark kinds.RightBrace ∷ rest)
 
--- statements that are read again in whatever room
+-- statements that are read again with any number of levels left
 abbrev ReadAgain : (most : ℕ) → List Statement → Type 0
 ReadAgain most all = (room : ℕ) → AreAll (IsReadAgain (statements room most) Ends) all
 
@@ -288,7 +288,7 @@ unfolding waited
 waited_again most zero c ws is = High (omega (arith, comm_below_is c)) refl
 waited_again most (suc room) c ws is = widened (comm_again most room c ws is) (λ high. omega (arith, comm_below_is c)) (λ low. omega (arith, comm_below_is c)) (λ listing. omega arith) (λ few. few)
 
--- the clauses of a select, behind its brace
+-- the clauses of a select, after its brace
 abbrev pub clauses_of : (room most : ℕ) → Entries OneClause
 clauses_of room most = record {
   one = clause most room;

@@ -103,6 +103,6 @@ pub clause_entries-le : (listing : Listing) (n : ℕ) → clause_entries listing
 clause_entries-le Entries n = omega arith
 clause_entries-le SelectClauses n = omega arith
 
--- where a select has no more clauses than so many, and no list in it is longer
+-- if a select has at most `most` clauses, and no list in it is longer
 pub clause_entries_few : (most : ℕ) (all : Clauses) → clauses_count all ≤ most → AreFew (λ listing. clauses_longest listing all) most → AreFew (λ listing. max (clause_entries listing (clauses_count all)) (clauses_longest listing all)) most
 clause_entries_few most all count few listing = omega (arith, few listing, clause_entries-le listing (clauses_count all))

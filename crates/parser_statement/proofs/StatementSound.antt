@@ -27,7 +27,7 @@ use Rattle.parser_statement.proofs.StatementAgain.{statements_to, statements, cl
 
 -- ---- what is read is spelt so: lists of statements
 
--- what a reader of parts finds in a room is spelt so
+-- what a reader of parts finds within `room` levels is spelt so
 abbrev BlockSoundly : (most room : ℕ) → Type 0
 BlockSoundly most room = (ws : List Lexeme) (body : Statements) (rest : List Lexeme) → block most room ws ≡ gave body rest → Sound block_words IsBody block_height room statements_longest most ws body rest
 
@@ -296,7 +296,7 @@ joined_unseparated : (all : List OneClause) (rest : List Lexeme) → joined clau
 joined_unseparated [] rest = refl
 joined_unseparated (c ∷ cs) rest = refl
 
--- what stands behind `select`
+-- what follows `select`
 abbrev selected_words : Clauses → List Lexeme → List Lexeme
 selected_words all rest = Mark kinds.LeftBrace ∷ clauses_words all (Mark kinds.RightBrace ∷ rest)
 

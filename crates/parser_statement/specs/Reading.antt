@@ -42,20 +42,20 @@ clause_next words = if ends_statement words then Ok (End false, words) else Err 
 
 -- ---- statements in which none stands
 
--- a value behind `return`, of at most so many levels
+-- a value after `return`, at most `room` levels deep
 unfoldable pub returned_value : ℕ → ℕ → List Lexeme → Reading Returned
 returned_value most zero words = if begins words then Err TooDeep else Err Syntax
 returned_value most (suc room) words = as_one ReturnedValue (expression true most (suc room) 0 words)
 
--- what stands behind `return`
+-- what follows `return`
 unfoldable pub returned : ℕ → ℕ → List Lexeme → Reading Returned
 returned most room words = if ends_statement words then Ok (NoValue, words) else returned_value most room words
 
--- what stands behind `go`
+-- what follows `go`
 unfoldable pub started : ℕ → ℕ → List Lexeme → Reading Statement
 started most room words = plain_name words >>= λ name. as_one (Go name.0) (arguments true most room name.1)
 
--- what is there, if this mark comes next, behind it
+-- if this mark comes next, what follows it
 abbrev pub behind_next : {A : Type 0} → TokenKind → (List Lexeme → Reading A) → List Lexeme → Reading (Option A)
 behind_next kind one words = if begins_with kind words then as_one (λ x. Some x) (behind_mark kind one words) else Ok (None, words)
 
@@ -70,17 +70,17 @@ typed all most room words = do
 unfoldable pub untyped : List (List ℕ) → ℕ → ℕ → List Lexeme → Reading Statement
 untyped all most room words = as_one (VarUntyped all) (behind_mark kinds.Assign (right true most room) words)
 
--- the names behind `var`, and their type or values
+-- the names after `var`, and their type or values
 unfoldable pub variables : ℕ → ℕ → List Lexeme → Reading Statement
 variables most room words =
     names kinds.Comma most words >>= λ all.
     if begins_with kinds.Assign all.1 then untyped all.0.0 most room all.1 else typed all.0.0 most room all.1
 
--- what stands behind `var`: a type or values
+-- what follows `var`: a type or values
 abbrev pub variable : ℕ → ℕ → List Lexeme → Reading Statement
 variable most room words = needing 1 room (variables most room words)
 
--- a statement behind this mark, in which no other stands and below which there are at most so many levels
+-- a statement after this mark, in which no other stands, with at most `room` levels below it
 abbrev pub leaf : ℕ → ℕ → TokenKind → List Lexeme → Reading Statement
 leaf most room kinds.Go rest = started most room rest
 leaf most room kinds.Var rest = variable most room rest
@@ -98,7 +98,7 @@ braced one words = do
   all ← listed one statement_next Syntax (length inside) inside
   Ok (statements all.0.0, all.1)
 
--- what stands behind `else`
+-- what follows `else`
 unfoldable pub other : (block : List Lexeme → Reading Statements) → (branch : List Lexeme → Reading Branch) → List Lexeme → Reading Otherwise
 other block branch words =
     if begins_with kinds.If words then (expect kinds.If words >>= λ after. as_one ElseIf (branch after)) else as_one ElseBlock (block words)
@@ -108,7 +108,7 @@ unfoldable pub otherwise : (block : List Lexeme → Reading Statements) → (bra
 otherwise block branch words =
     if begins_with kinds.Else words then (expect kinds.Else words >>= λ after. other block branch after) else Ok (NoElse, words)
 
--- what stands behind `if`: a condition, and a block with a statement in it
+-- what follows `if`: a condition, and a block with a statement in it
 unfoldable pub branched : ℕ → ℕ → (block : List Lexeme → Reading Statements) → (branch : List Lexeme → Reading Branch) → List Lexeme → Reading Branch
 branched most room block branch words = needing 2 room (do
   header ← if_header most room words
@@ -116,35 +116,35 @@ branched most room block branch words = needing 2 room (do
   last ← otherwise block branch body.1
   Ok (Conditional header.0.0 header.0.1 body.0 last.0, last.1))
 
--- what stands behind `for`: a block with a statement in it
+-- what follows `for`: a block with a statement in it
 unfoldable pub repeated : ℕ → ℕ → (block : List Lexeme → Reading Statements) → List Lexeme → Reading Statement
 repeated most room block words = needing 2 room (for_header most room words >>= λ header. as_one (For header.0) (block header.1))
 
--- what a clause of a select waits for, of at most so many levels
+-- what a clause of a select waits for, at most `room` levels deep
 unfoldable pub waited : ℕ → ℕ → List Lexeme → Reading Comm
 waited most zero words = Err TooDeep
 waited most (suc room) words = comm most room words
 
--- the statements of a clause, behind its colon
+-- the statements of a clause, after its colon
 unfoldable pub clause_body : (one : List Lexeme → Reading Statement) → Option Comm → List Lexeme → Reading OneClause
 clause_body one waits words = do
   inside ← expect kinds.Colon words
   all ← listed one clause_next Syntax (length inside) inside
   Ok (record { comm = waits; body = statements all.0.0 }, all.1)
 
--- a clause, below which there are at most so many levels
+-- a clause, with at most `room` levels below it
 unfoldable pub one_clause : ℕ → ℕ → (one : List Lexeme → Reading Statement) → List Lexeme → Reading OneClause
 one_clause most room one (Mark kinds.Case ∷ rest) = needing 2 room (waited most room rest >>= λ waits. clause_body one (Some waits.0) waits.1)
 one_clause most room one (Mark kinds.Default ∷ rest) = needing 1 room (clause_body one None rest)
 one_clause most room one words = Err Syntax
 
--- a clause for which there is no room
+-- a clause for which no level is left
 unfoldable pub no_clause : List Lexeme → Reading OneClause
 no_clause (Mark kinds.Case ∷ rest) = Err TooDeep
 no_clause (Mark kinds.Default ∷ rest) = Err TooDeep
 no_clause words = Err Syntax
 
--- what follows a statement of a block or, where this holds, of a clause
+-- what follows a statement of a block or, if `clause` holds, of a clause
 abbrev pub next_of : (clause : Bool) → List Lexeme → Reading Next
 next_of true = clause_next
 next_of false = statement_next
@@ -153,14 +153,14 @@ next_of false = statement_next
 unfoldable pub clauses_next : List Lexeme → Reading Next
 clauses_next words = if begins_with kinds.RightBrace words then (expect kinds.RightBrace words >>= λ after. Ok (End false, after)) else Ok (More, words)
 
--- what stands behind `select`
+-- what follows `select`
 unfoldable pub selected : ℕ → (clause : List Lexeme → Reading OneClause) → List Lexeme → Reading Clauses
 selected most clause words =
     expect kinds.LeftBrace words >>= λ inside.
     if begins_with kinds.RightBrace inside then (expect kinds.RightBrace inside >>= λ after. Ok (clauses [], after))
     else (listed clause clauses_next (TooMany SelectClauses) most inside >>= λ all. Ok (clauses all.0.0, all.1))
 
--- a statement behind this mark, below which there are at most so many levels
+-- a statement after this mark, with at most `room` levels below it
 abbrev pub marked : ℕ → ℕ → (block : List Lexeme → Reading Statements) → (branch : List Lexeme → Reading Branch) → (clause : List Lexeme → Reading OneClause) → TokenKind → List Lexeme → Reading Statement
 marked most room block branch clause kinds.LeftBrace rest = needing 2 room (as_one Block (block (Mark kinds.LeftBrace ∷ rest)))
 marked most room block branch clause kinds.If rest = as_one If (branched most room block branch rest)
@@ -168,12 +168,12 @@ marked most room block branch clause kinds.For rest = repeated most room block r
 marked most room block branch clause kinds.Select rest = as_one Select (selected most clause rest)
 marked most room block branch clause kind rest = leaf most room kind rest
 
--- a statement, below which there are at most so many levels
+-- a statement, with at most `room` levels below it
 unfoldable pub stated : ℕ → ℕ → (block : List Lexeme → Reading Statements) → (branch : List Lexeme → Reading Branch) → (clause : List Lexeme → Reading OneClause) → List Lexeme → Reading Statement
 stated most room block branch clause (Mark kind ∷ rest) = marked most room block branch clause kind rest
 stated most room block branch clause words = as_one Alone (simple true true most room words)
 
--- of at most so many levels, whose lists have at most so many entries
+-- at most `room` levels deep, with lists of at most `most` entries
 unfoldable mutual
   -- a statement
   pub statement : ℕ → ℕ → List Lexeme → Reading Statement
@@ -185,7 +185,7 @@ unfoldable mutual
   block most zero words = Err TooDeep
   block most (suc room) words = braced (statement most room) words
 
-  -- what stands behind an `if`
+  -- what follows an `if`
   pub branch : ℕ → ℕ → List Lexeme → Reading Branch
   branch most zero words = Err TooDeep
   branch most (suc room) words = branched most room (block most room) (branch most room) words

@@ -10,7 +10,7 @@ use Rattle.parser_base.specs.Spelling.{behind, joined, before, AreSome, IsGroupe
 use Rattle.parser_simple.specs.Spelling.{name_words, IsName, arguments_words, AreArguments, right_words, IsRight, simple_words, IsSimple}
 use Rattle.parser_header.specs.Spelling.{IsAny, comm_words, IsComm, if_head_words, IsIfHead, for_head_words, IsForHead}
 
--- ---- what stands behind `return` and `var`
+-- ---- what follows `return` and `var`
 
 abbrev pub returned_words : Returned → List Lexeme → List Lexeme
 returned_words NoValue rest = rest
@@ -55,12 +55,12 @@ abbrev mutual
   body_words NoStatement rest = rest
   body_words (Then first others) rest = statement_words first (more_words others rest)
 
-  -- each of these behind a semicolon
+  -- each of these after a semicolon
   pub more_words : Statements → List Lexeme → List Lexeme
   more_words NoStatement rest = rest
   more_words (Then first others) rest = Mark kinds.Semicolon ∷ statement_words first (more_words others rest)
 
-  -- what stands behind `if`
+  -- what follows `if`
   pub branch_words : Branch → List Lexeme → List Lexeme
   branch_words (Conditional head condition body otherwise) rest =
       if_head_words head (before condition (Mark kinds.LeftBrace ∷ body_words body (Mark kinds.RightBrace ∷ otherwise_words otherwise rest)))

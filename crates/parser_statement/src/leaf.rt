@@ -47,7 +47,7 @@ pub(crate) fn ends_statement(cursor: Cursor<'_>) -> bool
     }
 }
 
-/// A simple statement, below which there are at most so many levels.
+/// A simple statement, with at most `room` levels below it.
 pub(crate) fn simple_statement(
     alloc: Global,
     room: u32,
@@ -59,7 +59,7 @@ pub(crate) fn simple_statement(
     Ok((StatementNode::Simple(found.node), found.rest))
 }
 
-/// A `go` ("Go statements" of the Go specification), behind its word, below which there are at most so many levels.
+/// A `go` ("Go statements" of the Go specification), after its word, with at most `room` levels below it.
 #[tactic(auto, unfolding(crate::specs::Reading::started))]
 pub(crate) fn go_statement(
     alloc: Global,
@@ -73,7 +73,7 @@ pub(crate) fn go_statement(
     Ok((StatementNode::Go(function, passed.node), passed.rest))
 }
 
-/// A value behind `return`, of at most so many levels.
+/// A value after `return`, at most `room` levels deep.
 #[tactic(auto, unfolding(crate::specs::Reading::returned_value))]
 fn return_value(
     alloc: Global,
@@ -92,7 +92,7 @@ fn return_value(
     Ok((ReturnNode::Value(found.node), found.rest))
 }
 
-/// What stands behind a `return`.
+/// What follows a `return`.
 #[tactic(auto, unfolding(crate::specs::Reading::returned))]
 fn return_operand(
     alloc: Global,
@@ -107,8 +107,7 @@ fn return_operand(
     return_value(alloc, room, cursor)
 }
 
-/// A `return` ("Return statements" of the Go specification), behind its word, below which there are at most so
-/// many levels.
+/// A `return` ("Return statements" of the Go specification), after its word, with at most `room` levels below it.
 pub(crate) fn return_statement(
     alloc: Global,
     room: u32,
@@ -120,7 +119,7 @@ pub(crate) fn return_statement(
     Ok((StatementNode::Return(returned), rest))
 }
 
-/// Values behind `=`, if it comes next.
+/// Values after `=`, if it comes next.
 fn initial_values(
     alloc: Global,
     room: u32,
@@ -170,7 +169,7 @@ fn untyped_var(
     Ok((StatementNode::Untyped(names, values), rest))
 }
 
-/// The names behind a `var`, and their type or values.
+/// The names after a `var`, and their type or values.
 #[tactic(auto, unfolding(crate::specs::Reading::variables))]
 fn var_spec(
     alloc: Global,
@@ -186,8 +185,8 @@ fn var_spec(
     typed_var(alloc, room, names.entries, names.rest)
 }
 
-/// A `var` ("Variable declarations" of the Go specification), behind its word, which stands at `first`, below which there
-/// are at most so many levels.
+/// A `var` ("Variable declarations" of the Go specification), after its word, which stands at `first`, with at most `room` levels
+/// below it.
 pub(crate) fn var_declaration(
     alloc: Global,
     room: u32,

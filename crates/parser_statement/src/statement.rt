@@ -55,7 +55,7 @@ fn clause_next(cursor: Cursor<'_>) -> Result<(Next, Cursor<'_>), ParseFault>
     Err(ParseFault::Syntax(cursor.place()))
 }
 
-/// What follows a statement of a block or, where `clause` holds, of a clause.
+/// What follows a statement of a block or, if `clause` holds, of a clause.
 fn next_of(clause: bool, cursor: Cursor<'_>) -> Result<(Next, Cursor<'_>), ParseFault>
     ensures gives { Gives (λ x. (x.0, ahead x.1)) result (next_of clause (ahead cursor.entry)) }
     ensures refused { IfErr result NamesRefusal }
@@ -90,7 +90,7 @@ fn if_node(alloc: Global, branch: IfNode) -> Result<StatementNode, ParseFault>
     Ok(StatementNode::If(Box::new(alloc, branch)?))
 }
 
-/// An `if` behind an `else`.
+/// An `if` after an `else`.
 fn else_node(alloc: Global, branch: IfNode) -> Result<ElseNode, ParseFault>
     ensures ok { IfOk result (λ node. otherwise_of node ≡ ElseIf (branch_of branch)) }
     ensures err { IfErr result (λ e. e ≡ faults.Memory) }
@@ -115,7 +115,7 @@ fn clause_node(comm: Option<CommNode>, body: Vec<StatementNode>) -> ClauseNode
 
 // ---- blocks
 
-/// The statements of a block or, where `clause` holds, of a clause, each of at most so many levels, to what ends them.
+/// The statements of a block or, if `clause` holds, of a clause, up to what ends them; each at most `room` levels deep.
 #[cycle(statement)]
 fn statements_to_end(
     alloc: Global,
@@ -143,7 +143,7 @@ fn statements_to_end(
     Err(ParseFault::Syntax(rest.place()))
 }
 
-/// The statements of a block, each of at most so many levels, behind its first brace.
+/// The statements of a block, each at most `room` levels deep, after its first brace.
 #[cycle(statement)]
 pub fn statement_list(
     alloc: Global,
@@ -155,7 +155,7 @@ pub fn statement_list(
     statements_to_end(alloc, room, false, cursor)
 }
 
-/// A block of at most so many levels ("Blocks" of the Go specification).
+/// A block, at most `room` levels deep ("Blocks" of the Go specification).
 #[cycle(statement)]
 #[tactic(auto, unfolding(crate::specs::Reading::statement, crate::specs::Reading::braced))]
 fn block(
@@ -175,7 +175,7 @@ fn block(
 
 // ---- if and for
 
-/// What stands behind `else`: an `if` or a block, of at most so many levels.
+/// What follows `else`: an `if` or a block, at most `room` levels deep.
 #[cycle(statement)]
 #[tactic(auto, unfolding(crate::specs::Reading::statement, crate::specs::Reading::other))]
 fn else_branch(
@@ -197,7 +197,7 @@ fn else_branch(
     Ok((ElseNode::Block(body), rest))
 }
 
-/// An `else` of at most so many levels, if there is one.
+/// An `else`, at most `room` levels deep, if there is one.
 #[cycle(statement)]
 #[tactic(auto, unfolding(crate::specs::Reading::otherwise))]
 fn optional_else(
@@ -214,8 +214,7 @@ fn optional_else(
     else_branch(alloc, room, rest)
 }
 
-/// What stands behind an `if` at `first` ("If statements" of the Go specification), below which there are at most so many
-/// levels.
+/// What follows an `if` at `first` ("If statements" of the Go specification), with at most `room` levels below it.
 #[cycle(statement)]
 #[tactic(auto, unfolding(crate::specs::Reading::branched))]
 fn if_statement(
@@ -242,8 +241,7 @@ fn if_statement(
     Ok((branch, rest))
 }
 
-/// What stands behind a `for` at `first` ("For statements" of the Go specification), below which there are at most so
-/// many levels.
+/// What follows a `for` at `first` ("For statements" of the Go specification), with at most `room` levels below it.
 #[cycle(statement)]
 #[tactic(auto, unfolding(crate::specs::Reading::repeated))]
 fn for_statement(
@@ -264,7 +262,7 @@ fn for_statement(
 
 // ---- select
 
-/// What a clause waits for, of at most so many levels.
+/// What a clause waits for, at most `room` levels deep.
 #[tactic(auto, unfolding(crate::specs::Reading::waited))]
 fn comm_case(
     alloc: Global,
@@ -279,7 +277,7 @@ fn comm_case(
     comm_statement(alloc, room - 1, cursor)
 }
 
-/// A clause from its colon on, with statements of at most so many levels.
+/// A clause from its colon on, with statements at most `room` levels deep.
 #[cycle(statement)]
 #[tactic(auto, unfolding(crate::specs::Reading::clause_body))]
 fn clause_body(
@@ -295,7 +293,7 @@ fn clause_body(
     Ok((clause_node(waits, body.entries), body.rest))
 }
 
-/// A clause, below which there are at most so many levels.
+/// A clause, with at most `room` levels below it.
 #[cycle(statement)]
 #[tactic(auto, unfolding(crate::specs::Reading::one_clause))]
 fn comm_clause_below(
@@ -323,7 +321,7 @@ fn comm_clause_below(
     }
 }
 
-/// What is wrong with a clause for which there is no room.
+/// What is wrong with a clause for which no level is left.
 #[tactic(auto, unfolding(crate::specs::Reading::no_clause))]
 fn no_clause(cursor: Cursor<'_>) -> ParseFault
     ensures { Fails result (no_clause (ahead cursor.entry)) }
@@ -336,7 +334,7 @@ fn no_clause(cursor: Cursor<'_>) -> ParseFault
     }
 }
 
-/// A clause of at most so many levels.
+/// A clause, at most `room` levels deep.
 #[cycle(statement)]
 #[tactic(auto, unfolding(crate::specs::Reading::statement))]
 fn comm_clause(
@@ -352,7 +350,7 @@ fn comm_clause(
     comm_clause_below(alloc, room - 1, cursor)
 }
 
-/// The clauses of a `select`, each of at most so many levels.
+/// The clauses of a `select`, each at most `room` levels deep.
 #[cycle(statement)]
 fn comm_clauses(
     alloc: Global,
@@ -379,8 +377,7 @@ fn comm_clauses(
     Err(ParseFault::TooManyClauses(rest.place()))
 }
 
-/// What stands behind a `select` ("Select statements" of the Go specification), below which there are at most so many
-/// levels.
+/// What follows a `select` ("Select statements" of the Go specification), with at most `room` levels below it.
 #[cycle(statement)]
 #[tactic(auto, unfolding(crate::specs::Reading::selected))]
 fn select_statement(
@@ -401,7 +398,7 @@ fn select_statement(
 
 // ---- statements
 
-/// A statement that begins with this mark, below which there are at most so many levels.
+/// A statement that begins with this mark, with at most `room` levels below it.
 #[cycle(statement)]
 fn keyword_statement<'a>(
     alloc: Global,
@@ -431,7 +428,7 @@ fn keyword_statement<'a>(
     }
 }
 
-/// A statement, below which there are at most so many levels.
+/// A statement, with at most `room` levels below it.
 #[cycle(statement)]
 #[tactic(auto, unfolding(crate::specs::Reading::stated))]
 fn statement_below(
@@ -447,7 +444,7 @@ fn statement_below(
     }
 }
 
-/// A statement of at most so many levels ("Statements" of the Go specification).
+/// A statement, at most `room` levels deep ("Statements" of the Go specification).
 #[cycle(statement)]
 #[tactic(auto, unfolding(crate::specs::Reading::statement))]
 pub fn statement(

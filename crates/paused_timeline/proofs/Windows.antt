@@ -13,7 +13,7 @@ use Rattle.word.specs.Views.{event_of}
 use Rattle.word.specs.Worlds.{end_of, moment}
 
 module _ {S : Type 0} (K : GoroutineKind) (held : S → K.State) where
-  -- the run has had these events, before which there were so many others
+  -- the run has had these events, after `before` others
   pub record HasKept (run : OpenValue S) (before : ℕ) (kept : List Recorded) : Type 0 where
     pub gone : List Event
     pub output : List ℕ

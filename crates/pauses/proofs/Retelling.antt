@@ -1,4 +1,4 @@
--- A goroutine that keeps to a plan tells the story of the goroutine that doesn't.
+-- A goroutine that keeps to a plan has the story of the goroutine that doesn't.
 use Rattle.std.proofs.Common.{◌≡◌, ℕ, ◌==◌, Bool, true, false, ◌&&◌, not, cond, List, [], ◌∷◌, ◌++◌, map, Option, Some, None, refl, sym, ◌∙◌, ap, subst, append_assoc, append-nil, inl, inr, ◌⊎◌}
 use Rattle.std.proofs.lemmas.Bool.{and_right}
 use Rattle.std.specs.Option.{is_some}
@@ -26,7 +26,7 @@ way_back (Some []) args = refl
 way_back (Some (n ∷ ns)) args =
     ap (λ (ws : List Word). (way_after (n ∷ []) ws).1) (append_assoc (map number_word ns) (Truth true ∷ []) args) ∙ ap (λ (f : Option (List ℕ) × List Word). f.1) (numbers_back (n ∷ []) ns args)
 
--- ---- what comes of a request
+-- ---- the outcome of a request
 
 module _ (ps : List Pause) where
   -- the clause that was tried isn't ready

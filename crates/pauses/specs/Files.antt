@@ -8,7 +8,7 @@ use Rattle.pauses.specs.declared.error.PlanError.TheVariants as errors
 abbrev pub is_digit : ℕ → Bool
 is_digit c = nat_lt 47 c && nat_lt c 58
 
--- the number of at most 18 digits that these write behind those of n
+-- the number of at most 18 digits that these write after those of n
 abbrev pub digits_after : (n : ℕ) → List ℕ → Option ℕ
 digits_after n [] = Some n
 digits_after n (c ∷ cs) = cond (is_digit c && nat_lt (10 * n + (c - 48)) (10 ^ 18)) (digits_after (10 * n + (c - 48)) cs) None
@@ -22,7 +22,7 @@ abbrev pub with_number : Option ℕ → (ℕ → Option (List ℕ)) → Option (
 with_number None others = None
 with_number (Some n) others = others n
 
--- the numbers that these write behind those of `ns`, if each of them writes one
+-- the numbers that these write after those of `ns`, if each of them writes one
 abbrev pub numbers_after : (ns : List ℕ) → List (List ℕ) → Option (List ℕ)
 numbers_after ns [] = Some ns
 numbers_after ns (word ∷ words) = with_number (number word) (λ n. numbers_after (ns ++ n ∷ []) words)
@@ -60,12 +60,12 @@ abbrev pub line_of : List ℕ → Line
 line_of [] = Silent
 line_of (c ∷ cs) = cond (c == 35) Silent (said (pause_in (slice_split (λ b. b == 32) (c ∷ cs))))
 
--- what a file is: a plan, or broken at a line, counted from 1
+-- what a file is: a plan, or malformed at a line, counted from 1
 pub data Reading : Type 0 where
   Reads : (ps : List Pause) → Reading
   Breaks : (line : ℕ) → Reading
 
--- the line of this number, behind those that say `ps`, and what comes of the others; a second pause of one kind for a request breaks the plan
+-- reads the line of this number, after those that say `ps`, and then the others; a second pause of one kind for a request breaks the plan
 abbrev pub with_line : (line : ℕ) → List Pause → Line → (List Pause → Reading) → Reading
 with_line line ps Silent others = others ps
 with_line line ps (Says p) others = cond (list_any (is_rival p) ps) (Breaks line) (others (ps ++ p ∷ []))
@@ -123,7 +123,7 @@ abbrev pub IsChange : Change → Type 0
 IsChange (Wait ticks) = IsNumber ticks
 IsChange (Clause clause) = IsNumber clause
 
--- none of the pauses behind these changes the same as an earlier one, and each has a way, and numbers that can be written
+-- no pause of the list changes the same thing as one before it or one of `before`; each has a way, and numbers that can be written
 abbrev pub ArePauses : (before : List Pause) → List Pause → Type 0
 ArePauses before [] = Unit {0}
 ArePauses before (p ∷ ps) = (IsWay p.way × IsNumber p.request × IsChange p.change) × (list_any (is_rival p) before ≡ false) × ArePauses (before ++ p ∷ []) ps

@@ -1,4 +1,4 @@
--- What a goroutine that keeps to a plan may do: told the same, it makes the same requests in the same order.
+-- What a goroutine that keeps to a plan may do: given the same replies, it makes the same requests in the same order.
 use Rattle.std.specs.Prelude.{◌≡◌, ℕ, Bool, true, ◌&&◌, ◌⊎◌, List, [], ◌∷◌, Option, Some}
 use Rattle.std.specs.List.{list_any}
 use Rattle.std.specs.Option.{is_some}
@@ -42,7 +42,7 @@ pub data Serves : Request → Request → Reply → Type 0 where
   -- a clause was tried, and done
   tried : {cases some : List Case} {default : Bool} {clause : ℕ} {got : Option (Item × Bool)} → ArePart cases some → Serves (Select cases default) (Select some true) (Clause clause got)
 
--- The same as a story, but that some clauses of a select may have been tried before it is made, in vain, and that requests serve others
+-- Like a story, but some clauses of a select may have been tried in vain before it is made, and requests serve others
 pub data Retold {S : Type 0} (K : Parts S) : S → List (Request × Reply) → S → Type 0 where
   over : {s : S} → Retold K s [] s
   slides : {s t u : S} {story : List (Request × Reply)} → K.next s ≡ Slides t → Retold K t story u → Retold K s story u

@@ -22,6 +22,6 @@ is_alike (Wait _) (Wait _) = true
 is_alike (Clause _) (Clause _) = true
 is_alike _ _ = false
 
--- both change the same of one request
+-- both change the same thing of one request
 abbrev pub is_rival : Pause → Pause → Bool
 is_rival p q = bytes_eq p.way q.way && ((p.request == q.request) && is_alike p.change q.change)

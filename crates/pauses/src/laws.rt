@@ -8,14 +8,14 @@ ghost use Rattle.pauses.specs.Laws.{Retold, Story};
 ghost use Rattle.pauses.specs.Paused.{PausedState, paused_parts};
 ghost use Rattle.pauses.specs.Plans.{Pause};
 
-/// Told the same, a goroutine that keeps to a plan makes the same requests in the same order as one that doesn't, but that it may
-/// first try a clause of a select in vain.
+/// Given the same replies, a goroutine that keeps to a plan makes the same requests in the same order as one that doesn't, except that it
+/// may first try a clause of a select in vain.
 pub fn paused_goroutines_keep_requests<S>()
     ensures { (K : Parts S) (ps : List Pause) (s t : PausedState S) (story : List (Request × Reply)) → Story (paused_parts K ps) s story t → Retold K s.state story t.state }
 {}
 
 /// What is written of a plan is read as that plan, if its numbers are from 1 on and have at most 18 digits, none of its ways is empty, and
-/// no two pauses change the same of one request.
+/// no two pauses change the same thing of one request.
 pub fn plans_are_read_again()
     ensures { (ps : List Pause) → IsPlan ps → read_bytes (plan_text ps) ≡ Reads ps }
 {}

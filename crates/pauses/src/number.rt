@@ -16,7 +16,7 @@ fn is_digit(byte: u8) -> bool
     47 < byte && byte < 58
 }
 
-/// The number that these digits write behind those of `before`.
+/// The number that these digits write after those of `before`.
 fn digits_after(before: u64, digits: &[u8]) -> Option<u64>
     requires { before < 10 ^ 18 }
     ensures { result ≡ digits_after before digits.now }

@@ -36,7 +36,7 @@ pub struct Pause {
 }
 
 impl Pause {
-    /// Whether both change the same of one request.
+    /// Whether both change the same thing of one request.
     pub(crate) fn is_rival(&self, other: &Pause) -> bool
         ensures { result ≡ is_rival (pause_of self.now) (pause_of other.now) }
     {
@@ -46,7 +46,7 @@ impl Pause {
     }
 }
 
-/// Pauses; of several that change the same of one request the first counts.
+/// Pauses; of several that change the same thing of one request the first counts.
 #[derive(Drop)]
 pub struct Plan {
     pub pauses: Vec<Pause>,

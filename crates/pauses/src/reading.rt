@@ -30,7 +30,7 @@ impl Plan {
     }
 }
 
-/// Whether one of these changes the same as this one.
+/// Whether one of the pauses changes the same thing as this one.
 fn has_rival(pauses: &[Pause], pause: &Pause) -> bool
     ensures { result ≡ list_any (is_rival (pause_of pause.now)) (pauses_of pauses.now) }
 {

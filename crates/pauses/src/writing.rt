@@ -11,7 +11,7 @@ use std::alloc::{AllocError, Global};
 
 impl Plan {
     /// The file of the plan, which `read` reads again if its numbers are from 1 on and have at most 18 digits, none of its ways is
-    /// empty, and no two pauses change the same of one request.
+    /// empty, and no two pauses change the same thing of one request.
     ///
     /// Errors: `Memory`.
     pub fn bytes(&self, alloc: Global) -> Result<Vec<u8>, Memory>

@@ -10,7 +10,7 @@ use Rattle.plan.specs.Plan.{Plan, Seq, IfElse, IfThen, Cycle, Endless, Choose, W
 use Rattle.plan.proofs.Lists.{length_if}
 use Rattle.plan.proofs.Places.{jump_behind_size, flat_size}
 
--- a plan's instructions come behind the old ones
+-- a plan's instructions come after the old ones
 abbrev pub Appends : (leave again : ℕ) (old new : List Instr) → Plan → Type 0
 Appends leave again old new p = new ≡ old ++ flat leave again (length old) p
 
@@ -54,7 +54,7 @@ appends_if_then leave again next i0 i1 i2 so e1 e2 en =
     let a = at leave again (length i0 + 1) i1 i2 so (omega (arith, ap length e1, length-append i0 (instrs.Unless next ∷ []))) e2 in
     onto i0 i1 i2 (instrs.Unless (length i0 + 1 + size so) ∷ []) (flat leave again (length i0 + 1) so) (e1 ∙ ap (λ n. i0 ++ instrs.Unless n ∷ []) en) a.0
 
--- what is done behind a loop's body, and the way back
+-- what is done after a loop's body, and the way back
 abbrev pub round : (leave again head place : ℕ) (body post : Plan) → List Instr
 round leave again head place body post = cond (turns body) (flat leave again place post ++ instrs.Loop head ∷ []) []
 

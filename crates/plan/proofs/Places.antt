@@ -102,11 +102,11 @@ leads_on : (is : List Instr) (p to : ℕ) (out : Option ℕ) → slice_get is p 
 leads_on is p to None at l = l
 leads_on is p to (Some q) at l = by_jump at l
 
--- a jump behind a part leads on where its end is reached
+-- a jump after a part leads on if the part's end is reached
 over : (is : List Instr) (part : Plan) (p to : ℕ) (out : Option ℕ) → Stand is p (jump_behind part to) → (IsTrue (reaches_end part) → Leads is to out) → IsTrue (reaches_end part) → Leads is p out
 over is part p to out h l e = leads_on is p to out (stand_if is p (reaches_end part) (instrs.Jump to ∷ []) e h).0 (l e)
 
--- a part whose end leads to what comes behind it, which stands at a place where it is reached
+-- a part whose end leads to what comes after it, which is there if the end is reached
 reached_at : (is : List Instr) (b : Bool) (m : ℕ) (A : Option ℕ → Type 0) (B : ℕ → Type 0) → ((to : Option ℕ) → (IsTrue b → Leads is m to) → A to) → (IsTrue b → B m) → (to : Option ℕ) × A to × IfSome to B
 reached_at is true m A B first rest = (Some m, first (Some m) (λ e. at_once), rest refl)
 reached_at is false m A B first rest = (None, first None (λ e. absurd (false≢true e)), tt)

@@ -1,4 +1,4 @@
--- What a select asks, and where it goes on.
+-- What a select requests, and where it continues.
 use Rattle.std.proofs.Common.{◌≡◌, ℕ, zero, suc, ◌+◌, List, [], ◌∷◌, ◌++◌, length, Option, Some, refl, ap, ◌∙◌, subst, slice_get}
 use Rattle.std.proofs.lemmas.Option.{same_Some}
 use Rattle.std.specs.Option.{is_some}
@@ -37,7 +37,7 @@ module _ (code : Code) (g : ℕ) (f : Function) (there : slice_get code.function
       ∙ ap (λ o. if_there o (λ t. if_there (cases_of code t.clauses xs) (λ c. Asks (Select c (is_some t.default))))) is
       ∙ ap (λ o. if_there o (λ c. Asks (Select c (is_some table.default)))) cs
 
-  -- it goes on where the way begins that was done, and is told the words of the reply
+  -- it continues where the chosen way begins, with the words of the reply
   pub select_answer : (q place : ℕ) (locals low xs : List Word) (table : SelectTable) (reply : Reply) (n to : ℕ) → slice_get f.instrs place ≡ Some (instrs.Select q) → pops code f (instrs.Select q) ≡ length xs → slice_get code.selects q ≡ Some table
       → way_of (Some table) (choice reply) ≡ n → slice_get (targets table) n ≡ Some to
       → code_answer code (spots code g f there callers place locals (low ++ xs)) reply ≡ record { function = g; place = to; locals = locals; stack = low; told = fitted (leaves code f (instrs.Select q) n []) (reply_words reply) } ∷ callers

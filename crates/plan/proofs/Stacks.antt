@@ -166,7 +166,7 @@ module _ (code : Code) (f : Function) where
     entry a ks Leave out t place end e s exit = s.0
     entry a ks Again out t place end e s exit = s.0
 
-    -- the breaks and continues of a plan lead behind its end, to places with an empty stack
+    -- the breaks and continues of a plan lead to its end or past it, with an empty stack
     record Reached (a : Allowed) (p : Plan) (leave again end : ℕ) : Type 0 where
       by_break : IsTrue a.break → IsTrue (has_break p) → (end ≤ leave) × (slice_get T leave ≡ Some [])
       by_continue : IsTrue a.continue → IsTrue (has_continue p) → (end ≤ again) × (slice_get T again ≡ Some [])
@@ -250,7 +250,7 @@ module _ (code : Code) (f : Function) where
             leads = λ k to w. (each k to (in_table k to w)).0;
           }
 
-      -- the ways of a select begin behind it, with their kinds
+      -- the ways of a select begin after it, with their kinds
       entered : (a : Allowed) (ks : List WordKind) (p : Plan) (out : List WordKind) (t : IsTyped a ks p out) (place end : ℕ) → end ≡ place + size p → Stand T place (stacks a ks p out t) → (IsTrue (reaches_end p) → slice_get T end ≡ Some out) → (k to : ℕ) → slice_get (starts place p) k ≡ Some to
           → (js : List WordKind) × (slice_get (entries p) k ≡ Some js) × (slice_get T to ≡ Some js) × (place ≤ to)
       entered a ks (Way js body others) out t place end e s exit zero to at =

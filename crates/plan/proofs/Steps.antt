@@ -101,7 +101,7 @@ module _ (code : Code) (g : ℕ) (f : Function) (there : slice_get code.function
   passes p q locals stack at_once = here
   passes p q locals stack (by_jump at on) = slips_more (code_next code) _ _ _ (jumps_to p _ locals stack at) (passes _ q locals stack on)
 
-  -- what was told goes onto the stack
+  -- the reply words go onto the stack
   pub takes_told : (place : ℕ) (locals stack ws : List Word) → Slips (code_next code) (record { function = g; place = place; locals = locals; stack = stack; told = ws } ∷ callers) (spots place locals (stack ++ ws))
   takes_told place locals stack [] = subst (λ (s : List Word). Slips (code_next code) (spots place locals stack) (spots place locals s)) (sym (append-nil stack)) here
   takes_told place locals stack (w ∷ ws) = more refl here
@@ -159,7 +159,7 @@ module _ (code : Code) (g : ℕ) (f : Function) (there : slice_get code.function
   pub fetched : (place : ℕ) (i : Instr) → slice_get f.instrs place ≡ Some i → fetch code g place ≡ Some i
   fetched place i at = ap (λ o. slice_get (instrs_of o) place) there ∙ at
 
-  -- what an instruction that asked leaves: the words of the reply are told
+  -- the state after a request: the words of the reply are pending
   pub answer : (place : ℕ) (locals low xs : List Word) (i : Instr) (reply : Reply) → slice_get f.instrs place ≡ Some i → pops code f i ≡ length xs → is_told i ≡ true
       → code_answer code (spots place locals (low ++ xs)) reply ≡ record { function = g; place = place + 1; locals = locals; stack = low; told = fitted (gives code f i []) (reply_words reply) } ∷ callers
   answer place locals low xs i reply at n is =

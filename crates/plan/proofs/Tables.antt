@@ -76,7 +76,7 @@ module _ (selects : List SelectTable) where
   Tabled place Leave = Unit {0}
   Tabled place Again = Unit {0}
 
-  -- behind the tables of a part
+  -- after the tables of a part
   beyond : (part : Plan) (place n : ℕ) (more rest : List SelectTable) → drop n selects ≡ (tables place part ++ more) ++ rest → (drop n selects ≡ tables place part ++ (more ++ rest)) × (drop (n + table_count part) selects ≡ more ++ rest)
   beyond part place n more rest e =
       let h = e ∙ append_assoc (tables place part) more rest in

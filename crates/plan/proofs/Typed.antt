@@ -61,8 +61,8 @@ abbrev pub in_select : Allowed → Allowed
 in_select a = record a { break = true }
 
 module _ (code : Code) (f : Function) where
-  -- from a stack of these kinds a plan leads to one of those. The stack is empty where a loop, a break or a continue stands and behind
-  -- a loop or a select; a return finds the results alone. What can't be reached is not asked
+  -- from a stack of these kinds a plan leads to one of those. The stack is empty at a loop, a break or a continue and after a loop or a
+  -- select; a return finds only the results. Unreachable code is not restricted
   abbrev pub Typed : Allowed → List WordKind → Plan → List WordKind → Type 0
   Typed a ks Skip out = ks ≡ out
   Typed a ks (Do i rest) out = IsPlain i × Named code f i × Fits code f i ks × Typed a (afterwards code f i 0 ks) rest out

@@ -50,7 +50,7 @@ past zero (w ∷ ws) ls le within = absurd (omega (arith, le))
 past (suc q) (w ∷ ws) [] le within = absurd (omega (arith, within))
 past (suc q) (w ∷ ws) (v ∷ ls) le within = past q ws ls (omega (arith, le)) (omega (arith, within))
 
--- and what lies behind them
+-- and what comes after them
 pub put_behind : (p q n : ℕ) (ws ls : Words) → p + length ws ≤ q → p + length ws ≤ length ls → part q n (put_at p ws ls) ≡ part q n ls
 put_behind zero q n ws ls le within = ap (part q n) (put_zero ws ls) ∙ ap (take n) (past q ws ls (omega (arith, le)) (omega (arith, within)))
 put_behind (suc p) zero n ws ls le within = absurd (omega (arith, le))
@@ -95,7 +95,7 @@ pub record Slot : Type 0 where
 abbrev pub end_of : Slot → ℕ
 end_of s = s.local + length s.kinds
 
--- each variable's locals lie behind those of the one before
+-- each variable's locals come after those of the one before
 abbrev pub Rising : ℕ → ℕ → List Slot → Type 0
 Rising b next [] = b ≤ next
 Rising b next (s ∷ sc) = (b ≤ s.local) × Rising (end_of s) next sc
@@ -142,7 +142,7 @@ holds_put ls (v ∷ env) (t ∷ sc) b next (suc x) s ws e n within r h have =
     let above = rising_above sc (end_of t) next x s e r.1 in
     (put_before s.local t.local (length t.kinds) ws ls above (omega (arith, within)) ∙ h.0, h.1, holds_put ls env sc (end_of t) next x s ws e n within r.1 h.2 have)
 
--- a new variable lies behind all others
+-- a new variable comes after all others
 pub holds_new : (ls : Words) (env : List Words) (sc : List Slot) (b next : ℕ) (ks : List WordKind) (ws : Words) → length ws ≡ length ks → next + length ks ≤ length ls → Rising b next sc → Holds ls env sc → AllHave ws ks → Holds (put_at next ws ls) (env ++ ws ∷ []) (sc ++ record { local = next; kinds = ks } ∷ [])
 holds_new ls [] [] b next ks ws n within r h have = (ap (λ m. part next m (put_at next ws ls)) (sym n) ∙ put_there next ws ls (omega (arith, within, n)), have, tt)
 holds_new ls [] (s ∷ sc) b next ks ws n within r h have = absurd h

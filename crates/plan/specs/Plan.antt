@@ -8,24 +8,24 @@ use Rattle.bytecode.specs.Code.{SelectTable}
 pub data Plan : Type 0 where
   -- no instruction
   Skip : Plan
-  -- an instruction that leads to the next one alone, and what comes behind it
+  -- an instruction that leads only to the next one, and what comes after it
   Do : (i : Instr) → (rest : Plan) → Plan
-  -- one behind the other
+  -- one after the other
   Seq : (first rest : Plan) → Plan
-  -- a truth value is popped: the one where it is true, else the other
+  -- pops a truth value: `so` if it is true, else `other`
   IfElse : (so other : Plan) → Plan
-  -- a truth value is popped: this where it is true
+  -- pops a truth value: `so` if it is true
   IfThen : (so : Plan) → Plan
-  -- a loop: a test that leaves a truth value, a body, what is done behind it before the test comes again, and what is done
-  -- where the test fails
+  -- a loop: a test that leaves a truth value, a body, what is done after the body before the next test, and what is done if the test
+  -- fails
   Cycle : (test body post exit : Plan) → Plan
   -- a loop without a test
   Endless : (body post : Plan) → Plan
   -- a select: its table's number, the table by where its ways begin, and its ways, the default's last
   Choose : (q : ℕ) → (make : List ℕ → SelectTable) → (ways : Plan) → Plan
-  -- a way of a select, the kinds with which it begins, and the ways behind it
+  -- a way of a select, the kinds with which it begins, and the ways after it
   Way : (ks : List WordKind) → (body others : Plan) → Plan
-  -- the way behind which there is no other
+  -- the last way
   LastWay : (ks : List WordKind) → (body : Plan) → Plan
   -- the function returns
   Stop : Plan
@@ -37,8 +37,8 @@ pub data Plan : Type 0 where
 -- ---- what can be reached
 
 abbrev mutual
-  -- whether what comes behind a plan can be reached from it. A test may fail; behind a select without ways, which waits for ever,
-  -- there is code nevertheless
+  -- whether what comes after a plan can be reached from it. A test may fail; after a select without ways, which waits forever, there is
+  -- code nevertheless
   pub reaches_end : Plan → Bool
   reaches_end Skip = true
   reaches_end (Do i rest) = reaches_end rest
@@ -54,7 +54,7 @@ abbrev mutual
   reaches_end Leave = false
   reaches_end Again = false
 
-  -- whether a break can be reached in it of a loop or select around it
+  -- whether a break of a loop or select around it can be reached in it
   pub has_break : Plan → Bool
   has_break Skip = false
   has_break (Do i rest) = has_break rest
@@ -70,7 +70,7 @@ abbrev mutual
   has_break Leave = true
   has_break Again = false
 
-  -- whether a continue can be reached in it of a loop around it
+  -- whether a continue of a loop around it can be reached in it
   pub has_continue : Plan → Bool
   has_continue Skip = false
   has_continue (Do i rest) = has_continue rest
@@ -90,13 +90,13 @@ abbrev mutual
 abbrev pub turns : Plan → Bool
 turns body = reaches_end body || has_continue body
 
--- ---- instructions. What can't be reached has none
+-- ---- instructions; unreachable code has none
 
--- a jump over what comes behind a part
+-- a jump over what comes after a part
 abbrev pub jump_behind : Plan → ℕ → List Instr
 jump_behind part to = cond (reaches_end part) (instrs.Jump to ∷ []) []
 
--- how many jumps that are
+-- how many jumps `jump_behind` has
 abbrev pub jump_size : Plan → ℕ
 jump_size part = cond (reaches_end part) 1 0
 
@@ -116,8 +116,8 @@ size Stop = 1
 size Leave = 1
 size Again = 1
 
--- the instructions from a place on, where a break and a continue lead to these places. In the body of a loop a break leads behind
--- the loop, and a continue to what is done behind the body; in a way of a select a break leads behind the select
+-- the instructions at `place`; a break leads to `leave`, a continue to `again`. In the body of a loop a break leads past the loop, and a
+-- continue to what is done after the body; in a way of a select a break leads past the select
 abbrev pub flat : ℕ → ℕ → ℕ → Plan → List Instr
 flat leave again place Skip = []
 flat leave again place (Do i rest) = i ∷ flat leave again (place + 1) rest
@@ -152,13 +152,13 @@ starts place (Way ks body others) = place ∷ starts (place + size body + jump_s
 starts place (LastWay ks body) = place ∷ []
 starts place plan = []
 
--- and with which kinds
+-- and the kinds with which they begin
 abbrev pub entries : Plan → List (List WordKind)
 entries (Way ks body others) = ks ∷ entries others
 entries (LastWay ks body) = ks ∷ []
 entries plan = []
 
--- the select tables of a plan that stands at a place, in order
+-- the select tables of a plan at `place`, in order
 abbrev pub tables : ℕ → Plan → List SelectTable
 tables place Skip = []
 tables place (Do i rest) = tables (place + 1) rest
@@ -178,7 +178,7 @@ tables place Stop = []
 tables place Leave = []
 tables place Again = []
 
--- how many they are
+-- how many there are
 abbrev pub table_count : Plan → ℕ
 table_count Skip = 0
 table_count (Do i rest) = table_count rest

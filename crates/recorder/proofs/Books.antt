@@ -42,7 +42,7 @@ settles_comes old (Committed event) new h =
 settles_comes old (Waiting n) new h = looks_later old h.only.0 new h.only.1
 settles_comes old (Ended ending) new h = (subst (λ (d : Desk). IsLater old d 0) (sym h.0) (record { code = refl; limit = refl; events = omega arith }), (h.1.moves, h.1.events, h.1.ending))
 
--- steps behind a settling that commits nothing
+-- steps after a settling that commits nothing
 pub later_still : (old mid new : Desk) → IsLater old mid 0 → IsLater mid new 0 → IsLater old new 0
 later_still old mid new one two = record {
   code = two.code ∙ one.code;

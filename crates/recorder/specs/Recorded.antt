@@ -11,12 +11,12 @@ use Rattle.word.specs.declared.request.Event.{Event as Recorded}
 use Rattle.word.specs.Views.{event_of}
 use Rattle.word.specs.Worlds.{end_of, moment}
 
--- the run ends so, after so many events
+-- the run ends with `ending`, after `before` events
 abbrev pub EndsAfter : Code → ℕ → ℕ → Ending → Type 0
 EndsAfter code limit before ending =
     (n : ℕ) × (length (moment (code_kind code) limit n).shared.shared.events ≡ before) × (end_of (moment (code_kind code) limit n) ≡ Some ending)
 
--- the book is of the same run, after so many events more
+-- the book is of the same run, `more` events later
 pub record IsLater (old new : Desk) (more : ℕ) : Type 0 where
   pub code : new.code ≡ old.code
   pub limit : new.limit ≡ old.limit

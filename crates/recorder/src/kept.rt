@@ -99,7 +99,7 @@ fn site_of<B: BookName>(book: &Book<B>, event: &Event) -> Option<Site> {
     })
 }
 
-/// The next event of the run, or its end; where a goroutine stands before it, it makes steps.
+/// The next event of the run, or its end; or `Waiting`, after local steps of a goroutine that is before it.
 fn next<B: BookName>(book: &mut Book<B>) -> Result<Settled, Memory>
     ensures { IfOk result (λ settled. Comes book.old settled book.new) }
 {

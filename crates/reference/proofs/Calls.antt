@@ -21,7 +21,7 @@ bound_settled globals [] arguments blocks = refl
 bound_settled globals (field ∷ rest) [] blocks = bound_settled globals rest [] (declare (holding globals.structs field.name (known field.kind) []) blocks)
 bound_settled globals (field ∷ rest) (argument ∷ arguments) blocks = bound_settled globals rest arguments (declare (holding globals.structs field.name (known field.kind) argument) blocks)
 
--- a function behind the first one
+-- a function after the first one
 pub later_function : (first : Function) (rest : List Function) (number : ℕ) → 1 ≤ number → slice_get (first ∷ rest) number ≡ slice_get rest (number - 1)
 later_function first rest zero some = absurd (omega (arith, some))
 later_function first rest (suc n) some = ap (slice_get rest) (let same : n ≡ suc n - 1 = omega arith in same)

@@ -18,7 +18,7 @@ use std::alloc::{AllocError, Global};
 use syntax::FunctionNode;
 use word::value::Word;
 
-/// The first so many words, and those behind them.
+/// The first `count` words, and the rest.
 fn parted(words: &[Word], count: usize) -> (&[Word], &[Word])
     ensures first { result.0.now ≡ take count words.now }
     ensures rest { result.1.now ≡ drop count words.now }

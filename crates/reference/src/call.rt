@@ -32,7 +32,7 @@ pub(crate) struct Parameter<'t> {
     pub(crate) kind: ValueType<'t>,
 }
 
-/// Parameters of one type, and those behind them.
+/// Parameters of one type, followed by `rest`.
 fn before<'t>(
     names: &'t [Name],
     kind: ValueType<'t>,

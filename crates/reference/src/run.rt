@@ -15,7 +15,7 @@ use std::alloc::Global;
 use word::Write;
 use word::end::End;
 
-/// Runs a program as its source says, up to the clock limit (1 to 2^62 steps), and answers how the run ended. What is
+/// Runs a program as its source says, up to the clock limit (1 to 2^62 steps), and returns how the run ended. What is
 /// written begins the output of the program; at an end it is all of it.
 ///
 /// Errors: `BadLimit`; `Write`; `Memory`.

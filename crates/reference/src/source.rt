@@ -10,7 +10,7 @@ use std::alloc::Global;
 use word::request::Reply;
 use word::value::Word;
 
-/// A program, interpreted. Its goroutines are functions that wait for one another, the one called last behind.
+/// A program, interpreted. Its goroutines are functions that wait for one another, the one called last at the end.
 #[derive(Drop)]
 pub struct Source<'t> {
     pub program: Program<'t>,

@@ -110,7 +110,7 @@ fn restored<'t>(
     Ok(Frame { position, given })
 }
 
-/// The function that runs does its next task, behind which the others at `position` are to be done.
+/// The function that runs does its next task; the others at `position` are to be done after it.
 #[tactic(auto, using(reference_scope::proofs::Lasts::shown_last))]
 fn does<'t>(
     alloc: Global,
@@ -148,7 +148,7 @@ fn does<'t>(
     }
 }
 
-/// The next step of a goroutine. One that asks stays as it is.
+/// The next step of a goroutine. One that makes a request stays as it is.
 #[tactic(auto, using(reference_scope::proofs::Lasts::shown_last))]
 pub(crate) fn step<'t>(
     alloc: Global,
@@ -167,7 +167,7 @@ pub(crate) fn step<'t>(
     }
 }
 
-/// A goroutine that asked gets this reply.
+/// A goroutine that made a request gets this reply.
 #[tactic(auto, using(reference_scope::proofs::Lasts::shown_last))]
 pub(crate) fn answer(frames: &mut Vec<Frame<'_>>, reply: Reply) -> Result<(), Memory>
     ensures { (types : List (List ℕ)) → OnOk result (frames_of types frames.new.items ≡ source_answer (frames_of types frames.old.items) (reply_of reply)) }

@@ -34,7 +34,7 @@ pub enum Destination<'t> {
     Into(&'t [u8], Slot<'t>),
 }
 
-/// Where a name that is declared puts its value.
+/// Where the value of a declared name goes.
 pub fn new<'t>(name: &'t [u8], kind: ValueType<'t>) -> Destination<'t>
     ensures { (types : List (List ℕ)) → destination_of types result ≡ declared name.now (kind_of types kind.entry) }
 {
@@ -45,7 +45,7 @@ pub fn new<'t>(name: &'t [u8], kind: ValueType<'t>) -> Destination<'t>
     }
 }
 
-/// Where a name of a `:=` puts its value.
+/// Where the value of a name of a `:=` goes.
 fn defined<'t>(scope: &Scope<'t>, name: &'t [u8], kind: ValueType<'t>) -> Destination<'t>
     ensures { (types : List (List ℕ)) → destination_of types result ≡ defined_in (blocks_of types scope.now) name.now (kind_of types kind.entry) }
 {
@@ -64,7 +64,7 @@ fn defined<'t>(scope: &Scope<'t>, name: &'t [u8], kind: ValueType<'t>) -> Destin
     }
 }
 
-/// Where names that are declared with these types put their values.
+/// Where the values of names that are declared with these types go.
 pub fn all_new<'a, 't>(
     alloc: Global,
     table: &'a TypeTable<'t>,
@@ -84,7 +84,7 @@ pub fn all_new<'a, 't>(
     with_first(new(name.bytes.as_slice(), *kind), others)
 }
 
-/// Where names that are declared with this type put their values.
+/// Where the values of names that are declared with this type go.
 pub fn all_typed<'a, 't>(
     alloc: Global,
     table: &'a TypeTable<'t>,
@@ -101,7 +101,7 @@ pub fn all_typed<'a, 't>(
     with_first(new(name.bytes.as_slice(), kind), others)
 }
 
-/// Where the names of a `:=` put their values.
+/// Where the values of the names of a `:=` go.
 pub fn all_defined<'a, 't>(
     alloc: Global,
     table: &'a TypeTable<'t>,
@@ -132,7 +132,7 @@ fn place_slot<'t>(table: &TypeTable<'t>, scope: &Scope<'t>, place: &PlaceNode) -
     slot_in(table, kind, place.fields.as_slice())
 }
 
-/// Where a place puts its value.
+/// Where the value of a place goes.
 pub fn placed<'t>(table: &TypeTable<'t>, scope: &Scope<'t>, place: &'t PlaceNode) -> Destination<'t>
     ensures { destination_of (types_of table.now) result ≡ placed (globals_in table.now) (blocks_of (types_of table.now) scope.now) (place_of place.now) }
 {
@@ -144,7 +144,7 @@ pub fn placed<'t>(table: &TypeTable<'t>, scope: &Scope<'t>, place: &'t PlaceNode
     }
 }
 
-/// Where places put their values.
+/// Where the values of places go.
 pub fn all_placed<'a, 't>(
     alloc: Global,
     table: &'a TypeTable<'t>,

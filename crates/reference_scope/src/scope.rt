@@ -53,7 +53,7 @@ impl Drop for Scope<'_> {
     }
 }
 
-/// The variable of this name, the newest one of more.
+/// The variable of this name, the newest one if there are more.
 #[tactic(auto, using(crate::proofs::Newer::shown_take))]
 fn find<'a, 't>(variables: &'a [Variable<'t>], name: &[u8]) -> Option<&'a Variable<'t>>
     ensures { (types : List (List ℕ)) → option_map (binding_of types) (option_copied result) ≡ in_block (newest_first types variables.now) name.now }
@@ -82,7 +82,7 @@ fn find_in<'a, 't>(blocks: &'a [Block<'t>], name: &[u8]) -> Option<&'a Variable<
     }
 }
 
-/// These words, where from a place on they are others.
+/// The words of `old`, with `new` written over them from `from` on.
 fn written(alloc: Global, from: usize, new: &[Word], old: &[Word]) -> Result<Vec<Word>, AllocError>
     ensures { IfOk result (λ v. v.items ≡ written from new.now old.now) }
 {
@@ -100,7 +100,7 @@ fn written(alloc: Global, from: usize, new: &[Word], old: &[Word]) -> Result<Vec
     Ok(words)
 }
 
-/// The variable, with these words from a place on.
+/// The variable, with these words from `from` on.
 fn changed<'t>(
     alloc: Global,
     mut variable: Variable<'t>,
@@ -126,7 +126,7 @@ fn put_back<'t>(
     Ok(())
 }
 
-/// Gives the variable of this name, the newest one of more, these words from a place on.
+/// Gives the variable of this name, the newest one if there are more, these words from `from` on.
 fn put_in(
     alloc: Global,
     variables: &mut Vec<Variable<'_>>,
@@ -147,7 +147,7 @@ fn put_in(
     put_back(variables, newer)
 }
 
-/// Gives the variable of this name in the innermost block that has one these words from a place on.
+/// Gives the variable of this name in the innermost block that has one these words from `from` on.
 #[tactic(auto, using(crate::proofs::Lasts::shown_last))]
 fn put(
     alloc: Global,
@@ -189,7 +189,7 @@ impl<'t> Scope<'t> {
         }
     }
 
-    /// Goes into a block.
+    /// Enters a block.
     #[tactic(auto, using(crate::proofs::Lasts::shown_last))]
     pub fn enter(&mut self, alloc: Global) -> Result<(), AllocError>
         ensures { (types : List (List ℕ)) → OnOk result (blocks_of types self.new ≡ entered (blocks_of types self.old)) }
@@ -225,7 +225,7 @@ impl<'t> Scope<'t> {
         Ok(())
     }
 
-    /// Gives the variable of this name these words from a place on.
+    /// Gives the variable of this name these words from `from` on.
     pub fn assign(
         &mut self,
         alloc: Global,

@@ -60,7 +60,7 @@ pub fn with_first<T: Drop>(first: T, others: Vec<T>) -> Result<Vec<T>, AllocErro
     Ok(all)
 }
 
-/// Puts an entry behind the others.
+/// Appends an entry to the others.
 pub fn put_last<T: Drop>(list: &mut Vec<T>, entry: T) -> Result<(), AllocError>
     ensures { OnOk result (list.new.items ≡ list.old.items ++ entry ∷ []) }
 {
@@ -75,7 +75,7 @@ pub fn wrapped(number: i128) -> i64
     (number.rem_euclid(1 << 64).unsigned_abs() as u64).cast_signed()
 }
 
-/// A word like this zero; the zero where it is of another kind.
+/// A word like this zero; the zero if it is of another kind.
 fn word_like(zero: Word, word: Word) -> Word
     ensures { result ≡ word_like zero word }
 {
@@ -87,7 +87,7 @@ fn word_like(zero: Word, word: Word) -> Word
     }
 }
 
-/// Words like these zeros, and zeros where there are no more.
+/// Words like these zeros, and zeros if there are no more.
 pub fn words_like(alloc: Global, zeros: &[Word], words: &[Word]) -> Result<Vec<Word>, AllocError>
     ensures words { IfOk result (λ v. v.items ≡ words_like zeros.now words.now) }
     ensures count { IfOk result (λ v. length v.items ≡ length zeros.now) }
@@ -105,7 +105,7 @@ pub fn words_like(alloc: Global, zeros: &[Word], words: &[Word]) -> Result<Vec<W
     }
 }
 
-/// What an operator gave; a zero where its operands were of other kinds.
+/// What an operator gave; a zero if its operands were of other kinds.
 fn one_word(valued: Option<Result<Word, Panic>>) -> Result<Word, Panic>
     ensures ok { IfOk result (λ w. one_word valued ≡ ready (w ∷ [])) }
     ensures err { IfErr result (λ p. one_word valued ≡ fails p) }
@@ -165,7 +165,7 @@ fn operator_at(operator: BinaryOperator, word: Word) -> Op
     }
 }
 
-/// What an operator between two words makes of them. Where `&&` and `||` need the right one, it is their value.
+/// What an operator between two words makes of them. If `&&` or `||` needs the right one, it is their value.
 ///
 /// Errors: the panic that it meets.
 pub fn between(operator: BinaryOperator, a: Word, b: Word) -> Result<Word, Panic>

@@ -7,7 +7,7 @@ use Rattle.meaning.specs.Source.{at_clause}
 use Rattle.meaning.specs.Tasks.{Task}
 use Rattle.meaning.specs.Variables.{Blocks}
 
--- a clause behind the first one
+-- a clause after the first one
 pub later_clause : (globals : Globals) (blocks : Blocks) (rest : List Task) (comm : Comm) (body : Statements) (more : Clauses) (number : ℕ) (words : List Word) → 2 ≤ number
     → at_clause globals blocks rest (Clause (Some comm) body more) number words ≡ at_clause globals blocks rest more (number - 1) words
 later_clause globals blocks rest comm body more zero words far = absurd (omega (arith, far))

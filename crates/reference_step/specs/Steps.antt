@@ -18,7 +18,7 @@ use Rattle.reference_task.specs.declared.outcome.Outcome.{Outcome}
 use Rattle.reference_task.specs.declared.outcome.Outcome.TheVariants as outcomes
 use Rattle.reference_task.specs.Tasks.{position_of, tasks_of}
 
--- what a task works out to, where these are the variables and these are to be done behind it
+-- what a task works out to, if these are the variables and these tasks are to be done after it
 abbrev pub Work : Type 0
 Work = Globals → Blocks → List Task → Worked OneCourse
 

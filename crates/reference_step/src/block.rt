@@ -12,8 +12,8 @@ use reference_task::task::{Position, Task};
 use std::alloc::{AllocError, Global};
 use syntax::{SimpleNode, StatementNode};
 
-// The arms below drop a task by a call. One that goes out of scope behind a `match` is proved to be dropped in each arm for each of its
-// variants, which takes five times as long.
+// The arms below drop a task by a call. One that goes out of scope after a `match` is proved to be dropped in each arm
+// for each of its variants, which takes five times as long.
 
 /// Leaves a loop or a select.
 pub fn leave(top: &mut Position<'_>)

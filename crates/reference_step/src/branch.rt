@@ -42,7 +42,7 @@ pub(crate) fn branch<'t>(
     Ok(Course::Goes)
 }
 
-/// What stands behind the block of an if.
+/// What stands after the block of an if.
 fn otherwise<'t>(
     alloc: Global,
     program: &Program<'t>,
@@ -79,7 +79,7 @@ fn decides<'t>(
     otherwise(alloc, program, top, &branch.otherwise)
 }
 
-/// An if, behind its first statement.
+/// An if, after its first statement.
 ///
 /// Errors: the panic that is met first; what has to be done next; `Memory`.
 pub(crate) fn decide<'t>(

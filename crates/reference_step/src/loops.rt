@@ -202,7 +202,7 @@ pub(crate) fn for_loop<'t>(
     }
 }
 
-/// Goes into a block, in which what was received is assigned where there is a left side.
+/// Goes into a block, in which what was received is assigned if there is a left side.
 pub(crate) fn assigned<'t>(
     alloc: Global,
     table: &TypeTable<'t>,
@@ -238,7 +238,7 @@ fn with_item<'t>(
     assigned(alloc, table, top, at.destinations.as_slice(), values)
 }
 
-/// A loop over a channel goes on with what was received; where that is no item, it has ended.
+/// A loop over a channel goes on with what was received; if that is no item, it has ended.
 fn next_item<'t>(
     alloc: Global,
     table: &TypeTable<'t>,

@@ -66,7 +66,7 @@ fn back<'t>(
     }
 }
 
-/// What becomes of a statement.
+/// Performs a statement.
 ///
 /// Errors: the panic that is met first; what has to be done next; `Memory`.
 pub(crate) fn statement<'t>(

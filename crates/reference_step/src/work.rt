@@ -18,7 +18,7 @@ use reference_value::fault::Stop;
 use reference_value::given::Given;
 use std::alloc::Global;
 
-/// What becomes of a task, behind which the others of `top` are to be done.
+/// Works on a task, after which the others of `top` are to be done.
 ///
 /// Errors: the panic that is met first; what has to be done next; `Memory`.
 pub fn work<'t>(

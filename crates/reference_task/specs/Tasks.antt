@@ -34,7 +34,7 @@ abbrev pub loop_of : List (List ℕ) → Loop → OneLoop
 loop_of types (loops.Repeating loop) = repeat_in loop.value
 loop_of types (loops.Ranging loop) = range_in types loop.value
 
--- an if, behind its first statement
+-- an if, after its first statement
 abbrev pub decided : Branch → OneTask
 decided (Conditional head condition body otherwise) = Decide condition body otherwise
 

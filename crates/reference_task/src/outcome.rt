@@ -11,7 +11,7 @@ pub enum Course {
     Moves,
 }
 
-/// What becomes of a task, once all within it is done.
+/// The outcome of a task, once all within it is done.
 #[derive(Drop)]
 pub enum Outcome {
     /// The function goes on.

@@ -38,7 +38,7 @@ pub enum Loop<'t> {
 }
 
 impl<'t> Range<'t> {
-    /// The same loop.
+    /// A copy of this loop.
     pub fn copy(&self, alloc: Global) -> Result<Range<'t>, AllocError>
         ensures destinations { IfOk result (λ range. range.destinations.items ≡ self.now.destinations.items) }
         ensures zero { IfOk result (λ range. range.zero.items ≡ self.now.zero.items) }
@@ -53,7 +53,7 @@ impl<'t> Range<'t> {
 }
 
 impl<'t> Loop<'t> {
-    /// The same loop.
+    /// A copy of this loop.
     pub fn copy(&self, alloc: Global) -> Result<Loop<'t>, AllocError>
         ensures { (types : List (List ℕ)) → IfOk result (λ copy. loop_of types copy ≡ loop_of types self.now) }
     {
@@ -77,7 +77,7 @@ pub enum Task<'t> {
     Enclose(Box<&'t [StatementNode]>),
     /// The end of a block.
     EndBlock,
-    /// An if, behind its first statement.
+    /// An if, after its first statement.
     Decide(Box<&'t IfNode>),
     /// A loop at its head.
     Head(Loop<'t>),

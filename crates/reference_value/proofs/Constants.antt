@@ -12,7 +12,7 @@ use Rattle.meaning.specs.Variables.{Blocks, lookup, value_of}
 use Rattle.meaning.specs.Worked.{Worked, ready}
 use Rattle.reference_value.specs.Values.{by_parts}
 
--- what is worth a constant is its word
+-- an expression with a constant value gives the constant's word
 pub exactly_some : (w v : Option Worth) (other all : Worked Value) (made : Option Word) → all ≡ exactly v other → w ≡ v
     → IfSome made (λ word. (o : Worked Value) → exactly w o ≡ ready (word ∷ [])) → IfSome made (λ word. all ≡ ready (word ∷ []))
 exactly_some w v other all None is same given = tt
@@ -23,7 +23,7 @@ pub exactly_none : (w v : Option Worth) (other all : Worked Value) (made : Optio
 exactly_none w v other all None is same given = is ∙ (rw same at given other)
 exactly_none w v other all (Some word) is same given = tt
 
--- an operator between two that is worth no constant is a comparison, or the operator's own value
+-- an operator between two operands, whose result is no constant, is a comparison, or the operator's own value
 pub compared_some : (operator : BinaryOperator) (w v a l b r : Option Worth) (other all : Worked Value) (made : Option Word) → all ≡ exactly v (compared operator l r other) → w ≡ v → a ≡ l → b ≡ r
     → ((o : Worked Value) → exactly w o ≡ o)
     → IfSome made (λ word. (o : Worked Value) → compared operator a b o ≡ ready (word ∷ [])) → IfSome made (λ word. all ≡ ready (word ∷ []))

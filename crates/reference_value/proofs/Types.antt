@@ -43,7 +43,7 @@ also_kinds count first [] = not_sent (count == 2)
 also_kinds count first (only ∷ []) = sent ((count == 2) && is_receive only) (nodes_of first only)
 also_kinds count first (one ∷ (other ∷ rest)) = not_sent (count == 2)
 
--- the values of a right side, and whether an item was sent, where one receive stands for two places
+-- the values of a right side, and whether an item was sent, if one receive stands for two lvalues
 pub kinds_given : (globals : Globals) (blocks : Blocks) (count : ℕ) (right : List Expression)
     → given_kinds globals blocks count right ≡ map (type_of globals blocks) right ++ cond ((count == 2) && is_lone_receive right) (BoolType ∷ []) []
 kinds_given globals blocks count right =

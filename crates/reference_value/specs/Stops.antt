@@ -1,4 +1,4 @@
--- What calls and requests gave, in memory, and what is known where evaluating comes to a value or stops.
+-- What calls and requests gave, in memory, and what is known if evaluating comes to a value or stops.
 use Rattle.std.specs.Prelude.{◌≡◌, List, map}
 use Rattle.word.specs.Views.{request_of, reply_of}
 use Rattle.meaning.specs.Worked.{Given as OneGiven, Told, Yielded, Need as OneNeed, Asking, Calling, Worked, Came, Fails, Needs}

@@ -1,4 +1,4 @@
-//! What calls and types within expressions stand for, where variables are those of a run.
+//! What calls and types within expressions stand for, if variables are those of a run.
 
 ghost use Rattle.std.specs.Option.{option_copied};
 ghost use Rattle.std.specs.Prelude.{◌≡◌, ℕ, List, option_map};

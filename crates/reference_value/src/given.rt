@@ -42,7 +42,7 @@ impl Drop for Given {
 
 /// What this gave, and what is left of what was given.
 ///
-/// Errors: `Needs` where nothing was given yet; `Memory`.
+/// Errors: `Needs` if nothing was given yet; `Memory`.
 pub fn needs(alloc: Global, need: Need, given: &[Given]) -> Result<(&Given, &[Given]), Stop>
     ensures ok { IfOk result (λ r. Comes (needs (need_of need)) given.now (given_of r.0.now) r.1.now) }
     ensures err { IfErr result (Stops (needs (need_of need)) given.now) }

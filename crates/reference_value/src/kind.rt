@@ -1,4 +1,4 @@
-//! The types of expressions and of right sides, where variables are those of a run.
+//! The types of expressions and of right sides, if variables are those of a run.
 
 ghost use Rattle.std.specs.Prelude.{◌≡◌, ◌∷◌, ◌==◌, ◌&&◌, [], ℕ, List, IfOk, IfSome, option_map, map};
 ghost use Rattle.std.specs.Option.{is_some};
@@ -26,7 +26,7 @@ use syntax::{ExpressionNode, TypeNode};
 use type_table::table::TypeTable;
 use type_table::value_type::{ValueType, element_in};
 
-/// The type that a variable takes from what is worth this.
+/// The type that a variable takes from a value of this type or constant value.
 fn default_kind<'t>(worth: Option<Worth<'t>>) -> ValueType<'t>
     ensures { (types : List (List ℕ)) → kind_of types result ≡ known (default_type (option_map (worth_of types) worth.entry)) }
 {
@@ -47,7 +47,7 @@ pub fn kind_in<'t>(
     default_kind(worth(table, scope, expression))
 }
 
-/// What a channel carries that is worth this.
+/// What a channel of this type carries.
 fn carried<'t>(table: &TypeTable<'_>, worth: Option<Worth<'t>>) -> ValueType<'t>
     ensures { kind_of (types_of table.now) result ≡ known (element_of (option_map (worth_of (types_of table.now)) worth.entry)) }
 {
@@ -109,8 +109,7 @@ pub(crate) fn received_from(count: usize, right: &[ExpressionNode]) -> Option<&E
     }
 }
 
-/// The types of the values that a right side gives to `count` places: one receive gives two of them the item and whether it
-/// was sent.
+/// The types of the values that a right side gives to `count` lvalues: one receive gives two of them the item and whether it was sent.
 #[tactic(auto, using(crate::proofs::Types::kinds_given))]
 pub fn given_kinds<'t>(
     alloc: Global,

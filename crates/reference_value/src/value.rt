@@ -67,7 +67,7 @@ fn fixed(name: &[u8]) -> Option<Word>
     }
 }
 
-/// The word of what is worth an exact constant.
+/// The word of an exact constant.
 fn number(table: &TypeTable<'_>, worth: Option<Worth<'_>>) -> Option<Word>
     ensures some { IfSome result (λ word. (other : Worked Value) → exactly (option_map (worth_of (types_of table.now)) worth.entry) other ≡ ready (word ∷ [])) }
     ensures none { IfNone result ((other : Worked Value) → exactly (option_map (worth_of (types_of table.now)) worth.entry) other ≡ other) }
@@ -251,7 +251,7 @@ pub fn value<'a, 'g, 't>(
     }
 }
 
-/// The value of an operator between a word and an operand, which `&&` and `||` evaluate only where the word doesn't settle them.
+/// The value of an operator between a word and an operand, which `&&` and `||` evaluate only if the word doesn't settle them.
 ///
 /// Errors: the panic that is met first; what has to be done next; `Memory`.
 #[cycle(value)]
@@ -399,7 +399,7 @@ pub fn values<'a, 'g, 't>(
     Ok((made, left))
 }
 
-/// The values that a right side gives to `count` places: one receive gives two of them the item and whether it was sent.
+/// The values that a right side gives to `count` lvalues: one receive gives two of them the item and whether it was sent.
 ///
 /// Errors: the panic that is met first; what has to be done next; `Memory`.
 #[tactic(auto, using(crate::proofs::Rights::all_values))]

@@ -1,4 +1,4 @@
-//! What expressions are worth to the typing rules, where variables are those of a run.
+//! The types and constant values that the typing rules give to expressions, if the variables are those of a run.
 
 ghost use Rattle.std.specs.Prelude.{◌≡◌, ℕ, List, IfSome, option_map, option_and_then};
 ghost use Rattle.std.specs.Result.{result_ok};
@@ -20,7 +20,7 @@ use type_table::scope::{is_nil, is_truth};
 use type_table::table::TypeTable;
 use type_table::value_type::{ValueType, element_in};
 
-/// What a name is worth as an operand.
+/// The type of a name as an operand.
 fn named_worth<'t>(scope: &Scope<'t>, name: &[u8]) -> Option<Worth<'t>>
     ensures worth { (types : List (List ℕ)) → option_map (worth_of types) result ≡ named_worth (scope_in (blocks_of types scope.now)) name.now }
     ensures small { IfSome result IsSmall }
@@ -37,7 +37,7 @@ fn named_worth<'t>(scope: &Scope<'t>, name: &[u8]) -> Option<Worth<'t>>
     }
 }
 
-/// What a field of an operand is worth.
+/// The type of a field of an operand.
 fn selected_worth<'t>(table: &TypeTable<'t>, whole: Worth<'_>, field: &[u8]) -> Option<Worth<'t>>
     ensures worth { option_map (worth_of (types_of table.now)) result ≡ selected_worth (globals_in table.now) field.now (worth_of (types_of table.now) whole.entry) }
     ensures small { IfSome result IsSmall }
@@ -51,7 +51,7 @@ fn selected_worth<'t>(table: &TypeTable<'t>, whole: Worth<'_>, field: &[u8]) -> 
     }
 }
 
-/// The number of the struct that a literal's name stands for; where a variable hides it, none.
+/// The number of the struct that a literal's name stands for; none if a variable hides it.
 fn literal_struct(table: &TypeTable<'_>, scope: &Scope<'_>, name: &[u8]) -> Option<usize>
     ensures { result ≡ literal_struct (globals_in table.now) (scope_in (blocks_of (types_of table.now) scope.now)) name.now }
 {
@@ -91,7 +91,7 @@ fn between<'t>(
     }
 }
 
-/// What a call is worth: `None` where it gives no value.
+/// The type of a call: `None` if it gives no value.
 fn called_worth<'t>(table: &TypeTable<'t>, scope: &Scope<'t>, name: &[u8]) -> Option<Worth<'t>>
     ensures worth { option_map (worth_of (types_of table.now)) result ≡ option_map Typed (result_type (globals_in table.now) (callee (globals_in table.now) (scope_in (blocks_of (types_of table.now) scope.now)) name.now)) }
     ensures small { IfSome result IsSmall }
@@ -102,7 +102,7 @@ fn called_worth<'t>(table: &TypeTable<'t>, scope: &Scope<'t>, name: &[u8]) -> Op
     }
 }
 
-/// What a new channel is worth: `None` where the type is no channel's.
+/// The type of a new channel: `None` if the type is no channel's.
 fn made_worth<'t>(table: &TypeTable<'t>, scope: &Scope<'t>, kind: &'t TypeNode) -> Option<Worth<'t>>
     ensures worth { option_map (worth_of (types_of table.now)) result ≡ option_map Typed (made_of (type_in (types_of table.now) (scope_in (blocks_of (types_of table.now) scope.now)) (type_of kind.now))) }
     ensures small { IfSome result IsSmall }
@@ -115,7 +115,7 @@ fn made_worth<'t>(table: &TypeTable<'t>, scope: &Scope<'t>, kind: &'t TypeNode) 
     }
 }
 
-/// What is received from a channel that is worth this.
+/// The type of what is received from this channel.
 fn received<'t>(table: &TypeTable<'_>, channel: Option<Worth<'t>>) -> Option<Worth<'t>>
     ensures worth { option_map (worth_of (types_of table.now)) result ≡ option_map Typed (element_of (option_map (worth_of (types_of table.now)) channel.entry)) }
     ensures small { IfSome result IsSmall }
@@ -128,7 +128,7 @@ fn received<'t>(table: &TypeTable<'_>, channel: Option<Worth<'t>>) -> Option<Wor
     }
 }
 
-/// What an expression is worth: `None` where it, or an operand of it, has a flaw.
+/// The type or constant value of an expression: `None` if it, or an operand of it, violates a rule.
 pub fn worth<'a, 't>(
     table: &'a TypeTable<'t>,
     scope: &'a Scope<'t>,

@@ -1,4 +1,4 @@
--- What goroutines share does a request as those who meet do it.
+-- The shared state performs a request as the meeting does.
 use Rattle.std.proofs.Common.{◌≡◌, ℕ, Result, IfOk}
 use Rattle.std.proofs.lemmas.Result.{IfOk-weaker}
 use Rattle.word.specs.Values.{Request, Shared}

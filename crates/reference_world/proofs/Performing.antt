@@ -7,7 +7,7 @@ use Rattle.reference_world.specs.Deeds.{Acts, History, IsShownBy, MeetingValue, 
 use Rattle.reference_world.specs.declared.deed.Deed.{Deed as Did}
 use Rattle.reference_world.specs.declared.deed.Deed.TheVariants as did
 
--- what is shared is what is told of it, with its lists
+-- what is shared is what the history and `v` show of it
 whole : (w : Shared) (v : SharedValue) → IsShownBy w v → shared_with (history_of w) v v.meeting ≡ w
 whole w v s = rw (s.asleep, s.channels, s.live, s.made, s.ending) refl
 
@@ -24,7 +24,7 @@ ends_itself h n c q (did.Ends end) v m e = refl
 one_more : (es : List Event) (e : Event) (k : ℕ) → k ≡ length es → k + 1 ≡ length (es ++ e ∷ [])
 one_more es e k is = rw (is, length-append) refl
 
--- after a deed what is shared is what is told of it then
+-- after a deed its `v` shows what is shared
 shown_after : (h : History) (n c : ℕ) (q : Request) (deed : Did) (v : SharedValue) (k : ℕ) → k ≡ length h.events → v.events ≡ k + 1 → v.ending ≡ ending_of deed → IsShownBy (deed_of h n c q deed v v.meeting).shared v
 shown_after h n c q (did.Done reply woken) v k is e d = record { asleep = refl; channels = refl; live = refl; made = refl; events = e ∙ one_more h.events _ k is; ending = refl }
 shown_after h n c q (did.Prints bytes) v k is e d = record { asleep = refl; channels = refl; live = refl; made = refl; events = e ∙ one_more h.events _ k is; ending = refl }

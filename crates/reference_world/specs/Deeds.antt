@@ -52,7 +52,7 @@ pub record History : Type 0 where
 abbrev pub history_of : Shared → History
 history_of w = record { output = w.output; events = w.events }
 
--- all that is shared, after this history, where those who sleep and the channels are these
+-- all that is shared, after history h, with the sleepers and the channels of m
 abbrev pub shared_with : History → SharedValue → MeetingValue → Shared
 shared_with h v m = record {
   asleep = m.asleep;
@@ -64,7 +64,7 @@ shared_with h v m = record {
   ending = v.ending;
 }
 
--- after this history goroutine n, at clock c, asked q
+-- after this history goroutine n, at clock c, made request q
 module _ (h : History) (n c : ℕ) (q : Request) where
   -- all that is shared after the event of this outcome
   abbrev pub with_event : SharedValue → MeetingValue → EventOutcome → List ℕ → Shared
@@ -106,7 +106,7 @@ ending_of (did.Panics cause clause) = Some (Panicked cause)
 ending_of (did.Ends end) = Some end
 ending_of deed = None
 
--- of goroutine n, which asked q, this is done to those who sleep and the channels, whatever else is shared
+-- what the request q of goroutine n does to the sleepers and the channels, whatever else is shared
 abbrev pub Does : (Shared → ℕ → Deed) → MeetingValue → ℕ → Request → Did → MeetingValue → Type 0
 Does what old n q deed new = (h : History) (v : SharedValue) (c : ℕ) → what (shared_with h v old) c ≡ deed_of h n c q deed v new
 
@@ -124,13 +124,13 @@ Performs old n c q deed new =
     (w : Shared) → IsShownBy w old
     → (perform w n c q ≡ deed_of (history_of w) n c (meant w n q) deed new new.meeting) × IsShownBy (perform w n c q).shared new
 
--- ---- channels and those who sleep
+-- ---- channels and sleepers
 
--- what is told of a sleeper and its offer
+-- a sleeper and its offer as a partner
 abbrev pub met : Sleeper × Offer → Partner
 met p = record { number = p.0.number; offer = p.1 }
 
--- what those are told whom a close wakes, z being the zero item
+-- the replies to the goroutines that a close wakes, z being the zero item
 abbrev pub closed_for : Item → List (Sleeper × Offer) → List (ℕ × Reply)
 closed_for z ps = map (λ (p : Sleeper × Offer). (p.0.number, close_reply z p.1)) ps
 
@@ -147,11 +147,11 @@ abbrev pub capacity_of : List Channel → Option ℕ → ℕ
 capacity_of cs None = 0
 capacity_of cs (Some k) = (channel_of cs k).capacity
 
--- what is behind the front item of channel k's buffer
+-- the items after the front item of channel k's buffer
 abbrev pub rest_of : List Channel → ℕ → List Item
 rest_of cs k = drop 1 (channel_of cs k).items
 
--- what is left of channel k's buffer where an item comes in at its back and one goes out at its front
+-- what is left of channel k's buffer when an item comes in at its back and one goes out at its front
 abbrev pub exchanged : List Channel → ℕ → Item → List Item
 exchanged cs k item = drop 1 ((channel_of cs k).items ++ item ∷ [])
 
@@ -161,7 +161,7 @@ IsServed old k clause p deed new =
     (n : ℕ) (q : Request) (x : Sleeper × Offer) → met x ≡ p
     → Does (λ (w : Shared) (c : ℕ). receive_from w n c q k (channel_of w.channels k) clause (channel_of w.channels k).items (Some x)) old n q deed new
 
--- it is told this number, and nobody is woken
+-- its reply is this number, and nobody is woken
 abbrev pub IsTold : Did → ℤ → Type 0
 IsTold (did.Done reply woken) number = (reply_of reply ≡ Value (Int number)) × (woken.items ≡ [])
 IsTold deed number = ⊥

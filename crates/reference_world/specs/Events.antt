@@ -6,7 +6,7 @@ use Rattle.word.specs.Views.{reply_of}
 use Rattle.reference_world.specs.declared.deed.Deed.{Deed as Did}
 use Rattle.reference_world.specs.declared.deed.Deed.TheVariants as did
 
--- what goroutine n's request means after this many events: event number 2^62 is `exhausted`, whatever was asked
+-- what goroutine n's request means after this many events: event number 2^62 is `exhausted`, whatever the request
 abbrev pub meant_after : ℕ → ℕ → Request → Request
 meant_after events n q = cond (events + 1 == 2 ^ 62) Exhausted (asked n q)
 

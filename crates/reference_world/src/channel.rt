@@ -60,7 +60,7 @@ pub(crate) fn pop(channels: &mut [Channel], chan: u32) -> Option<Item>
     None
 }
 
-/// Puts an item at the back of a channel's buffer, and takes the one at its front, which is the same one where the buffer
+/// Puts an item at the back of a channel's buffer, and takes the one at its front, which is the same one if the buffer
 /// is empty.
 pub(crate) fn exchange(channels: &mut [Channel], chan: u32, item: Item) -> Result<Item, Memory>
     ensures front { IfOk result (λ front. (channel_of channels.old chan).items ++ item ∷ [] ≡ front ∷ exchanged channels.old chan item) }

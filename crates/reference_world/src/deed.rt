@@ -6,7 +6,7 @@ use word::panic::Panic;
 use word::request::Reply;
 use word::value::Word;
 
-/// One that was asleep, and what it is told.
+/// A goroutine that was asleep, and its reply.
 #[derive(Drop)]
 pub struct Woken {
     pub number: u64,
@@ -23,7 +23,7 @@ impl Model for Woken {
     ghost view = { λ w. (w.number, reply_of w.reply) };
 }
 
-/// What becomes of the goroutine that asked, and of others.
+/// The outcome of a request, for the goroutine that made it and for others.
 #[derive(Drop)]
 pub enum Deed {
     /// It goes on with this reply. These are woken, in this order.

@@ -1,4 +1,4 @@
-//! Where goroutines meet: the channels, and those who sleep at them.
+//! Where goroutines meet: the channels, and the goroutines that sleep at them.
 
 ghost use Rattle.std.specs.Prelude.{◌≡◌, ℕ, ◌+◌, ◌<◌, ◌∷◌, [], ◌++◌, IfOk, IfSome, None, OnOk, nat_lt, option_map, pos, suc, length, unwrap_or};
 ghost use Rattle.std.specs.List.{slice_get};
@@ -21,7 +21,7 @@ use word::panic::Panic;
 use word::request::{Case, Reply, Request};
 use word::value::{Item, Word};
 
-/// The channels, and those who sleep at them.
+/// The channels, and the goroutines that sleep at them.
 #[derive(Drop)]
 pub(crate) struct Meeting {
     alloc: Global,
@@ -76,8 +76,8 @@ impl Meeting {
         self.channels.as_slice()
     }
 
-    /// A new channel (Go: Making slices, maps and channels). It panics where the size is negative or over 65,536, and
-    /// where 65,536 channels were made.
+    /// A new channel (Go: Making slices, maps and channels). It panics if the size is negative or over 65,536, and
+    /// if 65,536 channels were made.
     pub(crate) fn make(&mut self, size: i64, zero: Item) -> Result<Deed, Memory>
         ensures { IfOk result (λ deed. (n : ℕ) (q : AnyRequest) → Does (λ w c. do_make w n c q size zero) self.old n q deed self.new) }
     {
@@ -133,8 +133,8 @@ impl Meeting {
         self.do_receive(chan, 0)
     }
 
-    /// A close (Go: Close): it panics on `nil` and on a closed channel. It wakes all who sleep with an offer on the channel:
-    /// a receiver gets the zero item, and a sender panics next.
+    /// A close (Go: Close): it panics on `nil` and on a closed channel. It wakes all goroutines that sleep with an offer on
+    /// the channel: a receiver gets the zero item, and a sender panics next.
     pub(crate) fn close(&mut self, chan: Option<u32>) -> Result<Deed, Memory>
         ensures { IfOk result (λ deed. (n : ℕ) (q : AnyRequest) → Does (λ w c. act w n c q (Close chan)) self.old n q deed self.new) }
     {
@@ -234,8 +234,8 @@ impl Meeting {
         }
     }
 
-    /// A receive where one sleeps that sends: of the buffer's front item, whose place the sender's item takes at the
-    /// buffer's back, or of the sender's item where the buffer is empty.
+    /// A receive when a sender sleeps: of the buffer's front item, whose place the sender's item takes at the
+    /// buffer's back, or of the sender's item if the buffer is empty.
     fn receive_from(&mut self, chan: u32, clause: usize, partner: Partner) -> Result<Deed, Memory>
         ensures { IfOk result (λ deed. IsServed self.old chan clause partner deed self.new) }
     {
@@ -248,7 +248,7 @@ impl Meeting {
         Ok(Deed::Done(got(clause, item, true), woken))
     }
 
-    /// A receive where nobody sleeps that sends: of the buffer's front item, or of the zero item where the buffer is empty.
+    /// A receive when no sender sleeps: of the buffer's front item, or of the zero item if the buffer is empty.
     fn receive_alone(&mut self, chan: u32, clause: usize) -> Deed
         ensures { (n : ℕ) (q : AnyRequest) → Does (λ w c. receive_from w n c q chan (channel_of w.channels chan) clause (channel_of w.channels chan).items None) self.old n q result self.new }
     {
@@ -259,7 +259,7 @@ impl Meeting {
         Deed::Done(reply, Vec::new(self.alloc))
     }
 
-    /// Goroutine `number` falls asleep at this request, behind all others.
+    /// Goroutine `number` falls asleep at `request`, after all others.
     fn sleep(&mut self, number: u64, request: Request) -> Result<Deed, Memory>
         ensures sleeps { IfOk result (λ deed. deed ≡ Deed.Sleeps) }
         ensures asleep { OnOk result (self.new ≡ record self.old { asleep = without self.old.asleep number ++ record { number = number; request = request_of request } ∷ [] }) }
@@ -357,7 +357,7 @@ impl Meeting {
         }
     }
 
-    /// Whether there is room in a channel's buffer.
+    /// Whether a channel's buffer has space.
     fn has_room(&self, chan: u32) -> bool
         ensures { result ≡ nat_lt (length (channel_of self.now.channels chan).items) (channel_of self.now.channels chan).capacity }
     {
@@ -398,7 +398,7 @@ fn item_or_empty(alloc: Global, item: Option<Item>) -> Item
     }
 }
 
-/// One that was asleep, and what it is told.
+/// A list of one goroutine that was asleep, and its reply.
 fn one_woken(alloc: Global, number: u64, reply: Reply) -> Result<Vec<Woken>, Memory>
     ensures { IfOk result (λ woken. woken.items ≡ (number, reply_of reply) ∷ []) }
 {

@@ -1,4 +1,4 @@
-//! What senders and receivers are told.
+//! The replies to senders and receivers.
 
 ghost use Rattle.std.specs.Prelude.{◌≡◌};
 ghost use Rattle.word.specs.Requests.{close_reply, got, sent};
@@ -8,7 +8,8 @@ use crate::sleeper::Offer;
 use word::request::Reply;
 use word::value::Item;
 
-/// What a close tells one that it wakes by this offer: a receiver the zero item, a sender that its item is not accepted.
+/// The reply of a close to a goroutine that it wakes by this offer: the zero item to a receiver; to a sender, that its item is
+/// not accepted.
 pub(crate) fn close_reply(zero: &Item, offer: &Offer) -> Reply
     ensures { reply_of result ≡ close_reply zero.now offer.now }
 {
@@ -18,7 +19,7 @@ pub(crate) fn close_reply(zero: &Item, offer: &Offer) -> Reply
     got(offer.case, zero.copy(), false)
 }
 
-/// What a sender is told: by its clause of a select, or by 0 outside of one.
+/// The reply to a sender, by its clause of a select; `clause` is 0 outside of one.
 pub(crate) fn sent(clause: usize) -> Reply
     ensures { reply_of result ≡ sent clause }
 {
@@ -28,7 +29,7 @@ pub(crate) fn sent(clause: usize) -> Reply
     Reply::Clause(clause, None)
 }
 
-/// What a receiver is told: by its clause of a select, or by 0 outside of one.
+/// The reply to a receiver, by its clause of a select; `clause` is 0 outside of one.
 pub(crate) fn got(clause: usize, item: Item, ok: bool) -> Reply
     ensures { reply_of result ≡ got clause item ok }
 {

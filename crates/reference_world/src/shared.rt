@@ -20,7 +20,7 @@ use word::panic::Panic;
 use word::request::{Reply, Request};
 use word::value::Word;
 
-/// What all goroutines share: the channels and who sleeps at them, counts, and how the run ended.
+/// What all goroutines share: the channels, the goroutines that sleep at them, counts, and how the run ended.
 pub struct Shared {
     pub(crate) alloc: Global,
     meeting: Meeting,
@@ -72,7 +72,7 @@ impl Shared {
         })
     }
 
-    /// The end of the run, where a request ended it.
+    /// The end of the run, if a request ended it.
     pub fn ending(&self) -> Option<End>
         ensures { result ≡ self.now.ending }
     {
@@ -115,8 +115,8 @@ impl Shared {
         self.meeting.all_channels()
     }
 
-    /// Performs a request of the awake goroutine of this number, at this clock. A return of goroutine 1 ends the run, and so
-    /// does request number 2^62, whatever it is. After an error the run can't go on, and nothing is said of what is shared.
+    /// Performs a request of the awake goroutine that `actor` names, at its clock. A return of goroutine 1 ends the run, and so
+    /// does request number 2^62, whatever it is. After an error the run can't go on, and nothing is claimed about what is shared.
     pub fn perform(&mut self, actor: Key, request: Request) -> Result<Deed, Memory>
         requires { self.old.ending ≡ None }
         ensures performs { IfOk result (λ deed. Performs self.old actor.number actor.clock (request_of request) deed self.new) }
@@ -159,7 +159,7 @@ impl Shared {
         }
     }
 
-    /// A new goroutine (Go: Go statements). It panics where 1,024 are awake or asleep.
+    /// A new goroutine (Go: Go statements). It panics if 1,024 are awake or asleep.
     fn start(&mut self, function: u32, arguments: Vec<Word>) -> Deed
         requires made { self.old.made ≤ self.old.events }
         requires events { self.old.events < 2 ^ 62 }
@@ -184,7 +184,7 @@ impl Shared {
         Deed::Leaves
     }
 
-    /// A request that is told a number.
+    /// The outcome of a request whose reply is `number`.
     fn tell(&self, number: i64) -> Deed
         ensures { IsTold result number }
     {

@@ -13,7 +13,7 @@ use std::marker::Model;
 use word::request::{Case, Request};
 use word::value::Item;
 
-/// A goroutine that is asleep, and what it asked.
+/// A goroutine that is asleep, and its request.
 #[derive(Drop)]
 pub struct Sleeper {
     pub number: u64,
@@ -68,7 +68,7 @@ pub(crate) fn find_partner(asleep: &[Sleeper], chan: u32, sends: bool) -> Option
     None
 }
 
-/// Those who are woken by a close of a channel, each by its first offer there, and what they are told.
+/// The goroutines that a close of a channel wakes, each by its first offer there, and their replies.
 pub(crate) fn woken_by_close(
     alloc: Global,
     asleep: &[Sleeper],
@@ -89,14 +89,14 @@ pub(crate) fn woken_by_close(
     Ok(woken)
 }
 
-/// Takes out those of this number.
+/// Removes goroutine `number` from `asleep`.
 pub(crate) fn leave(asleep: &mut Vec<Sleeper>, number: u64)
     ensures { asleep.new.items ≡ without asleep.old.items number }
 {
     asleep.retain(|sleeper| sleeper.number != number);
 }
 
-/// Takes out those who are woken.
+/// Removes the woken goroutines from `asleep`.
 pub(crate) fn leave_all(asleep: &mut Vec<Sleeper>, woken: &[Woken])
     ensures { asleep.new.items ≡ without_all asleep.old.items woken.now }
 {

@@ -20,13 +20,13 @@ pub enum Flaw {
     /// A folder has no rows in its folders.
     #[error("it has no rows")]
     NoRows,
-    /// Nothing that belongs to a row is named so.
+    /// No file of a row has such a name.
     #[error("it belongs to no row")]
     Stranger,
-    /// A file that tells what comes of a text has none beside it.
+    /// A file that states the expected result of a program has none next to it.
     #[error("it has no text beside it")]
     NoText,
-    /// Nothing beside a text tells what comes of it.
+    /// No file next to a program states its expected result.
     #[error("nothing beside it tells what comes of it")]
     NothingTold,
     /// A file of rows is not UTF-8.
@@ -35,13 +35,13 @@ pub enum Flaw {
     /// This line, counted from 1, has no form of its file.
     #[error("line {0} cannot be read")]
     Unread(usize),
-    /// A line of a table has no told thing before its text.
+    /// A line of a table has no expectation before its source.
     #[error("it has no tab between what is told and a text")]
     Form,
-    /// A written text has a backslash before something else than its escapes.
+    /// A written source has a backslash before something other than its escapes.
     #[error("a backslash escapes nothing")]
     Escape,
-    /// This came where another thing was wanted, from this byte on, counted from 0.
+    /// `came` differs from `wanted` from this byte on, counted from 0.
     #[error("{what}, at byte {at}: wanted {wanted}, came {came}")]
     Differs {
         what: String,
@@ -49,13 +49,13 @@ pub enum Flaw {
         wanted: String,
         came: String,
     },
-    /// A text that was to be read was refused, or the other way round.
+    /// A source that was to be read was refused, or the other way round.
     #[error("wanted {wanted}, came {came}")]
     Outcome {
         wanted: &'static str,
         came: String,
     },
-    /// The text was refused where its tokens, its tree, its code or its events were wanted, or memory was.
+    /// The source was refused although its tokens, its tree, its code or its events were wanted, or memory was refused.
     #[error("{0}")]
     Refused(Fault),
     /// A file could not be read.

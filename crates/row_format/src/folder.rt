@@ -10,15 +10,15 @@ use std::{fs, io};
 /// What a file of a row is, by its extension.
 #[derive(Clone, Copy, PartialEq, Eq)]
 pub enum FileKind {
-    /// `.go`: a text.
+    /// `.go`: a program.
     Text,
-    /// `.gen`: a text as it is written.
+    /// `.gen`: a program as it is written.
     Generated,
-    /// `.texts`: a table of texts.
+    /// `.texts`: a table of programs.
     Table,
     /// `.words`: a table of command lines.
     Words,
-    /// `.row`: how a text is run, and how that ends.
+    /// `.row`: how a program is run, and how that ends.
     Row,
     /// `.out`: what its run writes.
     Output,
@@ -30,7 +30,7 @@ pub enum FileKind {
     Made(Made),
 }
 
-/// What is made of a text.
+/// What is made of a program.
 #[derive(Clone, Copy, PartialEq, Eq)]
 pub enum Made {
     /// `.svg`: the picture of its run, as a drawing.
@@ -69,12 +69,12 @@ impl FileKind {
         }
     }
 
-    /// Whether such a file has lines that are each looked at for themselves.
+    /// Whether each line of such a file is checked for itself.
     pub fn has_lines(self) -> bool {
         matches!(self, FileKind::Table | FileKind::Words)
     }
 
-    /// Whether such a file tells something of the text beside it.
+    /// Whether such a file says something of the program next to it.
     fn tells(self) -> bool {
         matches!(
             self,
@@ -83,7 +83,7 @@ impl FileKind {
     }
 }
 
-/// A file of a folder: `TEXT.EXTENSION`, or `TEXT.CASE.EXTENSION` where a text has several rows.
+/// A file of a folder: `TEXT.EXTENSION`, or `TEXT.CASE.EXTENSION` if a program has several rows.
 #[derive(Clone, Copy)]
 pub struct RowFile<'a> {
     folder: &'a str,
@@ -106,7 +106,7 @@ impl<'a> RowFile<'a> {
         })
     }
 
-    /// The name of its text.
+    /// The name of its program.
     pub fn text_name(&self) -> &'a str {
         match self.stem.split_once('.') {
             Some((text, _)) => text,
@@ -114,7 +114,7 @@ impl<'a> RowFile<'a> {
         }
     }
 
-    /// Whether one of these files of its folder tells something of this text.
+    /// Whether one of these files of its folder says something of this program.
     pub fn is_told(&self, names: &[String]) -> bool {
         names.iter().any(|name| match RowFile::new(self.folder, name.as_str()) {
             Some(other) => other.kind.tells() && other.text_name() == self.stem,
@@ -122,7 +122,7 @@ impl<'a> RowFile<'a> {
         })
     }
 
-    /// Its text.
+    /// Its program.
     pub fn text<R: Files + AllocGlobal>(&self, rt: &R) -> Result<Vec<u8>, Flaw> {
         if let Some(text) = self.read(rt, self.text_name(), "go")? {
             return Ok(text);
@@ -133,7 +133,7 @@ impl<'a> RowFile<'a> {
         }
     }
 
-    /// The file beside it of the same name, but for this extension.
+    /// The file of the same name in the folder, but with this extension.
     pub fn beside<R: Files + AllocGlobal>(
         &self,
         rt: &R,
@@ -150,7 +150,7 @@ impl<'a> RowFile<'a> {
         }
     }
 
-    /// What is told of its runs.
+    /// What is expected of its runs.
     pub fn row<R: Files + AllocGlobal>(&self, rt: &R) -> Result<Row, Flaw> {
         match self.beside(rt, "row")? {
             Some(lines) => Row::parse(rt.alloc(), utf8(lines)?.as_str()),
@@ -175,7 +175,7 @@ impl<'a> RowFile<'a> {
     }
 }
 
-/// The text that a `.gen` file stands for: its line breaks stand for nothing.
+/// The program that a `.gen` file stands for: its line breaks are ignored.
 fn generated(alloc: Global, written: Vec<u8>) -> Result<Vec<u8>, Flaw> {
     let mut text = Vec::new(alloc);
     for line in utf8(written)?.lines() {
@@ -184,7 +184,7 @@ fn generated(alloc: Global, written: Vec<u8>) -> Result<Vec<u8>, Flaw> {
     Ok(text)
 }
 
-/// The text of a file that is no program.
+/// The text of a file other than a program.
 pub fn utf8(bytes: Vec<u8>) -> Result<String, Flaw> {
     String::from_utf8(bytes).map_err(|_| Flaw::NotUtf8)
 }

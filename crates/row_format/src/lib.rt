@@ -1,4 +1,4 @@
-//! Rows: texts, and the files beside them that tell what comes of each.
+//! Rows: programs, and the files next to them that state the expected results of each.
 #![tactic(auto)]
 
 pub mod flaw;

@@ -1,26 +1,26 @@
-//! What a row tells of a text's runs.
+//! What a row expects of a program's runs.
 
 use crate::flaw::Flaw;
 use std::alloc::{AllocError, Global};
 
-/// The clock limit where a row tells none.
+/// The clock limit if a row states none.
 pub const LIMIT: u64 = 1_099_511_627_776;
 
-/// How a text is run, and what is to come of it besides its output.
+/// How a program is run, and what is expected of it besides its output.
 #[derive(Drop)]
 pub struct Row {
     /// The clock limit.
     pub limit: u64,
-    /// The numbers of workers, with each of which the text is run.
+    /// The numbers of workers, with each of which the program is run.
     pub workers: Vec<u64>,
     /// The exit status.
     pub status: u8,
-    /// The line on standard error; where it ends in `..`, what stands before that begins it.
+    /// The line on standard error; if it ends in `..`, only its beginning.
     pub error: String,
 }
 
 impl Row {
-    /// The row that tells nothing: a run that finishes.
+    /// The row of an empty `.row` file: a run that finishes.
     pub fn new(alloc: Global) -> Result<Row, AllocError> {
         Ok(Row {
             limit: LIMIT,
@@ -30,7 +30,7 @@ impl Row {
         })
     }
 
-    /// What the lines of a `.row` tell.
+    /// The row that the lines of a `.row` state.
     pub fn parse(alloc: Global, text: &str) -> Result<Row, Flaw> {
         let mut row = Row::new(alloc)?;
         for (before, line) in text.lines().enumerate() {
@@ -41,7 +41,7 @@ impl Row {
         Ok(row)
     }
 
-    /// Takes a line: a word, a space and its value, or a comment. False where it has no such form.
+    /// Takes a line: a word, a space and its value, or a comment. False if it has no such form.
     fn take(&mut self, alloc: Global, line: &str) -> Result<bool, AllocError> {
         if line.is_empty() || line.starts_with('#') {
             return Ok(true);
@@ -59,7 +59,7 @@ impl Row {
     }
 }
 
-/// Puts a value into its place, if there is one; answers whether there was.
+/// Stores a value in `place`, if there is one; returns whether there was.
 fn put<T: Drop>(place: &mut T, value: Option<T>) -> bool {
     match value {
         Some(value) => {

@@ -1,10 +1,10 @@
-//! Texts as they are written in tables and in `.gen` files.
+//! Sources as they are written in tables and in `.gen` files.
 
 use crate::flaw::Flaw;
 use std::alloc::Global;
 
-/// The bytes that a written text stands for: `\n`, `\t` and `\\`, `\xHH` for one byte, `\N<PIECE>` for N times the piece as
-/// it stands, and all else for itself.
+/// The bytes that a written source stands for: `
+/// `, `\t` and `\\`, `\xHH` for one byte, `\N<PIECE>` for N times the piece as it stands, and all else for itself.
 pub fn bytes_of(alloc: Global, written: &str) -> Result<Vec<u8>, Flaw> {
     let mut bytes = Vec::new(alloc);
     let mut is_escape = false;
@@ -20,7 +20,7 @@ pub fn bytes_of(alloc: Global, written: &str) -> Result<Vec<u8>, Flaw> {
             bytes.extend_from_slice(rest.as_bytes())?;
         }
     }
-    // Each piece but the first stands behind a backslash: the last one may not be its escape.
+    // Each piece but the first comes after a backslash: the last one may not be its escape.
     if is_escape {
         Ok(bytes)
     } else {
@@ -28,7 +28,7 @@ pub fn bytes_of(alloc: Global, written: &str) -> Result<Vec<u8>, Flaw> {
     }
 }
 
-/// Takes the escape with which a piece begins, its backslash left out, and answers what stands behind it.
+/// Takes the escape with which a piece begins, without its backslash, and returns what comes after it.
 fn escape<'a>(bytes: &mut Vec<u8>, piece: &'a str) -> Result<&'a str, Flaw> {
     if let Some(rest) = piece.strip_prefix('n') {
         bytes.push(b'\n')?;

@@ -1,4 +1,4 @@
-//! What rows compare with lines: the tokens of a text, the nodes of its tree, and what comes of a command line.
+//! What rows compare line by line: the tokens of a program, the nodes of its tree, and the result of a command line.
 #![tactic(auto)]
 
 mod kinds;

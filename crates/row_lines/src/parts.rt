@@ -1,4 +1,4 @@
-//! The tokens of a text, and the nodes of its tree, as lines.
+//! The tokens of a program, and the nodes of its tree, as lines.
 
 use crate::kinds::kind_name;
 use go_text::{Fault, Source, Span};
@@ -8,7 +8,7 @@ use scanner::{Token, scan};
 use std::alloc::Global;
 use syntax::Tree;
 
-/// The tokens of a text, one a line: its kind, where it begins and ends, and its bytes.
+/// The tokens of a program, one a line: its kind, where it begins and ends, and its bytes.
 pub fn tokens(alloc: Global, text: &[u8]) -> Result<Vec<u8>, Flaw> {
     let source = Source::new(Vec::from_slice(alloc, text)?)?;
     let mut lines = String::new(alloc);
@@ -20,7 +20,7 @@ pub fn tokens(alloc: Global, text: &[u8]) -> Result<Vec<u8>, Flaw> {
     Ok(lines.into_bytes())
 }
 
-/// The nodes of a text's tree, one a line, in the order of their numbers: where it begins and ends, and its bytes.
+/// The nodes of a program's tree, one a line, in the order of their numbers: where it begins and ends, and its bytes.
 pub fn spans(alloc: Global, text: &[u8]) -> Result<Vec<u8>, Flaw> {
     let tree = tree(alloc, text)?;
     let mut lines = String::new(alloc);
@@ -41,7 +41,7 @@ fn placed(alloc: Global, text: &[u8], span: Span) -> Result<String, Flaw> {
     Ok(format!(in alloc; "{from} {to} {bytes}")?)
 }
 
-/// The tree of a text.
+/// The tree of a program.
 fn tree(alloc: Global, text: &[u8]) -> Result<Tree, Fault> {
     let source = Source::new(Vec::from_slice(alloc, text)?)?;
     let tokens = scan(alloc, &source)?;

@@ -1,11 +1,11 @@
-//! Command lines, and what comes of each.
+//! Command lines, and the result of each.
 
 use command_line::arguments::{Invocation, Subcommand, command, invocation_of};
 use row_format::flaw::{Flaw, same};
 use row_format::written::bytes_of;
 use std::alloc::{AllocError, Global};
 
-/// Takes a line: an empty one or a comment; or sees whether what a line tells of its words comes of them.
+/// Checks a line of a table: an empty one, a comment, or a command line and its result.
 pub fn check_words(alloc: Global, line: &str) -> Result<(), Flaw> {
     if line.is_empty() || line.starts_with('#') {
         return Ok(());
@@ -16,7 +16,7 @@ pub fn check_words(alloc: Global, line: &str) -> Result<(), Flaw> {
     check_answer(alloc, words, &bytes_of(alloc, told)?)
 }
 
-/// Sees whether what comes of words begins so.
+/// Checks that the result of a command line begins with these bytes.
 fn check_answer(alloc: Global, words: &str, wanted: &[u8]) -> Result<(), Flaw> {
     let words = words_of(alloc, words)?;
     let came = answer(alloc, words.as_slice())?;
@@ -34,7 +34,7 @@ fn words_of(alloc: Global, line: &str) -> Result<Vec<String>, AllocError> {
     Ok(words)
 }
 
-/// What the words ask for, or what is shown of them, behind the stream on which it is.
+/// The request that the command line makes; or the stream on which its message appears, and the message.
 fn answer(alloc: Global, words: &[String]) -> Result<String, AllocError> {
     match command(alloc)?.try_get_matches_from(words) {
         Ok(matches) => {
@@ -47,7 +47,7 @@ fn answer(alloc: Global, words: &[String]) -> Result<String, AllocError> {
     }
 }
 
-/// What is asked for: of which files, with which other files, whether it explains, and what is done.
+/// The request: its files, the other files, whether it explains, and what is done.
 fn told(alloc: Global, asked: &Invocation<'_, '_>) -> Result<String, AllocError> {
     let Invocation {
         file,
@@ -132,7 +132,7 @@ fn moment(alloc: Global, event: Option<u64>, at: Option<u64>) -> Result<String, 
     }
 }
 
-/// What is done with a text.
+/// What is done with a program.
 fn done(alloc: Global, subcommand: Subcommand) -> Result<String, AllocError> {
     match subcommand {
         Subcommand::Check => "check".to_string(alloc),
@@ -155,7 +155,7 @@ fn done(alloc: Global, subcommand: Subcommand) -> Result<String, AllocError> {
     }
 }
 
-/// What is shown of a command line that asks for nothing.
+/// The message for a command line that makes no request.
 fn shown(alloc: Global, error: &clap::Error) -> Result<String, AllocError> {
     let stream = if error.use_stderr() {
         "stderr"

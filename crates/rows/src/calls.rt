@@ -1,4 +1,4 @@
-//! Calls that no text reaches: a writer that fails, and the lines of ends that no run comes to.
+//! Checks that no program reaches: a writer that fails, and the lines of ends that no run comes to.
 
 ghost use Rattle.std.specs.Prelude.{Some};
 
@@ -32,7 +32,7 @@ const TWO_TRACE: &str =
     "0 1 make 1\n2 1 go 2\n3 1 go 3\n4 1 receive 1 sleeps\n4 2 print 2\n4 3 print 2\n\
     5 2 send 1 to 1\n5 3 send 1 sleeps\n6 1 receive 1 from 3\n6 2 end\n7 1 exit\n";
 
-/// Takes one byte a call, and fails at its n-th call and from then on.
+/// Takes one byte a call, and fails from the n-th call on.
 #[derive(Drop)]
 struct Slow {
     taken: Vec<u8>,
@@ -42,7 +42,7 @@ struct Slow {
 }
 
 impl Slow {
-    /// Has taken nothing yet.
+    /// No byte was taken yet.
     fn new(alloc: Global, fails_at: u64) -> Slow {
         Slow {
             taken: Vec::new(alloc),
@@ -77,7 +77,7 @@ impl TraceWriter for Slow {
     }
 }
 
-/// Sees whether a run whose output can't be written stops there, and tells it.
+/// Checks that a run whose output can't be written stops there, and reports it.
 pub(crate) fn check_failing_writers<R: Threads + Wait + Sync>(
     rt: &R,
     alloc: Global,
@@ -93,7 +93,7 @@ pub(crate) fn check_failing_writers<R: Threads + Wait + Sync>(
     Ok(())
 }
 
-/// Sees whether a run whose output fails at this call writes this, and tells this line.
+/// Checks what a run whose output fails at this call writes, and the line that it prints.
 fn check_failing_writer<R: Threads + Wait + Sync>(
     rt: &R,
     alloc: Global,
@@ -110,7 +110,7 @@ fn check_failing_writer<R: Threads + Wait + Sync>(
     same(alloc, "the output", written.as_bytes(), &out.taken)
 }
 
-/// Sees whether a run whose trace can't be written stops there, and tells it.
+/// Checks that a run whose trace can't be written stops there, and reports it.
 pub(crate) fn check_failing_traces<R: Threads + Wait + Sync>(
     rt: &R,
     alloc: Global,
@@ -130,7 +130,7 @@ pub(crate) fn check_failing_traces<R: Threads + Wait + Sync>(
     Ok(())
 }
 
-/// Sees whether a run whose trace fails at this call writes this of it, and tells this line.
+/// Checks what a run whose trace fails at this call writes of it, and the line that it prints.
 fn check_failing_trace<R: Threads + Wait + Sync>(
     rt: &R,
     alloc: Global,
@@ -147,7 +147,7 @@ fn check_failing_trace<R: Threads + Wait + Sync>(
     same(alloc, "the trace", written.as_bytes(), &trace.taken)
 }
 
-/// Sees whether output and trace reach their writers while the program goes on computing: then a writer that fails ends the run.
+/// Checks that output and trace reach their writers while the program goes on computing: then a writer that fails ends the run.
 pub(crate) fn check_early_writes<R: Threads + Wait + Sync>(
     rt: &R,
     alloc: Global,
@@ -209,7 +209,7 @@ fn check_gate<R: Threads + Wait + Sync, G: Gate + Sync>(
     )
 }
 
-/// Sees whether each panic has its line, and its status.
+/// Checks the line and the status of each panic.
 pub(crate) fn check_panics(alloc: Global) -> Result<(), Flaw> {
     for (panic, told) in [
         (Panic::DivideByZero, "P1 divide by zero"),
@@ -228,7 +228,7 @@ pub(crate) fn check_panics(alloc: Global) -> Result<(), Flaw> {
     Ok(())
 }
 
-/// Sees whether the refusals that no text causes have their lines and statuses, and one whose place is not known.
+/// Checks the lines and statuses of the errors that no program causes, and of one without a known location.
 pub(crate) fn check_refusals(alloc: Global) -> Result<(), Flaw> {
     let unplaced = Fault::Syntax(Place::from(Span { from: 36, to: 37 }));
     for (fault, line, status) in [

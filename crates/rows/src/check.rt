@@ -1,4 +1,4 @@
-//! What a file tells of its text, and whether that comes of it.
+//! What a file says of its program, and whether that is true.
 
 use crate::reading::{explained, listing, paused_picture, picture, recorded_lines};
 use crate::run::{Ran, check_paused, check_runs};
@@ -13,8 +13,7 @@ use std::sync::Wait;
 use std::thread::Threads;
 use timeline::Format;
 
-/// Sees whether what a file tells comes of its text; of a text, whether one of these files of its folder tells something of
-/// it.
+/// Checks what a file says of its program; of a program, checks that one of the files `names` of its folder says something of it.
 pub(crate) fn check<R: Files + AllocGlobal + Threads + Wait + Sync>(
     rt: &R,
     file: &RowFile<'_>,
@@ -22,14 +21,14 @@ pub(crate) fn check<R: Files + AllocGlobal + Threads + Wait + Sync>(
 ) -> Result<(), Flaw> {
     match file.kind {
         FileKind::Text => check_told(file, names),
-        // Its lines tell something of their own.
+        // Each of its lines is checked for itself.
         FileKind::Table | FileKind::Words => Ok(()),
         FileKind::Generated => match file.beside(rt, "go")? {
             Some(_) => Err(Flaw::Stranger),
             None => check_told(file, names),
         },
         FileKind::Row => check_run(rt, file),
-        // Beside a `.row` the output is compared there.
+        // If there is a `.row`, the output is checked with that.
         FileKind::Output => match file.beside(rt, "row")? {
             Some(_) => Ok(()),
             None => check_run(rt, file),
@@ -40,7 +39,7 @@ pub(crate) fn check<R: Files + AllocGlobal + Threads + Wait + Sync>(
     }
 }
 
-/// Sees whether something is told of a text.
+/// Checks that some file says something of a program.
 fn check_told(file: &RowFile<'_>, names: &[String]) -> Result<(), Flaw> {
     if file.is_told(names) {
         Ok(())
@@ -49,7 +48,7 @@ fn check_told(file: &RowFile<'_>, names: &[String]) -> Result<(), Flaw> {
     }
 }
 
-/// Sees whether the runs of a text are what its `.row` and its `.out` tell.
+/// Checks the runs of a program against its `.row` and its `.out`.
 fn check_run<R: Files + AllocGlobal + Threads + Wait + Sync>(
     rt: &R,
     file: &RowFile<'_>,
@@ -62,14 +61,14 @@ fn check_run<R: Files + AllocGlobal + Threads + Wait + Sync>(
     }
 }
 
-/// Sees whether the file of a plan is one, and belongs to a text.
+/// Checks that the file of a plan is one, and belongs to a program.
 fn check_plan<R: Files + AllocGlobal>(rt: &R, file: &RowFile<'_>) -> Result<(), Flaw> {
     file.text(rt)?;
     plan(rt, file)?;
     Ok(())
 }
 
-/// The plan beside a file, if there is one.
+/// The plan that belongs to a file, if there is one.
 fn plan<R: Files + AllocGlobal>(rt: &R, file: &RowFile<'_>) -> Result<Option<Plan>, Flaw> {
     let Some(bytes) = file.beside(rt, "pauses")? else {
         return Ok(None);
@@ -81,7 +80,7 @@ fn plan<R: Files + AllocGlobal>(rt: &R, file: &RowFile<'_>) -> Result<Option<Pla
     }
 }
 
-/// What the `.out` beside a file tells: nothing where there is none.
+/// What the `.out` that belongs to a file says: nothing if there is none.
 fn output<R: Files + AllocGlobal>(rt: &R, file: &RowFile<'_>) -> Result<Vec<u8>, Flaw> {
     match file.beside(rt, "out")? {
         Some(output) => Ok(output),
@@ -89,7 +88,7 @@ fn output<R: Files + AllocGlobal>(rt: &R, file: &RowFile<'_>) -> Result<Vec<u8>,
     }
 }
 
-/// Sees whether the runs of a text are what its `.row` tells, and write this.
+/// Checks the runs of a program against its `.row`, and that they write this.
 fn check_row<R: Files + AllocGlobal + Threads + Wait + Sync>(
     rt: &R,
     file: &RowFile<'_>,
@@ -100,8 +99,8 @@ fn check_row<R: Files + AllocGlobal + Threads + Wait + Sync>(
     check_runs(rt, rt.alloc(), text, &row, output)
 }
 
-/// Sees whether a text has the events that its `.trace` tells: those that are settled on one thread, and those that a run writes,
-/// with each number of workers of its row. Beside a plan it is the trace of the run by that plan.
+/// Checks the events of a program against its `.trace`: those that are settled on one thread, and those that a run writes, with each
+/// number of workers of its row. If there is a plan it is the trace of the run by that plan.
 fn check_trace<R: Files + AllocGlobal + Threads + Wait + Sync>(
     rt: &R,
     file: &RowFile<'_>,
@@ -114,7 +113,7 @@ fn check_trace<R: Files + AllocGlobal + Threads + Wait + Sync>(
     }
 }
 
-/// Sees whether the run of a text by a plan writes these events.
+/// Checks that the run of a program by a plan writes these events.
 fn check_paused_trace(
     alloc: Global,
     text: &[u8],
@@ -126,7 +125,7 @@ fn check_paused_trace(
     same_lines(alloc, "the trace (--pauses)", wanted, &ran.trace)
 }
 
-/// Sees whether a text has these events, up to the limit of its row.
+/// Checks that a program has these events, up to the limit of its row.
 fn check_events<R: Files + AllocGlobal + Threads + Wait + Sync>(
     rt: &R,
     file: &RowFile<'_>,
@@ -141,13 +140,13 @@ fn check_events<R: Files + AllocGlobal + Threads + Wait + Sync>(
     Ok(())
 }
 
-/// Sees whether these events of a text are settled on one thread.
+/// Checks that these events of a program are settled on one thread.
 fn check_recorded(alloc: Global, text: &[u8], limit: u64, wanted: &[u8]) -> Result<(), Flaw> {
     let recorded = recorded_lines(alloc, text, limit)?;
     same_lines(alloc, "the events that are settled", wanted, &recorded)
 }
 
-/// Sees whether a run of a text with so many workers writes these events.
+/// Checks that a run of a program with `workers` workers writes these events.
 fn check_traced<R: Threads + Wait + Sync>(
     rt: &R,
     alloc: Global,
@@ -161,14 +160,15 @@ fn check_traced<R: Threads + Wait + Sync>(
     same_lines(alloc, &what, wanted, &ran.trace)
 }
 
-/// Sees whether what a file tells is made of its text.
+/// Checks that a file has what is made of its program.
 fn check_made<R: Files + AllocGlobal>(rt: &R, file: &RowFile<'_>, made: Made) -> Result<(), Flaw> {
     let wanted = file.bytes(rt)?;
     let came = made_of(rt, file, made)?;
     same_lines(rt.alloc(), name_of(made), &wanted, &came)
 }
 
-/// What is made of a file's text: of its run, up to the limit of its row. A picture beside a plan is that of the run by the plan.
+/// What is made of a file's program: of its run, up to the limit of its row. If there is a plan, a picture is that of the run by the
+/// plan.
 fn made_of<R: Files + AllocGlobal>(
     rt: &R,
     file: &RowFile<'_>,
@@ -187,7 +187,7 @@ fn made_of<R: Files + AllocGlobal>(
     }
 }
 
-/// What is made of a text of this name: of its run, up to this limit.
+/// What is made of a program of this name: of its run, up to this limit.
 fn made_up_to(
     alloc: Global,
     made: Made,
@@ -205,7 +205,7 @@ fn made_up_to(
     }
 }
 
-/// What is made, by its name in a line about it.
+/// The name of what is made, in a line about it.
 fn name_of(made: Made) -> &'static str {
     match made {
         Made::Drawing => "the drawing",
@@ -217,7 +217,7 @@ fn name_of(made: Made) -> &'static str {
     }
 }
 
-/// Compares what came with the lines of a file. Where its first line is `..`, the others are the last ones alone.
+/// Compares what came with the lines of a file. If its first line is `..`, the others are only the last ones.
 fn same_lines(alloc: Global, what: &str, wanted: &[u8], came: &[u8]) -> Result<(), Flaw> {
     match wanted.strip_prefix(b"..\n".as_slice()) {
         Some(end) => same(alloc, what, end, last_lines(came, end)),

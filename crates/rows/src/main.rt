@@ -1,9 +1,9 @@
-//! Runs rows, which are data, and compares what comes of each text with what is told of it.
+//! Runs rows, which are data, and compares the results of each program with those expected.
 //!
-//! A row is a text, `NAME.go` or `NAME.gen`, and files beside it that tell what comes of it: `NAME.row` how it is run and how
-//! that ends, `NAME.out` what it writes, `NAME.trace`, `NAME.list`, `NAME.spans` and `NAME.tokens` its events, its listing,
-//! its nodes and its tokens, `NAME.explained` what `--explain` says of it. A `NAME.texts` is a table of small texts, a `NAME.words`
-//! one of command lines. docs/TESTING.md has the forms.
+//! A row is a program, `NAME.go` or `NAME.gen`, and files next to it that say what is expected of it: `NAME.row` how it is run and how
+//! that ends, `NAME.out` what it writes, `NAME.trace`, `NAME.list`, `NAME.spans` and `NAME.tokens` its events, its listing, its nodes and
+//! its tokens, `NAME.explained` what `--explain` says of it. A `NAME.texts` is a table of small programs, a `NAME.words` one of command
+//! lines. docs/TESTING.md has the forms.
 //!
 //! The rows lie in the folders of `data`, where the program is run. The repository's examples are rows too: those of
 //! `data/examples` are copies of the folder `examples` at the top.
@@ -79,7 +79,7 @@ fn refused_calls<R: AllocGlobal + Print>(rt: &R) -> io::Result<bool> {
     Ok(names.is_empty())
 }
 
-/// Checks all folders in this one, prints what fails, and answers whether all holds.
+/// Checks all folders in this one, prints what fails, and returns whether all holds.
 fn all<R: Files + AllocGlobal + Print + Threads + Wait + Sync + Clone + Drop>(
     rt: &R,
     root: &str,
@@ -109,12 +109,12 @@ struct Report {
 }
 
 impl Report {
-    /// Nothing was looked at.
+    /// Nothing was checked yet.
     fn new() -> Report {
         Report { seen: 0, failed: 0 }
     }
 
-    /// Counts what was looked at, and prints what is wrong with it.
+    /// Counts a check, and prints what is wrong.
     fn tell(&mut self, rt: &impl Print, name: &str, found: Result<(), Flaw>) -> io::Result<()> {
         self.seen = self.seen.saturating_add(1);
         if let Err(flaw) = found {
@@ -124,7 +124,7 @@ impl Report {
         Ok(())
     }
 
-    /// What no text reaches.
+    /// Checks that no program reaches.
     fn calls<R: AllocGlobal + Print + Threads + Wait + Sync>(&mut self, rt: &R) -> io::Result<()> {
         self.tell(rt, "failing writers", check_failing_writers(rt, rt.alloc()))?;
         self.tell(rt, "failing traces", check_failing_traces(rt, rt.alloc()))?;
@@ -149,7 +149,7 @@ impl Report {
         self.tell(rt, "machine_calls", Ok(()))
     }
 
-    /// Prints that all holds, where it does, and answers whether it does.
+    /// Prints that all holds, if it does, and returns whether it does.
     fn end(&self, rt: &impl Print) -> io::Result<bool> {
         if self.failed == 0 {
             println!(rt; "every row holds")?;
@@ -194,7 +194,7 @@ impl Report {
         }
     }
 
-    /// The lines of a table of texts.
+    /// The lines of a table of programs.
     fn table<R: AllocGlobal + Print + Threads + Wait + Sync>(
         &mut self,
         rt: &R,

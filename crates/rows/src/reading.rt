@@ -1,4 +1,4 @@
-//! What is made of a text beside its run: its events, pictures of it, its listing, and what `--explain` says of it.
+//! What is made of a program besides its run: its events, pictures of it, its listing, and what `--explain` says of it.
 
 use diagnostic::explanations;
 use go_text::Fault;
@@ -16,7 +16,7 @@ use word::end::End;
 /// How many events of a run are compared at most.
 const MOST_EVENTS: usize = 1_000_000;
 
-/// The lines of the first events of the run of a text up to this limit, as they are settled on one thread.
+/// The lines of the first events of the run of a program up to this limit, as they are settled on one thread.
 pub(crate) fn recorded_lines(alloc: Global, text: &[u8], limit: u64) -> Result<Vec<u8>, Flaw> {
     let bytes = Vec::from_slice(alloc, text)?;
     let recording = timeline_bytes(alloc, bytes, limit, MOST_EVENTS)?;
@@ -28,7 +28,7 @@ pub(crate) fn recorded_lines(alloc: Global, text: &[u8], limit: u64) -> Result<V
     Ok(lines)
 }
 
-/// The picture of the run of a text up to this limit.
+/// The picture of the run of a program up to this limit.
 pub(crate) fn picture(
     alloc: Global,
     text: &[u8],
@@ -41,7 +41,7 @@ pub(crate) fn picture(
     Ok(picture.into_bytes())
 }
 
-/// The picture of the run of a text by a plan, up to this limit.
+/// The picture of the run of a program by a plan, up to this limit.
 pub(crate) fn paused_picture(
     alloc: Global,
     text: &[u8],
@@ -56,8 +56,8 @@ pub(crate) fn paused_picture(
     Ok(picture.into_bytes())
 }
 
-/// What `--explain` prints of a text in the file of this name, `.go` left out, or of the end of its run up to this limit: nothing
-/// if it is a program that finishes and leaves no goroutines.
+/// What `--explain` prints of a source in the file of this name, without `.go`, or of the end of its run up to this limit: nothing if it
+/// is a program that finishes and leaves no goroutines.
 pub(crate) fn explained(
     alloc: Global,
     name: &str,
@@ -74,13 +74,13 @@ pub(crate) fn explained(
     }
 }
 
-/// How the run of a text up to this limit ends.
+/// How the run of a program up to this limit ends.
 fn end_of(alloc: Global, text: &[u8], limit: u64) -> Result<End, Fault> {
     let mut out = Flagged::new(Vec::new(alloc));
     reference_bytes(alloc, Vec::from_slice(alloc, text)?, limit, &mut out)
 }
 
-/// What `--explain` says of a text that is refused.
+/// What `--explain` says of a source that is refused.
 fn refusal_explained(
     alloc: Global,
     path: &str,
@@ -94,7 +94,7 @@ fn refusal_explained(
     Ok(explanations(alloc, path, shown.as_str(), fault).map_err(Fault::from)?)
 }
 
-/// The listing of a text's code.
+/// The listing of a program's code.
 pub(crate) fn listing(alloc: Global, text: &[u8]) -> Result<Vec<u8>, Flaw> {
     let mut out = Flagged::new(Vec::new(alloc));
     list_bytes(alloc, Vec::from_slice(alloc, text)?, &mut out)?;

@@ -1,4 +1,4 @@
-//! Runs of a text, and whether they are what a row tells.
+//! Runs of a program, and whether they are as its row says.
 
 use go_text::Fault;
 use kendo_base::{Gate, run_bytes};
@@ -14,7 +14,7 @@ use std::thread::Threads;
 use word::Flagged;
 use word::end::End;
 
-/// A gate that holds nobody.
+/// A gate that delays no worker.
 pub(crate) struct Open;
 
 impl Gate for Open {
@@ -25,7 +25,7 @@ impl Gate for Open {
     fn at_end(&self, _worker: u64) {}
 }
 
-/// What came of a run.
+/// The result of a run.
 #[derive(Drop)]
 pub(crate) struct Ran {
     pub outcome: Result<End, Fault>,
@@ -39,7 +39,7 @@ pub(crate) struct Ran {
 }
 
 impl Ran {
-    /// The run of a text.
+    /// The run of a program.
     pub(crate) fn of<R: Threads + Wait + Sync>(
         rt: &R,
         alloc: Global,
@@ -56,7 +56,7 @@ impl Ran {
         Ran::told(alloc, outcome, out.into_inner(), trace.into_inner())
     }
 
-    /// The run of a text by the interpreter, which writes no trace.
+    /// The run of a program by the interpreter, which writes no trace.
     fn interpreted(alloc: Global, text: &[u8], limit: u64) -> Result<Ran, Flaw> {
         let bytes = Vec::from_slice(alloc, text)?;
         let mut out = Flagged::new(Vec::new(alloc));
@@ -64,7 +64,7 @@ impl Ran {
         Ran::told(alloc, outcome, out.into_inner(), Vec::new(alloc))
     }
 
-    /// The run of a text by the interpreter, with the pauses of a plan.
+    /// The run of a program by the interpreter, with the pauses of a plan.
     fn paused(alloc: Global, text: &[u8], plan: &Plan, limit: u64) -> Result<Ran, Flaw> {
         let bytes = Vec::from_slice(alloc, text)?;
         let mut out = Flagged::new(Vec::new(alloc));
@@ -72,7 +72,7 @@ impl Ran {
         Ran::told(alloc, outcome, out.into_inner(), Vec::new(alloc))
     }
 
-    /// The same, with its trace.
+    /// Like `paused`, with its trace.
     pub(crate) fn traced(alloc: Global, text: &[u8], plan: &Plan, limit: u64) -> Result<Ran, Flaw> {
         let bytes = Vec::from_slice(alloc, text)?;
         let mut out = Flagged::new(Vec::new(alloc));
@@ -81,7 +81,7 @@ impl Ran {
         Ran::told(alloc, outcome, out.into_inner(), trace.into_inner())
     }
 
-    /// What came of a run, with the line and the status that tell it.
+    /// The result of a run, with the line and the status that report it.
     fn told(
         alloc: Global,
         outcome: Result<End, Fault>,
@@ -98,7 +98,7 @@ impl Ran {
         })
     }
 
-    /// Compares the run with what a row tells, and its output with what was wanted.
+    /// Compares the run with its row, and its output with `output`.
     fn check(&self, alloc: Global, row: &Row, output: &[u8], how: &str) -> Result<(), Flaw> {
         self.check_error(alloc, row.error.as_str(), how)?;
         self.check_output(alloc, output, how)?;
@@ -120,7 +120,7 @@ impl Ran {
         differs(alloc, &what, wanted, self.status)
     }
 
-    /// Checks the text of the run, and compares what the check finds with what the run found: the same refusal, or a program.
+    /// Checks the source of the run, and compares what the check finds with what the run found: the same error, or a program.
     fn check_found(&self, alloc: Global, text: &[u8]) -> Result<(), Flaw> {
         let wanted = match &self.outcome {
             Err(Fault::BadWorkers | Fault::BadLimit) => return Ok(()),
@@ -137,7 +137,7 @@ impl Ran {
         self.check_line(alloc, &what, wanted)
     }
 
-    /// Compares the line on standard error, where the wanted one ends in `..` no more than its beginning.
+    /// Compares the line on standard error; if the wanted one ends in `..`, only its beginning.
     fn check_line(&self, alloc: Global, what: &str, wanted: &str) -> Result<(), Flaw> {
         let line = self.line.as_slice();
         let line = line.strip_suffix(b"\n".as_slice()).unwrap_or(line);
@@ -151,14 +151,14 @@ impl Ran {
     }
 }
 
-/// Tells two numbers that are not the same.
+/// Reports two numbers that differ.
 pub(crate) fn differs(alloc: Global, what: &str, wanted: u8, came: u8) -> Result<(), Flaw> {
     let wanted = wanted.to_string(alloc)?;
     let came = came.to_string(alloc)?;
     same(alloc, what, wanted.as_bytes(), came.as_bytes())
 }
 
-/// Runs a text with each number of workers of its row, and compares what comes of it.
+/// Runs a program with each number of workers of its row, and compares the results.
 pub(crate) fn check_runs<R: Threads + Wait + Sync>(
     rt: &R,
     alloc: Global,
@@ -173,7 +173,7 @@ pub(crate) fn check_runs<R: Threads + Wait + Sync>(
     Ok(())
 }
 
-/// Runs a text by a plan, without and with its trace, and compares what comes of it.
+/// Runs a program by a plan, without and with its trace, and compares the results.
 pub(crate) fn check_paused(
     alloc: Global,
     text: &[u8],
@@ -187,7 +187,7 @@ pub(crate) fn check_paused(
     traced.check(alloc, row, output, "--pauses --trace")
 }
 
-/// Runs a text with so many workers, and compares what comes of it.
+/// Runs a program with `workers` workers, and compares the results.
 fn check_ran<R: Threads + Wait + Sync>(
     rt: &R,
     alloc: Global,
@@ -202,7 +202,7 @@ fn check_ran<R: Threads + Wait + Sync>(
     ran.check_found(alloc, text)
 }
 
-/// Runs a text by the interpreter too, and compares what comes of it. It has no workers.
+/// Runs a program by the interpreter too, and compares the results. The interpreter has no workers.
 fn check_interpreted(alloc: Global, text: &[u8], row: &Row, output: &[u8]) -> Result<(), Flaw> {
     if row.error.as_str().starts_with("kendo: 15 ") {
         return Ok(());
@@ -212,7 +212,7 @@ fn check_interpreted(alloc: Global, text: &[u8], row: &Row, output: &[u8]) -> Re
     ran.check_found(alloc, text)
 }
 
-/// The line on standard error, with its newline, where a text is checked; nothing where it is a program.
+/// The line on standard error, with its newline, if a source is checked; nothing if it is a program.
 pub(crate) fn checked_line(alloc: Global, text: &[u8]) -> Result<Vec<u8>, Flaw> {
     let checked = check_bytes(alloc, Vec::from_slice(alloc, text)?);
     let outcome = checked.map(|()| End::Finished);

@@ -1,4 +1,4 @@
-//! Tables of texts, each on a line behind what is told of it.
+//! Tables of sources, each on a line after what is expected of it.
 
 use crate::run::{Ran, check_runs, checked_line};
 use go_text::{Fault, LimitKind};
@@ -10,7 +10,7 @@ use std::sync::Wait;
 use std::thread::Threads;
 use word::end::End;
 
-/// What is told of a text.
+/// What is expected of a source.
 enum Told<'a> {
     /// The scanner and the parser take it, whatever the checker says of it.
     Read,
@@ -20,11 +20,11 @@ enum Told<'a> {
     Typed,
     /// It finishes, and writes this.
     Prints(&'a str),
-    /// It is refused with this line, behind `kendo: `.
+    /// It is refused with this line, after `kendo: `.
     Refused(&'a str),
 }
 
-/// What stands before and behind each text of the lines to come.
+/// What is put before and after each source of the next lines.
 #[derive(Drop)]
 pub(crate) struct Table {
     before: Vec<u8>,
@@ -32,7 +32,7 @@ pub(crate) struct Table {
 }
 
 impl Table {
-    /// The table of whole texts.
+    /// The table of whole sources.
     pub(crate) fn new(alloc: Global) -> Table {
         Table {
             before: Vec::new(alloc),
@@ -40,8 +40,7 @@ impl Table {
         }
     }
 
-    /// Takes a line: an empty one, a comment, or what stands round the texts to come; or sees whether what a line tells of
-    /// its text comes of it.
+    /// Takes a line: an empty one, a comment, or what is put around the next sources; or checks what a line expects of its source.
     pub(crate) fn check_line<R: Threads + Wait + Sync>(
         &mut self,
         rt: &R,
@@ -60,7 +59,7 @@ impl Table {
         Ok(())
     }
 
-    /// Sees whether what a line tells of its text comes of it.
+    /// Checks what a line expects of its source.
     fn check_text<R: Threads + Wait + Sync>(
         &self,
         rt: &R,
@@ -94,7 +93,7 @@ impl Table {
     }
 }
 
-/// Sees whether a text finishes, and writes this.
+/// Checks that a program finishes, and writes this.
 fn check_output<R: Threads + Wait + Sync>(
     rt: &R,
     alloc: Global,
@@ -106,7 +105,7 @@ fn check_output<R: Threads + Wait + Sync>(
     check_runs(rt, alloc, text, &row, output.as_slice())
 }
 
-/// What the words before a text tell.
+/// The expectation that the words before a source state.
 fn told_of(words: &str) -> Told<'_> {
     match words.split_once(' ').unwrap_or((words, "")) {
         ("read", _) => Told::Read,
@@ -117,7 +116,7 @@ fn told_of(words: &str) -> Told<'_> {
     }
 }
 
-/// The row of a text that is refused so.
+/// The row of a source that is refused so.
 fn refused(alloc: Global, told: &str) -> Result<Row, AllocError> {
     let mut row = Row::new(alloc)?;
     row.status = 1;
@@ -125,7 +124,7 @@ fn refused(alloc: Global, told: &str) -> Result<Row, AllocError> {
     Ok(row)
 }
 
-/// Whether the scanner and the parser took the text of a run.
+/// Whether the scanner and the parser took the source of a run.
 fn was_read(outcome: &Result<End, Fault>) -> bool {
     match outcome {
         Ok(_) | Err(Fault::Typing { .. }) => true,
@@ -137,7 +136,7 @@ fn was_read(outcome: &Result<End, Fault>) -> bool {
     }
 }
 
-/// Sees whether a text is read.
+/// Checks that a source is read.
 fn check_read<R: Threads + Wait + Sync>(rt: &R, alloc: Global, text: &[u8]) -> Result<(), Flaw> {
     let ran = Ran::of(rt, alloc, text, LIMIT, 1)?;
     if was_read(&ran.outcome) {
@@ -149,7 +148,7 @@ fn check_read<R: Threads + Wait + Sync>(rt: &R, alloc: Global, text: &[u8]) -> R
     })
 }
 
-/// Sees whether each beginning of a text is refused.
+/// Checks that each beginning of a source is refused.
 fn check_cuts<R: Threads + Wait + Sync>(rt: &R, alloc: Global, text: &[u8]) -> Result<(), Flaw> {
     for length in 0..text.len() {
         let ran = Ran::of(rt, alloc, &text[..length], LIMIT, 1)?;

@@ -54,11 +54,11 @@ module _ {T : Type 0} where
   abbrev pub spent : View T
   spent = record { puts = false; takes = false; alone = false; put = []; gone = 0 }
 
-  -- a pass that is told what was put
+  -- a pass that learns what was put
   abbrev pub told_put : View T → View T → View T
   told_put v w = record v { put = longer v.put w.put }
 
-  -- a pass that is told how many were taken
+  -- a pass that learns how many were taken
   abbrev pub told_gone : View T → View T → View T
   told_gone v w = record v { gone = cond (nat_lt v.gone w.gone) w.gone v.gone }
 
@@ -70,7 +70,7 @@ module _ {T : Type 0} where
   abbrev pub IsTaking : View T → Type 0
   IsTaking v = (v.takes ≡ true) × (v.puts ≡ false)
 
-  -- where the pass takes alone, all that it knows to be put was taken
+  -- if the pass takes alone, all that it knows to be put was taken
   abbrev pub IsAllTaken : View T → Type 0
   IsAllTaken v = v.alone ≡ true → length v.put ≤ v.gone
 
@@ -82,7 +82,7 @@ module _ {T : Type 0} where
   abbrev pub PutsOne : View T → T → View T → Type 0
   PutsOne v x w = w ≡ record v { put = v.put ++ x ∷ [] }
 
-  -- a pass takes the item before which n were put: it took none from there on, where it takes alone it took all before, and the item is the one that was put there
+  -- a pass takes the item before which n were put: it took none from there on, if it takes alone it took all before, and the item is the one that was put there
   abbrev pub TakesOne : View T → T → View T → Type 0
   TakesOne v x w =
       (n : ℕ) × (v.gone ≤ n) × (v.alone ≡ true → n ≡ v.gone) × (slice_get w.put n ≡ Some x) × Begins v.put w.put

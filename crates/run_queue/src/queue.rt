@@ -16,7 +16,7 @@ const MOST: u64 = 1 << 62;
 
 type Line<T> = RuledArrayQueue<T, View<T>, InTurn>;
 
-/// A queue of at most so many items. One pass puts at its back, and any number of passes take from its front. An item's
+/// A queue of limited capacity. One pass puts at its back, and any number of passes take from its front. An item's
 /// number is how many were put before it.
 #[derive(Drop)]
 pub struct RunQueue<T: Drop> {
@@ -46,7 +46,7 @@ impl<T: Drop> RunQueue<T> {
 
     /// An empty queue of this capacity, the pass that puts, and one that takes alone.
     ///
-    /// Errors: `Memory`, also where the capacity is 2^60 or more.
+    /// Errors: `Memory`, also if the capacity is 2^60 or more.
     pub fn new(
         alloc: Global,
         capacity: usize,
@@ -91,7 +91,7 @@ impl<T: Drop> RunQueue<T> {
         self.line.absorb::<Gone>(&mut puts.pass, gone);
     }
 
-    /// Puts an item at the back. It comes back only where the queue was full at one moment of the call, so that as many as its
+    /// Puts an item at the back. It comes back only if the queue was full at one moment of the call, so that as many as its
     /// capacity were put and not yet taken, or where 2^62 had been put.
     pub fn put<R: Wait>(&self, rt: &R, pass: &mut PutPass<T>, item: T) -> Result<(), T>
         requires { IsPutOf self.now pass.old }
@@ -110,7 +110,7 @@ impl<T: Drop> RunQueue<T> {
     }
 
     /// Takes the item at the front, of which it knows then that it was put, and under which number; that is above each that this
-    /// pass took before. None only where the queue was empty at one moment of the call: a pass that takes alone has then taken
+    /// pass took before. `None` only if the queue was empty at one moment of the call: a pass that takes alone has then taken
     /// all that it knows to be put.
     pub fn take<R: Wait>(&self, rt: &R, pass: &mut TakePass<T>) -> Option<T>
         requires { IsTakeOf self.now pass.old }

@@ -206,7 +206,7 @@ contrary found c is here none =
     let impossible : true ≡ false = sym here ∙ wrong in
     cc
 
--- where no letter or digit follows, no longer text is a name
+-- if no letter or digit follows, no longer text is a name
 pub name_ends : (n m : ℕ) (text : List ℕ) → n < m → m ≤ length text → are_letters_and_digits (take n text) ≡ true → begins_letter_or_digit (drop n text) ≡ false → is_name (take m text) ≡ false
 name_ends n m text lt le all end = go (are_letters_and_digits (take m text)) refl where
   go : (b : Bool) → are_letters_and_digits (take m text) ≡ b → b && begins_letter (take m text) ≡ false
@@ -228,7 +228,7 @@ name_ends n m text lt le all end = go (are_letters_and_digits (take m text)) ref
       let here : is_letter_or_digit o.char ≡ true = rest_passes (take n text) rest o.char o.rest u o.chars_are passing in
       absurd (contrary (front_char (drop n text)) o.char o.text_begins here end)
 
--- where no letter begins, no name does
+-- if no letter begins, no name does
 pub no_name : (m : ℕ) (text : List ℕ) → 1 ≤ m → m ≤ length text → begins_letter text ≡ false → is_name (take m text) ≡ false
 no_name m text some le none = go (are_letters_and_digits (take m text)) refl where
   go : (b : Bool) → are_letters_and_digits (take m text) ≡ b → b && begins_letter (take m text) ≡ false

@@ -7,7 +7,7 @@ use Rattle.scanner.specs.declared.token.Token.{Token}
 use Rattle.scanner.specs.Elements.{element_at}
 use Rattle.scanner.specs.Tokens.{Scanned, behind, line_end, ender, taken, tokens, tokens_of}
 
--- at most so many tokens, unless there is a fault
+-- at most `n` tokens, unless there is a fault
 abbrev AreAtMost : ℕ → Scanned → Type 0
 AreAtMost n (Ok found) = length found ≤ n
 AreAtMost n (Err fault) = Unit {0}

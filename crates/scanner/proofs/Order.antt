@@ -47,7 +47,7 @@ line_fits from to place None (Err e) le ends fits = fits from le
 line_fits from to place (Some at) (Ok ts) le ends fits = (ends.0, omega arith, fits at ends.1)
 line_fits from to place (Some at) (Err e) le ends fits = fits at ends.1
 
--- an element that was found, or a fault, lies within so many bytes from the place on
+-- an element that was found, or a fault, lies within `most` bytes from `place` on
 abbrev pub IsRead : (place most : ℕ) → Result Element Fault → Type 0
 IsRead place most (Ok element) = (1 ≤ length_of element) × (length_of element ≤ most)
 IsRead place most (Err e) = LiesWithin (place + most) e

@@ -42,13 +42,13 @@ abbrev pub is_close : List ℕ → Bool
 is_close (a ∷ b ∷ rest) = (a == byte "*") && (b == byte "/")
 is_close rest = false
 
--- n more bytes, where a length was found
+-- n more bytes, if a length was found
 abbrev pub longer : ℕ → Result ℕ Fault → Result ℕ Fault
 longer n (Ok len) = Ok (n + len)
 longer n (Err fault) = Err fault
 
 -- The bytes of a line comment up to its line's end, which may be the text's end, or the fault of the comment that
--- opened at this place.
+-- opened at offset `opened`.
 unfoldable pub line_comment_rest : (opened : ℕ) → List ℕ → Result ℕ Fault
 line_comment_rest opened [] = Ok 0
 line_comment_rest opened (b ∷ rest) =
@@ -56,18 +56,18 @@ line_comment_rest opened (b ∷ rest) =
     else (if is_newline b then Ok 0 else longer 1 (line_comment_rest opened rest))
 
 -- The bytes of a general comment up to and with its */, or the fault that is met first in reading the comment that
--- opened at this place.
+-- opened at offset `opened`.
 unfoldable pub general_comment_rest : (opened : ℕ) → List ℕ → Result ℕ Fault
 general_comment_rest opened [] = Err (faults.OpenComment (byte_place opened))
 general_comment_rest opened (b ∷ rest) =
     if is_forbidden (b ∷ rest) then Err (faults.BadCharacter (byte_place opened))
     else (if is_close (b ∷ rest) then Ok 2 else longer 1 (general_comment_rest opened rest))
 
--- what stands behind the backslash of an escape: n t \ "
+-- what follows the backslash of an escape: n t \ "
 abbrev pub is_escape : ℕ → Bool
 is_escape b = (b == byte "n") || ((b == byte "t") || ((b == byte "\\") || (b == byte "\"")))
 
--- Of a byte in a string: it ends the line, or is no escape behind a backslash; it is the closing quote; it is the
+-- Of a byte in a string: it ends the line, or can't follow a backslash in an escape; it is the closing quote; it is the
 -- backslash of an escape. `escaped` says that the byte before is such a backslash.
 abbrev pub is_broken : (escaped : Bool) → ℕ → Bool
 is_broken escaped b = is_newline b || (escaped && not (is_escape b))
@@ -79,7 +79,7 @@ abbrev pub is_escaping : (escaped : Bool) → ℕ → Bool
 is_escaping escaped b = (b == byte "\\") && not escaped
 
 -- The bytes of a string up to and with its closing quote, or the fault that is met first in reading the string that
--- opened at this place.
+-- opened at offset `opened`.
 unfoldable pub string_rest : (opened : ℕ) → (escaped : Bool) → List ℕ → Result ℕ Fault
 string_rest opened escaped [] = Err (faults.OpenString (byte_place opened))
 string_rest opened escaped (b ∷ rest) =
@@ -88,17 +88,17 @@ string_rest opened escaped (b ∷ rest) =
     else (if is_closing escaped b then Ok 1
     else longer 1 (string_rest opened (is_escaping escaped b) rest)))
 
--- a line comment behind its // acts like a newline
+-- a line comment after its // acts like a newline
 abbrev pub line_comment : Result ℕ Fault → Result Element Fault
 line_comment (Ok len) = Ok (LineEnd (2 + len))
 line_comment (Err fault) = Err fault
 
--- a general comment behind its /* acts like a newline if it contains one, else like a space
+-- a general comment after its /* acts like a newline if it contains one, else like a space
 abbrev pub general_comment : List ℕ → Result ℕ Fault → Result Element Fault
 general_comment text (Ok len) = Ok (if list_any is_newline (take len text) then LineEnd (2 + len) else Blank (2 + len))
 general_comment text (Err fault) = Err fault
 
--- a string behind its opening quote
+-- a string after its opening quote
 abbrev pub string_literal : Result ℕ Fault → Result Element Fault
 string_literal (Ok len) = Ok (Token (1 + len) kinds.String)
 string_literal (Err fault) = Err fault
@@ -113,7 +113,7 @@ judged place text None = Err (faults.BadCharacter (place_between place (place + 
 judged place text (Some found) =
     if goes_on found.1 (drop found.0 text) then Err (faults.BadNumber (place_between place (place + found.0))) else Ok (Token found.0 found.1)
 
--- the longest token at the front of a text that begins at this place
+-- the longest token at the front of a text that begins at this offset
 abbrev pub token_at : ℕ → List ℕ → Result Element Fault
 token_at place text = judged place text (longest text)
 
@@ -121,7 +121,7 @@ token_at place text = judged place text (longest text)
 abbrev pub opens : (first second : ℕ) → ℕ → List ℕ → Bool
 opens first second a rest = (a == first) && (slice_index rest 0 == second)
 
--- what stands at the front of a text of this first byte, which lies at this place
+-- the element at the front of a text, whose byte `first` lies at offset `place`
 abbrev pub element_at : (place first : ℕ) → (rest : List ℕ) → Result Element Fault
 element_at place a rest =
     if is_newline a then Ok (LineEnd 1)

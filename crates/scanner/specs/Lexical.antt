@@ -140,7 +140,7 @@ is_x b = (b == byte "x") || (b == byte "X")
 abbrev pub is_hex_digit : ℕ → Bool
 is_hex_digit b = is_ascii_hexdigit b
 
--- behind a 0: x and hexadecimal digits, of which there is one at least
+-- after a 0: x and hexadecimal digits, of which there is one at least
 abbrev pub is_hexadecimal : List ℕ → Bool
 is_hexadecimal [] = false
 is_hexadecimal (x ∷ digits) = is_x x && (not (is_empty digits) && list_all is_hex_digit digits)
@@ -170,7 +170,7 @@ longest_within (suc n) text = or_shorter (suc n) (exact (take (suc n) text)) (lo
 unfoldable pub longest : List ℕ → Option (ℕ × TokenKind)
 longest text = longest_within (length text) text
 
--- how many bytes behind a 0 make a hexadecimal number of it, as many as possible
+-- how many bytes after a 0 make a hexadecimal number of it, as many as possible
 abbrev pub hexadecimal_len : List ℕ → ℕ
 hexadecimal_len [] = 0
 hexadecimal_len (x ∷ digits) =
@@ -185,7 +185,7 @@ longest_mark (a ∷ b ∷ []) = or_shorter 2 (mark_2 a b) (or_shorter 1 (mark_1 
 longest_mark (a ∷ b ∷ c ∷ rest) =
     or_shorter 3 (mark_3 a b c) (or_shorter 2 (mark_2 a b) (or_shorter 1 (mark_1 a) None))
 
--- whether a line's end directly behind this token inserts a semicolon
+-- whether a line's end directly after this token inserts a semicolon
 abbrev pub ends_line : TokenKind → Bool
 ends_line kinds.Name = true
 ends_line kinds.Integer = true

@@ -18,17 +18,17 @@ abbrev pub behind : List Token → Scanned → Scanned
 behind front (Ok tokens) = Ok (front ++ tokens)
 behind front (Err fault) = Err fault
 
--- The semicolon of a line's end, where one belongs. It is empty, and stands directly behind the token that it follows.
+-- The semicolon of a line's end, if one belongs there. It is empty, and stands directly after the token that it follows.
 abbrev pub line_end : Option ℕ → List Token
 line_end None = []
 line_end (Some place) = record { kind = kinds.Semicolon; span = record { from = place; to = place } } ∷ []
 
--- where a line's end would put a semicolon behind a token that ends here
+-- where a line's end would put a semicolon after a token that ends here
 abbrev pub ender : TokenKind → ℕ → Option ℕ
 ender kind place = if ends_line kind then Some place else None
 
--- What stands at this place, and what follows it. White space changes nothing, a line's end inserts a semicolon where
--- one belongs, and a token says whether the next line's end does.
+-- The element at offset `place`, and what follows it. White space changes nothing, a line's end inserts a semicolon if
+-- one belongs there, and a token says whether the next line's end does.
 abbrev pub taken : (place : ℕ) → (after : Option ℕ) → Result Element Fault → (ℕ → Option ℕ → Scanned) → Scanned
 taken place after (Err fault) rest = Err fault
 taken place after (Ok (elements.Blank len)) rest = rest (len - 1) after
@@ -36,8 +36,8 @@ taken place after (Ok (elements.LineEnd len)) rest = behind (line_end after) (re
 taken place after (Ok (elements.Token len kind)) rest =
     behind (record { kind = kind; span = record { from = place; to = place + len } } ∷ []) (rest (len - 1) (ender kind (place + len)))
 
--- The tokens from a place of the text on, where so many bytes still belong to what stands before, and a line's end
--- would put a semicolon there. The end of the text counts as a line's end.
+-- The tokens from offset `place` of the text on. The first `passed` bytes still belong to the token before; a line's end
+-- would put a semicolon at `after`. The end of the text counts as a line's end.
 unfoldable pub tokens : (passed place : ℕ) → (after : Option ℕ) → (text : List ℕ) → Scanned
 tokens passed place after [] = Ok (line_end after)
 tokens (suc passed) place after (b ∷ rest) = tokens passed (place + 1) after rest
@@ -47,16 +47,16 @@ tokens zero place after (b ∷ rest) = taken place after (element_at place b res
 abbrev pub tokens_of : List ℕ → Scanned
 tokens_of text = tokens 0 0 None text
 
--- each token lies behind the one before it, and all between these places
+-- each token lies after the one before it, and all between `from` and `to`
 abbrev pub IsInOrder : (from to : ℕ) → List Token → Type 0
 IsInOrder from to [] = from ≤ to
 IsInOrder from to (token ∷ rest) = (from ≤ token.span.from) × (token.span.from ≤ token.span.to) × IsInOrder token.span.to to rest
 
--- the place lies within a text of so many bytes
+-- the place lies within a text of `end` bytes
 abbrev pub IsWithin : (end : ℕ) → Place → Type 0
 IsWithin end place = (place.span.from ≤ place.span.to) × (place.span.to ≤ end)
 
--- a fault of a text of so many bytes lies within it
+-- a fault of a text of `end` bytes lies within it
 abbrev pub LiesWithin : (end : ℕ) → Fault → Type 0
 LiesWithin end (faults.BadCharacter place) = IsWithin end place
 LiesWithin end (faults.BadNumber place) = IsWithin end place

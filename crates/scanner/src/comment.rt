@@ -24,7 +24,7 @@ fn line_comment_rest(opened: u32, text: &[u8]) -> Result<usize, Fault>
     Ok(text.len())
 }
 
-/// A line comment, of which `text` stands behind the `//`. It acts like a newline.
+/// A line comment; `text` follows the `//`. It acts like a newline.
 pub(crate) fn line_comment(opened: u32, text: &[u8]) -> Result<Element, Fault>
     requires { opened + length text.now ≤ 1048576 }
     ensures comment { result ≡ line_comment (line_comment_rest opened text.now) }
@@ -59,7 +59,7 @@ fn general_comment_rest(opened: u32, text: &[u8]) -> Result<usize, Fault>
     Err(Fault::OpenComment(byte_place(opened)))
 }
 
-/// A general comment, of which `text` stands behind the `/*`. It acts like a newline if it contains one, else like a
+/// A general comment; `text` follows the `/*`. It acts like a newline if it contains one, else like a
 /// space.
 pub(crate) fn general_comment(opened: u32, text: &[u8]) -> Result<Element, Fault>
     requires { opened + length text.now ≤ 1048576 }

@@ -58,7 +58,7 @@ fn goes_on(kind: TokenKind, rest: &[u8]) -> bool
     }
 }
 
-/// The longest token at the front of `text`, which begins at this place.
+/// The longest token at the front of `text`, which begins at offset `place`.
 fn token_at(place: u32, text: &[u8]) -> Result<Element, Fault>
     requires some { 1 ≤ length text.now }
     requires short { place + length text.now ≤ 1048576 }
@@ -82,7 +82,7 @@ fn token_at(place: u32, text: &[u8]) -> Result<Element, Fault>
     Ok(Element::Token(len, kind))
 }
 
-/// What stands at the front of a text that isn't empty and begins at this place.
+/// The element at the front of `text`, which isn't empty and begins at offset `place`.
 ///
 /// Errors: `BadCharacter`, `BadNumber`, `OpenString` and `OpenComment`, placed at the first byte of what is wrong.
 pub(crate) fn element_at(place: u32, text: &[u8]) -> Result<Element, Fault>

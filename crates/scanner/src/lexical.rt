@@ -236,7 +236,7 @@ pub(crate) fn mark_3(first: u8, second: u8, third: u8) -> Option<TokenKind>
     }
 }
 
-/// Whether a line's end directly behind this token inserts a semicolon.
+/// Whether a line's end directly after this token inserts a semicolon.
 pub(crate) fn ends_line(kind: TokenKind) -> bool
     ensures { result ≡ ends_line kind }
 {

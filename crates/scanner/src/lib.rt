@@ -1,4 +1,4 @@
-//! The tokens of a text.
+//! The tokens of a source file.
 #![tactic(auto)]
 
 mod comment;

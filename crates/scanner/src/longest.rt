@@ -37,7 +37,7 @@ fn hex_digit_run(text: &[u8]) -> usize
     text.iter().take_while(|byte| is_hex_digit(**byte)).count()
 }
 
-/// How many bytes behind a 0 make a hexadecimal number of it: `x` or `X` with all digits that follow, if there are any.
+/// How many bytes after a 0 make a hexadecimal number of it: `x` or `X` with all digits that follow, if there are any.
 fn hexadecimal_len(text: &[u8]) -> usize
     requires { length text.now < 1048576 }
     ensures len { result ≡ hexadecimal_len text.now }

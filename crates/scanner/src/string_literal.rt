@@ -8,14 +8,14 @@ use crate::kind::TokenKind;
 use crate::lexical::is_forbidden;
 use go_text::Fault;
 
-/// Whether an escape may have this byte behind its backslash.
+/// Whether an escape may have this byte after its backslash.
 fn is_escape(byte: u8) -> bool
     ensures { result ≡ is_escape byte }
 {
     matches!(byte, b'n' | b't' | b'\\' | b'"')
 }
 
-/// Whether the byte ends the line, or is no escape behind a backslash.
+/// Whether the byte ends the line, or can't follow a backslash in an escape.
 fn is_broken(escaped: bool, byte: u8) -> bool
     ensures { result ≡ is_broken escaped byte }
 {
@@ -58,7 +58,7 @@ fn string_rest(opened: u32, text: &[u8]) -> Result<usize, Fault>
     Err(Fault::OpenString(byte_place(opened)))
 }
 
-/// A string, of which `text` stands behind the opening quote.
+/// A string; `text` follows the opening quote.
 pub(crate) fn string_literal(opened: u32, text: &[u8]) -> Result<Element, Fault>
     requires { opened + length text.now ≤ 1048576 }
     ensures string { result ≡ string_literal (string_rest opened false text.now) }

@@ -11,14 +11,14 @@ use crate::token::Token;
 use go_text::{Fault, Source, Span};
 use std::alloc::{AllocError, Global};
 
-/// The place of the semicolon that a line's end would insert behind a token that ends here.
+/// The offset of the semicolon that a line's end would insert after a token that ends here.
 fn ender(kind: TokenKind, place: u32) -> Option<u32>
     ensures { result ≡ ender kind place }
 {
     if ends_line(kind) { Some(place) } else { None }
 }
 
-/// Ends a line: inserts a semicolon, where one belongs.
+/// Ends a line: inserts a semicolon, if one belongs there.
 fn end_line(out: &mut Vec<Token>, after: Option<u32>) -> Result<(), AllocError>
     ensures { OnOk result (out.new.items ≡ out.old.items ++ line_end after) }
 {
@@ -67,13 +67,13 @@ fn scan_bytes(alloc: Global, text: &[u8]) -> Result<Vec<Token>, Fault>
     Ok(out)
 }
 
-/// The tokens of the text, with a semicolon inserted where a line ends behind certain tokens. (Go: Lexical elements,
+/// The tokens of the text, with a semicolon inserted where a line ends after certain tokens. (Go: Lexical elements,
 /// Semicolons.)
 ///
 /// Errors, of which the first in the text counts: `BadCharacter` with the character with which no token begins, `BadNumber`
-/// with the number that goes on wrongly; with the first byte of a string or a comment, `BadCharacter` where NUL or a
-/// byte-order mark stands in it, `OpenString` where it has no closing quote on its line or an unknown escape,
-/// `OpenComment` where the text ends in it, whichever is met first in reading it. `Memory`.
+/// with the number that goes on wrongly; with the first byte of a string or a comment, `BadCharacter` if NUL or a
+/// byte-order mark stands in it, `OpenString` if it has no closing quote on its line or an unknown escape,
+/// `OpenComment` if the text ends in it, whichever is met first in reading it. `Memory`.
 pub fn scan(alloc: Global, source: &Source) -> Result<Vec<Token>, Fault>
     ensures tokens { IfOk result (λ v. tokens_of (bytes_of source.now) ≡ Ok v.items) }
     ensures fault { IfErr result (λ e. (e ≡ Fault.Memory) ⊎ (tokens_of (bytes_of source.now) ≡ Err e)) }

@@ -60,10 +60,10 @@ struct Timing {
     delays: Vec<Delay>,
 }
 
-/// The delays by which a run takes these steps in order: each goroutine waits before its request until its turn comes after the
-/// event before. If `all_wait_first`, the others fall asleep before the last step.
+/// The delays by which a run takes these steps in order: each goroutine waits before its request until its turn comes
+/// after the event before. If `all_wait_first`, the others fall asleep before the last step.
 ///
-/// Errors: out of memory, as which steps count that can't be taken.
+/// Errors: out of memory; steps that can't be taken are reported as that too.
 pub fn schedule_of(
     alloc: Global,
     space: &mut Space<'_>,
@@ -110,7 +110,7 @@ impl Timing {
         }
     }
 
-    /// The delays of these events, after which the program stands in a state, and who acted last.
+    /// The schedule of these delays, after which the program is in `world`, and the goroutine that acted last.
     fn into_schedule(
         self,
         alloc: Global,

@@ -22,8 +22,8 @@ pub enum Choice {
     Sleep,
 }
 
-/// What a select with these clauses does at this clock of its goroutine; `default` tells whether there is a default clause (Go:
-/// Select statements). Of k ready clauses, in source order, the one of index clock mod k is done.
+/// What a select with these clauses does at this clock of its goroutine; `default` is whether there is a default clause (Go: Select
+/// statements). Of k ready clauses, in source order, the one of index clock mod k is done.
 pub fn choose(channels: &Channels, cases: &[Case], default: bool, clock: Clock) -> Choice
     ensures there { IsThere result cases.now }
     ensures chooses { (o : Others) (n : ℕ) (q : AnyRequest) → Chooses result cases.now default (choose (shared_with o channels.now) n clock q cases.now) }

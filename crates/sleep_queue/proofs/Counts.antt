@@ -51,7 +51,7 @@ filter_short : (p : Waiting → Bool) (ws : List Waiting) → length (filter p w
 filter_short p [] = omega arith
 filter_short p (w ∷ ws) = let i = filter_short p ws in elim (cases_Bool (p w)) [ inl b ↦ rw b (omega (arith, i)) | inr b ↦ rw b (omega (arith, i)) ]
 
--- so many offers of row r came up to the one of key k, which is of the row
+-- `count` offers of row r came up to the one of key k, which is of the row
 pub record IsCounted (xs : List (Option Node)) (r k count : ℕ) : Type 0 where
   pub taken : is_some (slice_index_or xs k None) ≡ true
   pub group : (places_by by_row xs).group k ≡ r

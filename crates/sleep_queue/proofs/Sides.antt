@@ -352,7 +352,7 @@ module _ (xs : List (Option Node)) (t r q : ℕ) (d : AreApart xs) (b : AreBefor
   pub first_of_heads : (next : List ℕ) (head : ℕ → Option ℕ) → IsSide by_row xs next head → First (sooner (node_at xs (head r)) (node_at xs (head q)))
   first_of_heads next head side = first_either (node_at xs (head r)) (node_at xs (head q)) (front_of xs r (head r) (side.heads r)) (front_of xs q (head q) (side.heads q))
 
--- with room for more
+-- with more capacity
 pub queues_reserved : (s s' : Slab Node) (i i' : Slab Item) (room more t : ℕ) (rows : List ℕ) (heads : List (Option ℕ)) (own : List ℕ) (owners : List (Option ℕ)) → s' ≡ record s { capacity = room } → i' ≡ record i { capacity = more }
     → IsQueues s.slots i.slots t rows heads own owners → IsQueues s'.slots i'.slots t rows heads own owners
 queues_reserved s s' i i' room more t rows heads own owners e f q =

@@ -14,7 +14,7 @@ pub record Places : Type 0 where
   pub group : ℕ → ℕ
   pub stamp : ℕ → ℕ
 
--- no place is between x and y, in the order of stamps, which begins anew behind the last
+-- no place is between x and y, in the order of stamps, which starts over after the last
 pub record IsBeside (u : Places) (x y : ℕ) : Type 0 where
   pub group : u.group y ≡ u.group x
   pub rises : (z : ℕ) → u.taken z ≡ true → u.group z ≡ u.group x → u.stamp x < u.stamp y → u.stamp x < u.stamp z → u.stamp y ≤ u.stamp z
@@ -156,7 +156,7 @@ by_number n = n.offer.number
 abbrev pub head_at : List (Option ℕ) → ℕ → Option ℕ
 head_at heads q = slice_index_or heads q None
 
--- what stands at a place, if there is one
+-- what is at a place, if anything
 abbrev pub node_at : List (Option Node) → Option ℕ → Option Node
 node_at xs None = None
 node_at xs (Some k) = slice_index_or xs k None

@@ -151,7 +151,7 @@ fn at(near: &[Option<NumberedKey>], number: u64) -> Option<NumberedKey>
     }
 }
 
-/// Makes room for a number's place.
+/// Extends the list to cover the index of `number`.
 fn cover(near: &mut Vec<Option<NumberedKey>>, number: u64) -> Result<(), AllocError>
     ensures covered { OnOk result (number % NEAR < length near.new.items) }
     ensures same { (n : ℕ) → near_at near.new.items n ≡ near_at near.old.items n }
@@ -176,7 +176,7 @@ fn set_near(near: &mut Vec<Option<NumberedKey>>, number: u64, entry: Option<Numb
     }
 }
 
-/// A number's key stands at its place, which is no other number's.
+/// Puts a number's key at its place, which no other number has.
 fn put_near(near: &mut Vec<Option<NumberedKey>>, entry: NumberedKey) -> Result<(), AllocError>
     requires { is_free_for (near_at near.old.items entry.number) entry.number ≡ true }
     ensures own { OnOk result (key_for (near_at near.new.items entry.number) entry.number ≡ Some entry.key) }
@@ -188,7 +188,7 @@ fn put_near(near: &mut Vec<Option<NumberedKey>>, entry: NumberedKey) -> Result<(
     Ok(())
 }
 
-/// A number's key stands at its place if nothing stood there.
+/// Puts a number's key at its place, if the list covers that and it is empty; returns whether it did.
 #[inline(always)]
 fn fill_near(near: &mut [Option<NumberedKey>], entry: NumberedKey) -> bool
     ensures free { result ≡ true → near_at near.old entry.number ≡ None }

@@ -249,8 +249,8 @@ impl SleepQueues {
         }
     }
 
-    /// All offers of a goroutine leave their rows. For each at most three offers are touched: itself and those beside it in
-    /// its row. Those beside it among the goroutine's own leave too.
+    /// All offers of a goroutine leave their rows. For each, at most three offers are touched: itself and its neighbours in its row. Its
+    /// neighbours among the goroutine's own offers leave too.
     pub fn leave_all<L: Ledger>(&mut self, number: u64, steps: &mut Steps<L>)
         ensures left { self.new ≡ record self.old { waiting = filter (is_not_of number) self.old.waiting } }
         ensures steps { steps.new ≤ steps.old + 3 * length (filter (is_of number) self.old.waiting) }

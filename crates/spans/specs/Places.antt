@@ -18,12 +18,12 @@ abbrev pub to_of : Option Token → ℕ
 to_of None = 0
 to_of (Some token) = token.span.to
 
--- the end of the last of so many tokens from this one on; where there are none, the first byte of this one
+-- the end of the last of `count` tokens from token `at` on; if `count` is 0, the first byte of that token
 abbrev pub end_of : List Token → (at count : ℕ) → ℕ
 end_of tokens at zero = from_of (slice_get tokens at)
 end_of tokens at (suc others) = to_of (slice_get tokens (at + others))
 
--- the bytes of so many tokens from this one on
+-- the bytes of `count` tokens from token `at` on
 abbrev pub over : List Token → (at count : ℕ) → Span
 over tokens at count = record { from = from_of (slice_get tokens at); to = end_of tokens at count }
 
@@ -81,7 +81,7 @@ abbrev mutual
   -- cap ( channel )
   expression_spans tokens at (Capacity channel) = under (expression_spans tokens (at + 2) channel) (over tokens at (expression_count (Capacity channel)))
 
-  -- expressions with a mark behind each
+  -- expressions with a mark after each
   pub values_spans : List Token → ℕ → Expressions → List Span
   values_spans tokens at NoMore = []
   values_spans tokens at (Behind first rest) =
@@ -104,7 +104,7 @@ abbrev pub part_spans : List Token → ℕ → Part → List Span
 part_spans tokens at (Value value) = expression_spans tokens at value
 part_spans tokens at (Text bytes) = over tokens at 1 ∷ []
 
--- parts with a mark behind each
+-- parts with a mark after each
 abbrev pub parts_spans : List Token → ℕ → List Part → List Span
 parts_spans tokens at [] = []
 parts_spans tokens at (first ∷ rest) = part_spans tokens at first ++ parts_spans tokens (at + part_step first) rest
@@ -112,7 +112,7 @@ parts_spans tokens at (first ∷ rest) = part_spans tokens at first ++ parts_spa
 abbrev pub place_span : List Token → ℕ → Place → Span
 place_span tokens at place = over tokens at (place_count place)
 
--- places with a mark behind each
+-- places with a mark after each
 abbrev pub places_spans : List Token → ℕ → List Place → List Span
 places_spans tokens at [] = []
 places_spans tokens at (first ∷ rest) = place_span tokens at first ∷ places_spans tokens (at + place_step first) rest
@@ -279,7 +279,7 @@ abbrev mutual
   statement_spans tokens at Break = over tokens at 1 ∷ []
   statement_spans tokens at Continue = over tokens at 1 ∷ []
 
-  -- statements with a mark behind each
+  -- statements with a mark after each
   pub body_spans : List Token → ℕ → Statements → List Span
   body_spans tokens at NoStatement = []
   body_spans tokens at (Then first rest) =
@@ -297,7 +297,7 @@ abbrev mutual
       ++ otherwise_spans tokens behind_body otherwise)
       (over tokens at (branch_count (Conditional head condition body otherwise)))
 
-  -- what stands behind the block of an `if`
+  -- what stands after the block of an `if`
   pub otherwise_spans : List Token → ℕ → Otherwise → List Span
   otherwise_spans tokens at NoElse = []
   -- else { body }
@@ -328,7 +328,7 @@ group_spans tokens at declared =
     under (type_spans tokens (at + joined (length declared.names * 2)) declared.type_expression)
     (over tokens at (group_count declared))
 
--- fields or parameters with a mark behind each
+-- fields or parameters with a mark after each
 abbrev pub groups_spans : List Token → ℕ → List Declared → List Span
 groups_spans tokens at [] = []
 groups_spans tokens at (first ∷ rest) = group_spans tokens at first ++ groups_spans tokens (at + group_step first) rest
@@ -350,7 +350,7 @@ below_top tokens at (FunctionTop function) = below_function tokens at function
 abbrev pub top_spans : List Token → ℕ → Top → List Span
 top_spans tokens at top = under (below_top tokens at top) (over tokens at (top_count top))
 
--- declarations with a semicolon behind each
+-- declarations with a semicolon after each
 abbrev pub tops_spans : List Token → ℕ → List Top → List Span
 tops_spans tokens at [] = []
 tops_spans tokens at (first ∷ rest) = top_spans tokens at first ++ tops_spans tokens (at + top_step first) rest

@@ -5,15 +5,15 @@ use Rattle.syntax.specs.declared.node.Direction.TheVariants as directions
 use Rattle.syntax.specs.Tree.{TypeExpression, NamedType, ParenthesizedType, Channel, Expression, Integer, Named, Parenthesized, Selection, Composite, Unary, Binary, Call, Receive, Make, MakeSized, Length, Capacity, Expressions, NoMore, Behind, expressions, Arguments, Place, Part, Value, Text, Simple, CallAlone, Close, Print, ReceiveAlone, Send, Increment, Decrement, Assign, Define, Update, IfHead, Bare, Semicolon, First, Target, NoTarget, DefineTarget, AssignTarget, ForHead, Forever, While, ForClauses, Range, Comm, CommSend, CommReceive, CommDefine, CommAssign, Returned, NoValue, ReturnedValue, Statement, Empty, Alone, VarTyped, VarUntyped, Block, If, For, Select, Go, Return, Break, Continue, Statements, NoStatement, Then, Otherwise, Branch, Conditional, NoElse, ElseBlock, ElseIf, Clauses, NoClause, Clause, Declared, Top, StructTop, FunctionTop, File}
 use Rattle.syntax.specs.Measures.{if_any}
 
--- So many tokens from the one with the number `at` on end before number 2^40: their numbers can be added.
+-- `count` tokens from the one with the number `at` on end before number 2^40: their numbers can be added.
 abbrev pub EndsInReach : (at count : ℕ) → Type 0
 EndsInReach at count = at + count < 2 ^ 40
 
--- entries with a mark between each two, which are so many tokens with a mark behind each
+-- the tokens of entries with a mark between each two, which are `marked` tokens with a mark after each
 abbrev pub joined : (marked : ℕ) → ℕ
 joined marked = marked - 1
 
--- the same in braces
+-- like `joined`, in braces
 abbrev pub braced : (marked : ℕ) → ℕ
 braced marked = joined marked + 2
 
@@ -30,7 +30,7 @@ type_count (NamedType name) = 1
 type_count (ParenthesizedType inner) = type_count inner + 2
 type_count (Channel direction element) = direction_count direction + type_count element
 
--- a mark behind the last entry
+-- a mark after the last entry
 abbrev pub trailing_count : Bool → ℕ
 trailing_count true = 1
 trailing_count false = 0
@@ -53,7 +53,7 @@ abbrev mutual
   expression_count (Length channel) = expression_count channel + 3
   expression_count (Capacity channel) = expression_count channel + 3
 
-  -- each of these, and the mark behind it
+  -- each of these, and the mark after it
   pub values_count : Expressions → ℕ
   values_count NoMore = 0
   values_count (Behind first rest) = expression_count first + 1 + values_count rest
@@ -68,7 +68,7 @@ arguments_count arguments = joined (values_count (expressions arguments.values))
 abbrev pub right_count : List Expression → ℕ
 right_count values = joined (values_count (expressions values))
 
--- a name, and fields each behind a period
+-- a name, and fields each after a period
 abbrev pub place_count : Place → ℕ
 place_count place = length place.fields * 2 + 1
 
@@ -76,11 +76,11 @@ abbrev pub part_count : Part → ℕ
 part_count (Value value) = expression_count value
 part_count (Text bytes) = 1
 
--- a part, and the mark behind it
+-- a part, and the mark after it
 abbrev pub part_step : Part → ℕ
 part_step part = part_count part + 1
 
--- a place, and the mark behind it
+-- a place, and the mark after it
 abbrev pub place_step : Place → ℕ
 place_step place = place_count place + 1
 
@@ -167,7 +167,7 @@ abbrev mutual
   statement_count Break = 1
   statement_count Continue = 1
 
-  -- each of these, and the mark behind it
+  -- each of these, and the mark after it
   pub body_count : Statements → ℕ
   body_count NoStatement = 0
   body_count (Then first rest) = statement_count first + 1 + body_count rest
@@ -197,11 +197,11 @@ clause_count comm body = start_count comm + joined (body_count body)
 abbrev pub group_count : Declared → ℕ
 group_count declared = joined (length declared.names * 2) + type_count declared.type_expression
 
--- the same, and the mark behind it
+-- like `group_count`, with the mark after it
 abbrev pub group_step : Declared → ℕ
 group_step declared = group_count declared + 1
 
--- fields or parameters with a mark between each two, and maybe one behind the last
+-- fields or parameters with a mark between each two, and maybe one after the last
 abbrev pub groups_count : List Declared → Bool → ℕ
 groups_count groups trailing = joined (sum_by group_step groups) + trailing_count trailing
 
@@ -214,7 +214,7 @@ top_count (StructTop struct) = groups_count struct.fields struct.trailing + 5
 top_count (FunctionTop function) =
     groups_count function.parameters function.trailing + if_any type_count function.result + block_count function.body + 4
 
--- a declaration, and the semicolon behind it
+-- a declaration, and the semicolon after it
 abbrev pub top_step : Top → ℕ
 top_step top = top_count top + 1
 

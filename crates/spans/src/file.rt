@@ -125,7 +125,7 @@ fn top_spans(
     }
 }
 
-/// Adds the spans of declarations. They are counted with a semicolon behind each.
+/// Adds the spans of declarations. The count includes a semicolon after each.
 fn tops_spans(
     tops: &[TopNode],
     tokens: &[Token],
@@ -143,7 +143,7 @@ fn tops_spans(
     Ok(count)
 }
 
-/// Where the nodes of a file stand, in the order of their numbers, if these tokens spell it. It fails only where memory
+/// Where the nodes of a file stand, in the order of their numbers, if these tokens spell it. It fails only if memory
 /// is refused.
 pub fn file_spans(alloc: Global, file: &FileNode, tokens: &[Token]) -> Result<Vec<Span>, Memory>
     requires { EndsInReach 0 (file_count (file_of file.now)) }

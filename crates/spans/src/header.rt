@@ -143,7 +143,7 @@ pub(crate) fn for_head_spans(
     }
 }
 
-/// Adds the span of a second place, if there is one, behind a comma.
+/// Adds the span of a second place, if there is one, after a comma.
 fn second_spans(
     place: &Option<PlaceNode>,
     tokens: &[Token],
@@ -175,7 +175,7 @@ fn receive_spans(
     add_node(tokens, at, count, spans)
 }
 
-/// How many tokens spell a second name, if there is one, behind a comma.
+/// How many tokens spell a second name, if there is one, after a comma.
 fn second_name_count(name: &Option<Name>) -> usize
     ensures { result ≡ second_name_count (option_map name_of name.now) }
 {
@@ -243,7 +243,7 @@ pub(crate) fn start_spans(
     }
 }
 
-/// Adds the spans of the values of a `var` with a type, if there are any, behind a `=`.
+/// Adds the spans of the values of a `var` with a type, if there are any, after a `=`.
 pub(crate) fn initial_spans(
     right: &Option<Vec<ExpressionNode>>,
     tokens: &[Token],

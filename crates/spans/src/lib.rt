@@ -1,8 +1,8 @@
-//! Where the nodes of a tree stand in its text: a walk over a finished tree, beside the tokens that spell it.
+//! Where the nodes of a syntax tree stand in the source: a walk over a finished tree and its tokens.
 //!
-//! Each function takes a part of the tree, and the number `at` of the part's first token. It puts the spans of the part's
-//! nodes behind others, in the order of the nodes' numbers, and gives how many tokens spell the part. It fails only where
-//! memory is refused.
+//! Each function takes a part of the tree, and the number `at` of the part's first token. It appends the spans of the
+//! part's nodes, in the order of the nodes' numbers, and returns how many tokens spell the part. It fails only if it is
+//! out of memory.
 #![tactic(auto)]
 
 mod expression;

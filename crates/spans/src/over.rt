@@ -7,7 +7,7 @@ ghost use Rattle.spans.specs.Places.{from_of, over, under};
 use go_text::{Memory, Span};
 use scanner::Token;
 
-/// The first byte of a token, or 0 where there is none.
+/// The first byte of a token, or 0 if there is none.
 fn from_of(tokens: &[Token], at: usize) -> u32
     ensures { result ≡ from_of (slice_get tokens.now at) }
 {
@@ -17,7 +17,7 @@ fn from_of(tokens: &[Token], at: usize) -> u32
     }
 }
 
-/// The bytes of so many tokens from this one on; none, where there is no token.
+/// The bytes of `count` tokens from token `at` on; none if there is no token.
 fn over(tokens: &[Token], at: usize, count: usize) -> Span
     requires { EndsInReach at count }
     ensures { result ≡ over tokens.now at count }
@@ -34,7 +34,7 @@ fn over(tokens: &[Token], at: usize, count: usize) -> Span
     Span { from, to }
 }
 
-/// Adds the span of a node of so many tokens, behind those of the nodes below it, and gives that count.
+/// Adds the span of a node of `count` tokens, after those of the nodes below it, and returns `count`.
 pub(crate) fn add_node(
     tokens: &[Token],
     at: usize,

@@ -58,7 +58,7 @@ fn part_spans(
     }
 }
 
-/// Adds the spans of the arguments of a print. They are counted with a mark behind each.
+/// Adds the spans of the arguments of a print. The count includes a mark after each.
 fn parts_spans(
     parts: &[PartNode],
     tokens: &[Token],
@@ -90,7 +90,7 @@ pub(crate) fn place_span(
     add_node(tokens, at, place.fields.len() * 2 + 1, spans)
 }
 
-/// Adds the spans of places. They are counted with a mark behind each.
+/// Adds the spans of places. The count includes a mark after each.
 fn places_spans(
     places: &[PlaceNode],
     tokens: &[Token],

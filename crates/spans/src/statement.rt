@@ -66,7 +66,7 @@ fn statement_spans(
     }
 }
 
-/// Adds the spans of statements. They are counted with a mark behind each.
+/// Adds the spans of statements. The count includes a mark after each.
 #[cycle(statement_spans)]
 fn body_spans(
     body: &[StatementNode],

@@ -99,7 +99,7 @@ impl Drop for TypeNode {
 
 /// An expression ("Expressions").
 pub enum ExpressionNode {
-    /// An integer: its value, or `None` where that is over 2^100.
+    /// An integer: its value, or `None` if that is over 2^100.
     Integer(Option<u128>),
     /// An operand name.
     Named(Name),
@@ -211,7 +211,7 @@ pub enum SimpleNode {
     /// A call of a function.
     Call(Name, ArgumentsNode),
     Close(ExpressionNode),
-    /// A `print` or, where the first is true, a `println`, of parts in order, and whether a comma follows the last one.
+    /// A `print` or, if the first is true, a `println`, of parts in order, and whether a comma follows the last one.
     Print(bool, Vec<PartNode>, bool),
     /// A receive from a channel.
     Receive(ExpressionNode),
@@ -298,7 +298,7 @@ impl Drop for RangeTarget {
 pub enum ForHeader {
     Forever,
     While(ExpressionNode),
-    /// What is done first, the condition, and what is done behind each turn.
+    /// What is done first, the condition, and what is done after each turn.
     Clauses(Option<SimpleNode>, Option<ExpressionNode>, Option<SimpleNode>),
     /// Each item that is received from a channel.
     Range(RangeTarget, ExpressionNode),
@@ -449,13 +449,13 @@ impl Drop for IfNode {
     }
 }
 
-/// What stands behind the block of an `if`.
+/// What stands after the block of an `if`.
 #[cycle(statement)]
 pub enum ElseNode {
     Nothing,
-    /// The statements of the block behind `else`, in order.
+    /// The statements of the block after `else`, in order.
     Block(Vec<StatementNode>),
-    /// The `if` behind `else`.
+    /// The `if` after `else`.
     If(Box<IfNode>),
 }
 
@@ -504,7 +504,7 @@ impl Drop for DeclaredNode {
 pub struct StructNode {
     pub name: Name,
     pub fields: Vec<DeclaredNode>,
-    /// Whether a semicolon stands behind the last field.
+    /// Whether a semicolon stands after the last field.
     pub trailing: bool,
 }
 
@@ -524,7 +524,7 @@ impl Drop for StructNode {
 pub struct FunctionNode {
     pub name: Name,
     pub parameters: Vec<DeclaredNode>,
-    /// Whether a comma stands behind the last parameter.
+    /// Whether a comma stands after the last parameter.
     pub trailing: bool,
     pub result: Option<TypeNode>,
     /// The statements of the function's block, in order.

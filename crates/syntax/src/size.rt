@@ -258,7 +258,7 @@ fn branch_size(branch: &IfNode) -> u32
         + 2
 }
 
-/// How many nodes there are of what stands behind the block of an `if`.
+/// How many nodes there are of what stands after the block of an `if`.
 #[cycle(statement_size)]
 fn otherwise_size(otherwise: &ElseNode) -> u32
     requires { otherwise_size (otherwise_of otherwise.now) < 2 ^ 32 }

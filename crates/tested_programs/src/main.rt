@@ -1,7 +1,7 @@
 //! Tests each program of `data`, first by its run alone and then in other orders, and prints the lines that report it, and the plans
 //! that show other ends again.
 //!
-//! Line 2 of a program, where it is not empty, says what is to be found: that it passes, or why it fails.
+//! Line 2 of a program, if it is not empty, says what is expected: that it passes, or why it fails.
 #![tactic(auto)]
 
 use kendo_test::{OrderSearch, Progress, TestOptions, Tested, Verdict, test_bytes};
@@ -20,7 +20,7 @@ fn main(rt: HostRuntime) -> io::Result<()> {
     Ok(())
 }
 
-/// Nothing is told while a test goes on.
+/// Prints nothing during a test.
 #[derive(Drop)]
 struct Silent;
 
@@ -28,7 +28,7 @@ impl Progress for Silent {
     fn visited(&mut self, _states: usize) {}
 }
 
-/// Tests the program of a file, without and with its other orders; these of a program that ends.
+/// Tests the program of a file, without other orders and, if it ends, with them.
 fn test(rt: &HostRuntime, threads: &(impl Threads + Wait + Sync), name: &str) -> io::Result<()> {
     let bytes = fs::read(rt, name)?;
     test_by(rt, threads, name, bytes.as_slice(), None)?;
@@ -42,7 +42,7 @@ fn test(rt: &HostRuntime, threads: &(impl Threads + Wait + Sync), name: &str) ->
     test_by(rt, threads, name, bytes.as_slice(), Some(orders))
 }
 
-/// Tests a program in this way, and prints what is told of it.
+/// Tests a program, with other orders too if `orders` is given, and prints the report.
 fn test_by(
     rt: &HostRuntime,
     threads: &(impl Threads + Wait + Sync),
@@ -60,7 +60,7 @@ fn test_by(
     }
 }
 
-/// Prints what is told of a test, and whether it passed.
+/// Prints the report of a test, and whether it passed.
 fn print(rt: &HostRuntime, tested: &Tested) -> io::Result<()> {
     let mut out = rt.stdout();
     out.write_all(tested.lines.as_slice())?;

@@ -91,7 +91,7 @@ impl Items {
         }
     }
 
-    /// The same items, for a picture that begins at this clock.
+    /// A copy of the items, for a picture that begins at `clock`.
     pub(crate) fn copied(&self, clock: u64) -> Result<Items, Memory> {
         let mut copy = Items::new(self.alloc);
         for items in self.channels.iter() {

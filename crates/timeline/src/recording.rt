@@ -53,7 +53,7 @@ impl Drop for Recording {
 }
 
 impl Recording {
-    /// The same recording, of a program whose instructions come from these lines.
+    /// This recording, of a program whose instructions come from `lines`.
     pub fn with_lines(self, lines: Vec<Vec<u32>>) -> Recording
         ensures { (result.before ≡ self.before) × (result.events.items ≡ self.events.items) × (result.end ≡ self.end) }
     {

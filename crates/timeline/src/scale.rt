@@ -4,7 +4,7 @@ use crate::recording::Recording;
 use go_text::Memory;
 use std::alloc::Global;
 
-/// How wide a unit of time is if there is room for it, and how wide all units are at most, in pixels.
+/// How wide a unit of time is if there is space for it, and how wide all units are at most, in pixels.
 const UNIT: u64 = 14;
 
 const MOST: u64 = 3_150;
@@ -135,7 +135,7 @@ impl Scale {
         units.saturating_mul(MOST) / self.units.max(1)
     }
 
-    /// Whether there is room for whole units.
+    /// Whether there is space for whole units.
     fn is_wide(&self) -> bool {
         self.units <= MOST / UNIT
     }

@@ -25,7 +25,7 @@ pub(crate) enum Wait {
 }
 
 impl Wait {
-    /// The same wait once more.
+    /// A copy of the wait.
     pub(crate) fn copied(&self, alloc: Global) -> Result<Wait, Memory> {
         Ok(match self {
             Wait::One(clause) => Wait::One(*clause),

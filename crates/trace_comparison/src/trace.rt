@@ -62,7 +62,7 @@ fn add<'t>(lines: &mut Vec<TraceLine<'t>>, event: TraceLine<'t>) -> Result<(), A
     Ok(())
 }
 
-/// The first line that is broken, after this many.
+/// The first line that is malformed, after `before` others.
 fn broken(before: usize) -> TraceError
     requires { before < 2 ^ 63 }
     ensures { result ≡ errors.Broken (before + 1) }

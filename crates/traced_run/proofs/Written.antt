@@ -18,7 +18,7 @@ trace_more : (events : List Event) (e : Event) → trace (events ++ e ∷ []) �
 trace_more events e = flat_map-append traceline events (e ∷ []) ∙ ap (λ (line : List ℕ). trace events ++ line) (append-nil (traceline e))
 
 module _ {S : Type 0} (K : GoroutineKind) (held : S → K.State) where
-  -- of a run that had these events, its output and its trace were written behind what was known
+  -- of a run that had these events, its output and its trace were written after what was known
   pub record HasWritten (run : OpenValue S) (known now : Option (List ℕ)) (heard told : Option (List ℕ)) : Type 0 where
     pub events : List Event
     pub output : List ℕ

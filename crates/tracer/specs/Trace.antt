@@ -1,4 +1,4 @@
--- The events of a run, one a line: the actor's clock, its number, what it asked and what came of it.
+-- The events of a run, one a line: the actor's clock, its number, its request and the outcome.
 use Rattle.std.specs.Prelude.{◌≡◌, ℕ, ◌-◌, false, List, [], ◌∷◌, ◌++◌, Option, Some, None, codes, decimal, length, slice_get, take}
 use Rattle.std.specs.Fmt.{signed_decimal}
 use Rattle.std.specs.Io.KnownBytes.{Appends}
@@ -33,7 +33,7 @@ abbrev pub channel_text : Option ℕ → List ℕ
 channel_text None = codes "nil"
 channel_text (Some number) = decimal number
 
--- what came of a request; `done` where it is done and its actor is told no more
+-- the outcome of a request; `done` if it is done and its actor's reply says no more
 abbrev pub outcome_text : EventOutcome → (done : List ℕ) → List ℕ
 outcome_text (Done (Value (Int number))) done = signed_decimal number
 outcome_text (Done (Value (Chan channel))) done = channel_text channel
@@ -44,12 +44,12 @@ outcome_text (Done _) done = done
 outcome_text Sleeps done = codes "sleeps"
 outcome_text (Panics cause _) done = panic_text cause
 
--- the first partner behind this word, as `to 2`, or `done` where nobody was woken or started
+-- the first partner after this word, as `to 2`, or `done` if nobody was woken or started
 abbrev pub partner_text : (word : List ℕ) (partners : List ℕ) → List ℕ
 partner_text word [] = codes "done"
 partner_text word (number ∷ _) = word ++ decimal number
 
--- what came of an event's request, its first partner behind this word
+-- the outcome of an event's request, its first partner after this word
 abbrev pub result_text : (word : List ℕ) → Event → List ℕ
 result_text word e = outcome_text e.outcome (partner_text word e.partners)
 
@@ -60,12 +60,12 @@ send_text channel e = codes "send " ++ channel_text channel ++ codes " " ++ resu
 abbrev pub receive_text : (channel : Option ℕ) → Event → List ℕ
 receive_text channel e = codes "receive " ++ channel_text channel ++ codes " " ++ result_text (codes "from ") e
 
--- those whom a close wakes, as ` wakes 2 3`
+-- the goroutines that a close wakes, as ` wakes 2 3`
 abbrev pub woken_text : (woken : List ℕ) → List ℕ
 woken_text [] = []
 woken_text (first ∷ rest) = codes " wakes" ++ flat_map (λ number. codes " " ++ decimal number) (first ∷ rest)
 
--- what stands behind `close 1`: nothing, the partners, or a panic
+-- what stands after `close 1`: nothing, the partners, or a panic
 abbrev pub close_text : EventOutcome → (partners : List ℕ) → List ℕ
 close_text (Panics cause _) partners = codes " " ++ panic_text cause
 close_text (Done _) partners = woken_text partners
@@ -77,7 +77,7 @@ clause_number (Done (Clause number _)) = Some number
 clause_number (Panics _ number) = Some number
 clause_number _ = None
 
--- a clause of a select that sends where it has an item
+-- a clause of a select that sends if it has an item
 abbrev pub operation_text : Option Item → (channel : Option ℕ) → Event → List ℕ
 operation_text (Some _) channel e = send_text channel e
 operation_text None channel e = receive_text channel e
@@ -86,12 +86,12 @@ abbrev pub clause_text : Option Case → Event → List ℕ
 clause_text (Some clause) e = operation_text clause.item clause.chan e
 clause_text None e = result_text [] e
 
--- what stands behind `select `, as `case 1 receive 2 done`
+-- what stands after `select `, as `case 1 receive 2 done`
 abbrev pub select_text : List Case → (number : Option ℕ) → Event → List ℕ
 select_text cases None e = result_text [] e
 select_text cases (Some number) e = codes "case " ++ decimal number ++ codes " " ++ clause_text (slice_get cases (number - 1)) e
 
--- what was asked and what came of it
+-- the request and the outcome
 abbrev pub request_text : Request → Event → List ℕ
 request_text (Make _ _) e = codes "make " ++ result_text [] e
 request_text (Go _ _) e = codes "go " ++ result_text [] e

@@ -1,4 +1,4 @@
-//! What a goroutine asked and what came of it, as text.
+//! A goroutine's request and its outcome, as text.
 
 ghost use Rattle.std.specs.Prelude.{◌≡◌, ◌+◌, ◌-◌, ◌*◌, ◌++◌, [], codes, decimal, length, slice_get};
 ghost use Rattle.std.specs.List.{flat_map};
@@ -10,7 +10,7 @@ use crate::outcome::{push_channel, push_outcome, push_panic};
 use crate::room::{push_number, push_text};
 use word::request::{Case, Event, EventOutcome, Reply, Request};
 
-/// An event without its clock and number: what was asked and what came of it.
+/// An event without its clock and number: the request and the outcome.
 pub(crate) fn push_request(lines: &mut Vec<u8>, event: &Event)
     requires { HasRoom lines.old (77 + 21 * length event.now.partners.items) }
     ensures { let e = event_of event.now in AppendsWithin lines.old lines.new (77 + 21 * length event.now.partners.items) (request_text e.request e) }
@@ -32,7 +32,7 @@ pub(crate) fn push_request(lines: &mut Vec<u8>, event: &Event)
     }
 }
 
-/// What was asked, and what came of it.
+/// The request, and the outcome.
 fn push_plain(lines: &mut Vec<u8>, what: &str, event: &Event)
     requires { HasRoom lines.old (length what.now + 20) }
     ensures { AppendsWithin lines.old lines.new (length what.now + 20) (what.now ++ result_text [] (event_of event.now)) }
@@ -41,7 +41,7 @@ fn push_plain(lines: &mut Vec<u8>, what: &str, event: &Event)
     push_outcome(lines, "", event);
 }
 
-/// What was asked of a channel, and what came of it, as `len 1 2`.
+/// A request to a channel, and the outcome, as `len 1 2`.
 fn push_size(lines: &mut Vec<u8>, what: &str, channel: Option<u32>, event: &Event)
     requires { HasRoom lines.old (length what.now + 31) }
     ensures { AppendsWithin lines.old lines.new (length what.now + 31) (what.now ++ channel_text channel ++ codes " " ++ result_text [] (event_of event.now)) }
@@ -51,7 +51,7 @@ fn push_size(lines: &mut Vec<u8>, what: &str, channel: Option<u32>, event: &Even
     push_plain(lines, " ", event);
 }
 
-/// A print of so many bytes.
+/// A print of `count` bytes.
 fn push_print(lines: &mut Vec<u8>, count: usize)
     requires { HasRoom lines.old 26 }
     ensures { AppendsWithin lines.old lines.new 26 (codes "print " ++ decimal count) }
@@ -100,7 +100,7 @@ fn push_close(lines: &mut Vec<u8>, channel: Option<u32>, event: &Event)
     }
 }
 
-/// Those whom a close wakes, if it wakes anybody.
+/// The goroutines that a close wakes, if it wakes any.
 fn push_woken(lines: &mut Vec<u8>, woken: &[u64])
     requires { HasRoom lines.old (6 + 21 * length woken.now) }
     ensures { AppendsWithin lines.old lines.new (6 + 21 * length woken.now) (woken_text woken.now) }
@@ -111,7 +111,7 @@ fn push_woken(lines: &mut Vec<u8>, woken: &[u64])
     }
 }
 
-/// Numbers, each behind a space.
+/// Numbers, each after a space.
 fn push_numbers(lines: &mut Vec<u8>, numbers: &[u64])
     requires { HasRoom lines.old (21 * length numbers.now) }
     ensures { AppendsWithin lines.old lines.new (21 * length numbers.now) (flat_map (λ number. codes " " ++ decimal number) numbers.now) }
@@ -148,7 +148,7 @@ fn push_clause(lines: &mut Vec<u8>, cases: &[Case], number: usize, event: &Event
     }
 }
 
-/// A clause of a select: a send where it has an item.
+/// A clause of a select: a send if it has an item.
 fn push_operation(lines: &mut Vec<u8>, case: &Case, event: &Event)
     requires { HasRoom lines.old 44 }
     ensures { AppendsWithin lines.old lines.new 44 (operation_text case.now.item case.now.chan (event_of event.now)) }

@@ -16,12 +16,11 @@ use go_text::Memory;
 use std::alloc::Global;
 use word::request::Event;
 
-/// The line of an event, with its newline: the actor's clock before it, the actor's number, what it asked and what came of
-/// it.
+/// The line of an event, with its newline: the actor's clock before it, the actor's number, its request and the outcome.
 ///
 /// # Errors
 ///
-/// `Memory` where memory is refused.
+/// `Memory` if memory is refused.
 pub fn line(alloc: Global, event: &Event) -> Result<Vec<u8>, Memory>
     ensures { IfOk result (λ text. text.items ≡ traceline (event_of event.now)) }
 {
@@ -31,11 +30,11 @@ pub fn line(alloc: Global, event: &Event) -> Result<Vec<u8>, Memory>
     Ok(text)
 }
 
-/// Makes room for the line of an event with at most so many partners.
+/// Reserves space for the line of an event with at most `partners` partners.
 ///
 /// # Errors
 ///
-/// `Memory` where memory is refused.
+/// `Memory` if memory is refused.
 pub fn reserve_line(lines: &mut Vec<u8>, partners: usize) -> Result<(), Memory>
     ensures items { lines.new.items ≡ lines.old.items }
     ensures room { OnOk result (HasRoom lines.new (longest_line partners)) }
@@ -50,7 +49,7 @@ pub fn reserve_line(lines: &mut Vec<u8>, partners: usize) -> Result<(), Memory>
     Ok(())
 }
 
-/// Puts the line of an event behind the others, in room that was made for it. It takes no memory.
+/// Appends the line of an event, in space that was reserved for it. It takes no memory.
 pub fn append_line(lines: &mut Vec<u8>, event: &Event)
     requires { HasRoom lines.old (longest_line (length event.now.partners.items)) }
     ensures { lines.new.items ≡ lines.old.items ++ traceline (event_of event.now) }

@@ -1,4 +1,4 @@
-//! What came of a request, as text.
+//! The outcome of a request, as text.
 
 ghost use Rattle.std.specs.Prelude.{◌≡◌, ◌+◌, length};
 ghost use Rattle.word.specs.Views.{event_of};
@@ -47,7 +47,7 @@ pub(crate) fn push_panic(lines: &mut Vec<u8>, cause: Panic)
     push_number(lines, number_of_panic(cause));
 }
 
-/// What came of a request; the first partner stands behind `word`.
+/// The outcome of a request; the first partner stands after `word`.
 pub(crate) fn push_outcome(lines: &mut Vec<u8>, word: &str, event: &Event)
     requires { HasRoom lines.old (length word.now + 20) }
     ensures { AppendsWithin lines.old lines.new (length word.now + 20) (result_text word.now (event_of event.now)) }
@@ -65,7 +65,7 @@ pub(crate) fn push_outcome(lines: &mut Vec<u8>, word: &str, event: &Event)
     }
 }
 
-/// The first partner behind `word`, or `done`.
+/// `word` and the first partner, or `done`.
 fn push_partner(lines: &mut Vec<u8>, word: &str, partners: &[u64])
     requires { HasRoom lines.old (length word.now + 20) }
     ensures { AppendsWithin lines.old lines.new (length word.now + 20) (partner_text word.now partners.now) }

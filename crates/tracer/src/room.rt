@@ -1,11 +1,11 @@
-//! Text that is put behind other text, in room that was made before.
+//! Text that is appended to other text, in space that was reserved before.
 
 ghost use Rattle.std.specs.Prelude.{◌≡◌, length};
 ghost use Rattle.tracer.specs.Room.{AppendsWithin, HasRoom};
 
 use itoa::{Buffer, Integer};
 
-/// Puts this text behind the others.
+/// Appends this text.
 pub(crate) fn push_text(lines: &mut Vec<u8>, text: &str)
     requires { HasRoom lines.old (length text.now) }
     ensures { AppendsWithin lines.old lines.new (length text.now) text.now }
@@ -15,7 +15,7 @@ pub(crate) fn push_text(lines: &mut Vec<u8>, text: &str)
     }
 }
 
-/// Puts this number behind the others.
+/// Appends this number.
 pub(crate) fn push_number<I: Integer>(lines: &mut Vec<u8>, number: I)
     requires { HasRoom lines.old I.MAX_STR_LEN }
     ensures { AppendsWithin lines.old lines.new I.MAX_STR_LEN (I.text number) }

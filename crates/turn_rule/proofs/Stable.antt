@@ -27,7 +27,7 @@ module _ {S W : Type 0} (r : Rules S W) (laws : Laws r) where
   moved_climbs zero s = omega arith
   moved_climbs (suc n) s = omega (arith, laws.climbs s, moved_climbs n (stepped r s))
 
-  -- where there is no local step, none is made
+  -- if there is no local step, none is made
   pub moved_stays : (n : ℕ) (s : S) → r.local s ≡ None → moved r n s ≡ s
   moved_stays zero s h = refl
   moved_stays (suc n) s h = let e : stepped r s ≡ s = ap (λ o. unwrap_or o s) h in ap (moved r n) e ∙ moved_stays n s h

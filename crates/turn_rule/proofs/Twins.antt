@@ -14,7 +14,7 @@ use Rattle.logical_clock.proofs.Keys.{key, before_above, before_or_not, IsNext, 
 use Rattle.turn_rule.proofs.Stable.{moved_climbs, moved_stays, stepped_is, awake_at, one_performs, run_add, Aims, Reaches, turn}
 
 module _ {S W T V : Type 0} (r : Rules S W) (q : Rules T V) (Ready : S → T → Type 0) (Q : W → V → Type 0) where
-  -- local steps lead both to where they ask, at one clock
+  -- local steps lead both to requests, at one clock
   pub record Alike (s : S) (t : T) : Type 0 where
     pub i : ℕ
     pub j : ℕ

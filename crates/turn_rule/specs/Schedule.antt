@@ -93,7 +93,8 @@ module _ {S W : Type 0} (r : Rules S W) where
   RowMeets (Some s) None = ⊥
   RowMeets (Some s) (Some t) = Meets s t
 
-  -- the floor is no higher than its state leads; the present state is led to, and what was published is no higher; who is parked asks, with its clock as its floor, and is not lent
+  -- the floor is at most a clock that local steps from `state` reach; local steps lead to the lease's present state, whose clock is at
+  -- least what was published; a parked goroutine is at a request, with its clock as its floor, and is not lent
   pub record RowOk (row : Row S) : Type 0 where
     pub reached : (d : ℕ) × (row.floor ≤ r.clock (moved r d row.state))
     pub leased : MatchOption row.lease (Unit {0}) (λ l. (j : ℕ) × (moved r j row.state ≡ l.present) × (l.published ≤ r.clock l.present))

@@ -16,7 +16,7 @@ module _ {S W : Type 0} (r : Rules S W) where
     pub size : length v.awake ≡ length w.awake
     pub rows : (n : ℕ) → RowSettles (slice_index_or w.awake n None) (slice_index_or v.awake n None)
 
-  -- v is the world after k events of w's run: who asks at the least key is served, and all move on to their requests
+  -- v is the world after k events of w's run: the request at the least key is served, and all move on to their requests
   abbrev pub After : ℕ → World S W → World S W → Type 0
   After zero w v = Settles w v
   After (suc k) w v = (u : World S W) × After k w u × (r.is_over u.shared ≡ false) × (g : Key) × (next r u.awake ≡ Some g) × Settles (one r u) v

@@ -1,4 +1,4 @@
--- Where goroutines stand, and who of them has the turn.
+-- Where goroutines stand, and which of them has the turn.
 use Rattle.std.specs.Prelude.{◌≡◌, ℕ, Bool, true, false, ◌&&◌, cond, List, [], ◌∷◌, Option, Some, None, slice_get}
 use Rattle.logical_clock.specs.declared.key.Key.{Key}
 use Rattle.logical_clock.specs.Order.{is_before}
@@ -25,7 +25,7 @@ better best i (Parked key) = sooner_row best i key
 better best i (Floor key) = best
 better best i Asleep = best
 
--- the key is before each of these
+-- the key is before each of the floors
 abbrev pub is_before_all : Key → List Key → Bool
 is_before_all key [] = true
 is_before_all key (floor ∷ rest) = is_before key floor && is_before_all key rest

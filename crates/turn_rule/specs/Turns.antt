@@ -9,7 +9,7 @@ pub record Effect (S W : Type 0) : Type 0 where
   pub started : List S
   pub shared : W
 
--- a kind of goroutine state S, beside what is shared, W
+-- rules of goroutine states S, and of the state that they share, W
 pub record Rules (S W : Type 0) : Type 0 where
   pub clock : S → ℕ
   pub local : S → Option S
@@ -17,13 +17,13 @@ pub record Rules (S W : Type 0) : Type 0 where
   pub perform : W → ℕ → S → Effect S W
   pub is_over : W → Bool
 
--- goroutine n, if it is awake, is the one at place n; place 0 is never taken
+-- goroutine n, if it is awake, is at index n; index 0 is never used
 pub record World (S W : Type 0) : Type 0 where
   pub awake : List (Option S)
   pub shared : W
 
 module _ {S W : Type 0} (r : Rules S W) where
-  -- one local step, where there is one
+  -- one local step, if there is one
   abbrev pub stepped : S → S
   stepped s = unwrap_or (r.local s) s
 

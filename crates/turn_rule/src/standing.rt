@@ -1,4 +1,4 @@
-//! Where goroutines stand, and who of them has the turn.
+//! Where goroutines stand, and which of them has the turn.
 
 ghost use Rattle.std.specs.Prelude.{◌≡◌, ℕ, ◌≤◌, ◌^◌, IfNone, IfSome};
 ghost use Rattle.logical_clock.specs.declared.key.Key.{Key as OneKey};
@@ -11,13 +11,13 @@ use logical_clock::Key;
 pub enum Standing {
     /// At its request, with this key.
     Parked(Key),
-    /// Before its request, at or behind this key.
+    /// Before its request, whose key is at least this one.
     Floor(Key),
     /// Not awake.
     Asleep,
 }
 
-/// The parked row of least key; none where none is parked.
+/// The parked row of least key; `None` if no row is parked.
 #[tactic(auto, using(crate::proofs::Best::least_found, crate::proofs::Best::none_found))]
 pub fn least(rows: &[Standing]) -> Option<usize>
     ensures some { IfSome result (IsLeast rows.now) }
@@ -30,7 +30,7 @@ pub fn least(rows: &[Standing]) -> Option<usize>
     best.map(|(i, _)| i)
 }
 
-/// Whether the key is before all of these floors; true where there is none.
+/// Whether the key is before all of the floors; true if there is none.
 pub fn has_turn(key: Key, floors: &[Key]) -> bool
     ensures { result ≡ is_before_all key floors.now }
 {

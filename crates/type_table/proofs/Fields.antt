@@ -1,4 +1,4 @@
--- Fields of structs, one behind the other.
+-- Fields of structs, one after the other.
 use Rattle.std.proofs.Common.{◌≡◌, ℕ, zero, suc, ◌+◌, ◌<◌, ◌≤◌, ◌-◌, List, [], ◌∷◌, ◌++◌, map, Option, Some, None, false, option_map, bytes_eq, length, slice_get, refl, sym, ap, arith}
 use Rattle.std.proofs.lemmas.Option.{same_Some}
 use Rattle.std.proofs.lemmas.List.{length-append, length-map}
@@ -73,13 +73,13 @@ pub parts-none : (structs : Structs) (depth number : ℕ) → fields_of structs 
 parts-none structs zero number h = refl
 parts-none structs (suc depth) number h = rw h refl
 
--- ---- parts: room for them
+-- ---- parts: they fit
 
--- the first field has room where all fields have
+-- the first field fits if all fields do
 pub room-first : (p : ℕ → List ValueType) (field : Field) (rest : List Field) (count : ℕ) → count + length (fields_parts p (field ∷ rest)) ≤ 16 → count + length (kind_parts p field.kind) ≤ 16
 room-first p field rest count room = omega (arith, length-append (kind_parts p field.kind) (fields_parts p rest), room)
 
--- what is left has room where all had
+-- what is left fits if all did
 pub room-left : {A B : Type 0} (f : A → B) (now before : List A) (left all : List B) → map f now ++ left ≡ map f before ++ all → length before + length all ≤ 16 → length now + length left ≤ 16
 room-left f now before left all same room =
     omega (arith, ap length same, length-append (map f now) left, length-append (map f before) all, length-map now f, length-map before f, room)

@@ -37,7 +37,7 @@ agree : (variables : List Variable) (name : List ℕ) → Agree variables (last_
 agree [] name = tt
 agree (v ∷ rest) name = agree_step v rest (bytes_eq v.name name) (last_place (names_in rest) name) (last_named rest name) (agree rest name)
 
--- what stands at the last place, where so many come first
+-- the variable at the last place, if that is not among the first `count`
 abbrev Behind : List Variable → ℕ → Option ℕ → Option Variable → Type 0
 Behind variables count None found = found ≡ None
 Behind variables count (Some place) found = (count ≤ place → found ≡ slice_get variables place) × (place < count → found ≡ None)
@@ -176,7 +176,7 @@ bytes_of names = map (λ (name : Bor Name). name_of name.now) names
 bytes_more : (old new : List (Bor Name)) (name : Bor Name) → new ≡ old ++ name ∷ [] → bytes_of new ≡ bytes_of old ++ name_of name.now ∷ []
 bytes_more old new name e = ap bytes_of e ∙ map-append (λ (one : Bor Name). name_of one.now) old (name ∷ [])
 
--- a list is behind its index
+-- the index finds the names of a list
 abbrev Indexes : (List ℕ → Option ℕ) → List (Bor Name) → Type 0
 Indexes index names = (name : List ℕ) → index name ≡ number_of (bytes_of names) name
 

@@ -56,7 +56,7 @@ few-parts structs widths sized narrow BoolType = omega arith
 few-parts structs widths sized narrow (StructType s) = rw (parts-count structs (StructType s) (get_or widths s 0) (sized s)) (narrow_at widths narrow s)
 few-parts structs widths sized narrow (ChannelType d e) = omega arith
 
--- there is room for them where there is nothing yet
+-- they fit if there is nothing yet
 pub room-for-parts : (structs : Structs) (widths : List ℕ) → AreWidths structs widths → All (λ w. w ≤ 16) widths → (kind : ValueType) (depth count : ℕ) → depth ≡ suc (length structs) → count ≡ 0
     → count + length (kind_parts (parts_within structs depth) (Some kind)) ≤ 16
 room-for-parts structs widths sized narrow kind depth count deep none =

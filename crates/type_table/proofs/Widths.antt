@@ -223,7 +223,7 @@ are-step structs k fields j f w own v h e o there =
     let q : w ≡ min h.0 17 = h.2 in
     (h.0 + v, rw (take-one fields j f there) all, omega arith)
 
--- who holds an open struct holds what is in its fields
+-- a struct that holds an open struct holds what is in its fields
 pub holds-field : (types : List (List ℕ)) (entries : List StructEntry) (a b : List Mark) (s : ℕ) (e : StructEntry) (j : ℕ) (f : FieldEntry)
     → slice_get entries s ≡ Some e → slice_get e.fields.items j ≡ Some f
     → ((o : ℕ) → slice_get a o ≡ Some Open → Holds (structs_of types entries) o s)

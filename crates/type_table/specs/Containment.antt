@@ -63,7 +63,7 @@ abbrev pub words_of : Option ℕ → ℕ
 words_of None = 0
 words_of (Some n) = n
 
--- the words of a variable; of none where its type is not known
+-- the words of a variable; of none if its type is not known
 abbrev pub variable_words : Structs → Option ValueType → ℕ
 variable_words structs None = 0
 variable_words structs (Some kind) = words_of (width structs kind)

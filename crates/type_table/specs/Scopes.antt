@@ -122,7 +122,7 @@ type_named types scope name =
     else (if bytes_eq name (codes "bool") then Some BoolType
     else option_map StructType (number_of types name)))
 
--- the type that is written here: None where the name in it is no type's
+-- the type that is written here: None if the name in it is no type's
 abbrev pub type_in : List (List ℕ) → Scope → TypeExpression → Option ValueType
 type_in types scope (NamedType name) = type_named types scope name
 type_in types scope (ParenthesizedType inner) = type_in types scope inner

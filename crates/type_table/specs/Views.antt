@@ -16,12 +16,12 @@ use Rattle.type_table.specs.Scopes.{nothing_declared, type_named, Yield, NoResul
 abbrev pub names_of : List StructEntry → List (List ℕ)
 names_of entries = map (λ (entry : StructEntry). name_of entry.name.now) entries
 
--- a type is kept only where it is known
+-- a type is kept only if it is known
 abbrev pub known : Option ValueType → ValueType
 known None = IntType
 known (Some kind) = kind
 
--- the type that is written here, where each name in it is a type's
+-- the type that is written here, if each name in it is a type's
 abbrev pub written_type : List (List ℕ) → TypeExpression → ValueType
 written_type types (NamedType name) = known (type_named types nothing_declared name)
 written_type types (ParenthesizedType inner) = written_type types inner
@@ -52,7 +52,7 @@ structs_of types entries = map (fields_of_entry types) entries
 abbrev pub AreWidths : Structs → List ℕ → Type 0
 AreWidths structs widths = (s : ℕ) → width structs (StructType s) ≡ Some (get_or widths s 0)
 
--- these fields take at most 16 words, behind so many
+-- these fields take at most 16 words, with the `place` words before them
 abbrev pub Fits : Structs → List Field → ℕ → Type 0
 Fits structs fields place = (words : ℕ) × (fields_width (width_within structs (suc (length structs))) fields ≡ Some words) × (place + words ≤ 16)
 

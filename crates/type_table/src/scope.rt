@@ -72,14 +72,14 @@ pub fn is_reserved(name: &[u8]) -> bool
         || is_word(name, b"init")
 }
 
-/// The variable at a place among those that are visible.
+/// The variable at `place` among those that are visible.
 fn entry_at<'a>(visible: &Visible<'a>, place: usize) -> Option<Entry<'a>>
     ensures { result ≡ slice_get visible.now.entries.items place }
 {
     visible.entries.get(place).copied()
 }
 
-/// The last variable of this name, if it was declared behind so many.
+/// The last variable of this name, if it was declared after the first `count`.
 fn last_from<'a>(
     table: &TypeTable<'a>,
     visible: &Visible<'a>,
@@ -122,7 +122,7 @@ pub fn own_variable<'a>(
     last_from(table, visible, name, visible.outer)
 }
 
-/// Puts a variable behind those that are visible.
+/// Appends a variable to those that are visible.
 fn put<'a>(
     visible: &mut Visible<'a>,
     kind: ValueType<'a>,
@@ -154,7 +154,7 @@ fn put<'a>(
 
 /// Declares a variable.
 ///
-/// Errors: want of memory, and a frame of over 2^64 words.
+/// Errors: out of memory, and a frame of over 2^64 words.
 pub fn declare<'a>(
     table: &TypeTable<'a>,
     visible: &mut Visible<'a>,
@@ -194,7 +194,7 @@ fn forget_last(visible: &mut Visible<'_>)
     }
 }
 
-/// A block has ended: so many variables are visible again, and so many were declared outside of the innermost block.
+/// A block has ended: `count` variables are visible again, of which `outer` were declared outside of the innermost block.
 pub fn leave(visible: &mut Visible<'_>, count: usize, outer: usize)
     ensures entries { visible.new.entries.items ≡ take count visible.old.entries.items }
     ensures outer { visible.new.outer ≡ outer }

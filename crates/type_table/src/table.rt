@@ -42,7 +42,7 @@ impl Drop for TypeTable<'_> {
 }
 
 impl<'a> TypeTable<'a> {
-    /// The table of these declarations, whose names and widths are given beside them.
+    /// The table of these declarations; `types`, `callees` and `widths` are their names and widths.
     pub fn new(
         structs: Vec<StructEntry<'a>>,
         types: NameList<'a>,

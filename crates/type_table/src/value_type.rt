@@ -49,7 +49,7 @@ fn type_named<'a>(types: &NameList<'_>, name: &[u8]) -> Option<ValueType<'a>>
     }
 }
 
-/// The type that is written where no variable is visible, as in the declarations of a file: `None` where a name in it is
+/// The type that is written where no variable is visible, as in the declarations of a file: `None` if a name in it is
 /// no type's.
 #[tactic(auto, using(crate::proofs::Written::channel_written))]
 pub fn global_type_in<'a>(types: &NameList<'_>, kind: &'a TypeNode) -> Option<ValueType<'a>>
@@ -65,7 +65,7 @@ pub fn global_type_in<'a>(types: &NameList<'_>, kind: &'a TypeNode) -> Option<Va
     }
 }
 
-/// The type that is written among visible variables: `None` where a name in it is no type's.
+/// The type that is written among visible variables: `None` if a name in it is no type's.
 #[tactic(auto, using(crate::proofs::Written::channel_written))]
 pub fn type_in<'a>(
     table: &TypeTable<'a>,
@@ -105,7 +105,7 @@ pub fn element_in<'a>(table: &TypeTable<'_>, element: &'a TypeNode) -> ValueType
     }
 }
 
-/// Whether two directions are the same.
+/// Whether two directions are equal.
 fn same_direction(one: Direction, other: Direction) -> bool
     ensures { result ≡ same_direction one other }
 {

@@ -18,11 +18,11 @@ pub enum Mark {
     New,
     /// Its fields are being looked at.
     Open,
-    /// The words of its values; 17 where they are more.
+    /// The words of its values; 17 if they are more.
     Wide(usize),
 }
 
-/// The words of both together; 17 where they are more.
+/// The words of both together; 17 if they are more.
 fn together(one: usize, other: usize) -> usize
     requires one { one ≤ 17 }
     requires other { other ≤ 17 }
@@ -132,7 +132,7 @@ impl<T: Drop> From<AllocFailed<T>> for Endless {
     }
 }
 
-/// So many structs of which nothing is known.
+/// Marks for `count` structs of which nothing is known.
 fn new_marks(alloc: Global, count: usize) -> Result<Vec<Mark>, AllocError>
     ensures count { IfOk result (λ marks. length marks.items ≡ count) }
     ensures new { IfOk result (λ marks. (o : ℕ) → (m : OneMark) → slice_get marks.items o ≡ Some m → m ≡ Mark.New) }
@@ -166,7 +166,7 @@ fn all_widths(
     Ok(all)
 }
 
-/// The widths of all structs, in words; 17 where they are more.
+/// The widths of all structs, in words; 17 if they are more.
 ///
 /// Errors: a struct that contains itself; `Memory`.
 pub fn widths(alloc: Global, structs: &[StructEntry<'_>]) -> Result<Vec<usize>, Endless>

@@ -1,4 +1,4 @@
--- A flaw's node is one of the expression's.
+-- A violation's node is one of the expression's.
 use Rattle.std.proofs.Common.{◌≡◌, ℕ, ◌+◌, ◌<◌, ◌≤◌, inl, inr, List, [], ◌∷◌, Option, Some, None, Result, Ok, Err, length, sum_by, refl, arith}
 use Rattle.std.proofs.lemmas.List.Sums.{sum_by-cons}
 use Rattle.go_text.specs.declared.rule.Rule.{Rule}

@@ -20,7 +20,7 @@ use Rattle.typing_rules.specs.Worths.{Worth, Typed, Constant, Nil, is_int, is_ne
 abbrev pub nodes_of : ℕ → Expression → Nodes
 nodes_of first expression = record { first = first; end = first + expression_size expression }
 
--- ---- values in places of types (Go: Assignability). Where one of the two has no type, no rule about them is broken.
+-- ---- values of a type that is expected (Go: Assignability). If one of the two has no type, no rule about them is violated.
 
 abbrev pub FitHas : Worth → ValueType → Nodes → Flaw → Type 0
 FitHas (Typed s) t nodes flaw = (assignable s t ≡ false) × IsBroken rules.Assignable nodes.end flaw
@@ -41,7 +41,7 @@ DefaultHas (Some (Typed s)) nodes flaw = ⊥
 DefaultHas (Some (Constant value)) nodes flaw = (is_int value ≡ false) × IsBroken rules.Constant nodes.end flaw
 DefaultHas (Some Nil) nodes flaw = IsNilAt nodes flaw
 
--- ---- operators, which are at fault only where their operands are worth something
+-- ---- operators, which are at fault only if their operands have types or constant values
 
 abbrev pub Fails : Result Worth Misuse → Nodes → Nodes → ℕ → Flaw → Type 0
 Fails (Ok made) left right end flaw = ⊥

@@ -38,7 +38,7 @@ is_receive expression = false
 
 -- ---- right sides
 
--- a value that a place is given: what it is worth, and the nodes that it comes from
+-- a value that is assigned: its type or constant value, and the nodes that it comes from
 pub record Given : Type 0 where
   pub worth : Option Worth
   pub nodes : Nodes
@@ -48,13 +48,13 @@ given_values globals scope first [] = []
 given_values globals scope first (value ∷ rest) =
     record { worth = worth globals scope value; nodes = nodes_of first value } ∷ given_values globals scope (first + expression_size value) rest
 
--- whether an item was sent, where one receive stands for two places
+-- whether an item was sent, if one receive stands for two lvalues
 abbrev pub also_given : ℕ → ℕ → List Expression → List Given
 also_given places first (value ∷ []) =
     if (places == 2) && is_receive value then record { worth = Some (Typed BoolType); nodes = nodes_of first value } ∷ [] else []
 also_given places first values = []
 
--- what a right side gives to so many places: a receive gives two of them the item and whether it was sent
+-- what a right side gives to `places` lvalues: a receive gives two of them the item and whether it was sent
 abbrev pub given : Globals → Scope → ℕ → ℕ → List Expression → List Given
 given globals scope places first values = given_values globals scope first values ++ also_given places first values
 
@@ -81,7 +81,7 @@ followed structs (Some at) (field ∷ rest) =
 abbrev pub variable_at : Variable → Selected
 variable_at variable = record { place = variable.place; kind = variable.kind }
 
--- where a place stands in the frame, and its type
+-- where an lvalue stands in the frame, and its type
 abbrev pub selected : Globals → Scope → Place → Option Selected
 selected globals scope place = followed globals.structs (option_map variable_at (variable_named scope place.name)) place.fields
 
@@ -108,7 +108,7 @@ ReadPlaceHas globals scope first place flaw =
 abbrev pub place_type : Globals → Scope → Place → Option ValueType
 place_type globals scope place = type_of_field (selected globals scope place)
 
--- a value goes to a place of this type, or to one that takes the type of the value, where `free` holds
+-- a value goes to an lvalue of this type, or to one that takes the type of the value, if the first argument is `true`
 abbrev pub GoesHas : Bool → Given → Option ValueType → Flaw → Type 0
 GoesHas true g kind flaw = DefaultHas g.worth g.nodes flaw
 GoesHas false g kind flaw = ValueHas g.worth kind g.nodes flaw

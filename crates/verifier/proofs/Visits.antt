@@ -20,7 +20,7 @@ use Rattle.verifier.proofs.Entries.{entry_other, entry_set, some_none, unknown_s
 use Rattle.std.proofs.lemmas.Option.{slice_get_within}
 use Rattle.bytecode.proofs.Options.{some_inj}
 
--- ---- entries that are made behind a place
+-- ---- entries that are made after a place
 
 ahead_same : (old new : Table) (place : ℕ) → new ≡ old → Ahead old new place
 ahead_same old new place e = record { kept = λ p ks h. subst (λ t. entry t p ≡ Some ks) (sym e) h; same = λ p l. ap (λ t. entry t p) e; fewer = subst (λ t. unknown t ≤ unknown old) (sym e) (omega arith) }

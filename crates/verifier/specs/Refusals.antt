@@ -1,4 +1,4 @@
--- Which rule is broken where, and what the rules are for.
+-- Which rule is violated where, and what the rules are for.
 use Rattle.std.specs.Prelude.{◌≡◌, ◌≢◌, ℕ, ◌<◌, List, Some, length, slice_get}
 use Rattle.bytecode.specs.declared.instr.WordKind.{WordKind}
 use Rattle.bytecode.specs.declared.rule.Rule.{Rule}
@@ -12,13 +12,13 @@ use Rattle.word.specs.declared.value.Word.{Word}
 use Rattle.word.specs.Values.{Request, Reply}
 use Rattle.word.specs.Kinds.{Slides, Ticks, Asks, Stuck}
 
--- the refusal names a rule that is broken there, or want of memory
+-- the error names a rule that is violated there, or memory ran out
 abbrev pub IsRefused : Code → Fault → Type 0
 IsRefused code (faults.Unverified rule function place) = (r : Rule) × (rule ≡ rule_number r) × Breaks code r function place
 IsRefused code faults.Memory = Unit {0}
 IsRefused code fault = ⊥
 
--- the frames to which the machine comes from the beginning of a function, step by step, whatever it is told
+-- the frames to which the machine comes from the beginning of a function, step by step, whatever the replies are
 pub data Comes (code : Code) : Frames → Type 0 where
   begins : (function : ℕ) → function < length code.functions → (args : List Word) → Comes code (code_begin code function args)
   slides : {s t : Frames} → Comes code s → code_next code s ≡ Slides t → Comes code t

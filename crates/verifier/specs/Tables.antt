@@ -54,7 +54,7 @@ Merged Same old new to ks = (new ≡ old) × (entry old to ≡ Some ks)
 Merged Differs old new to ks = (new ≡ old) × ((js : List WordKind) × (entry old to ≡ Some js) × (js ≡ ks → ⊥))
 Merged New old new to ks = (entry old to ≡ None) × ((v : Vec WordKind) × (v.items ≡ ks) × (new ≡ slice_set old to (Some v)))
 
--- no entry is lost, and there are new ones behind a place alone
+-- no entry is lost, and new ones are after `place` alone
 pub record Ahead (old new : Table) (place : ℕ) : Type 0 where
   pub kept : (p : ℕ) (ks : List WordKind) → entry old p ≡ Some ks → entry new p ≡ Some ks
   pub same : (p : ℕ) → p ≤ place → entry new p ≡ entry old p
@@ -89,20 +89,20 @@ Steps (Leads i ks at) code f table place = LeadsOn code f table place i ks.items
 abbrev pub AreReached : Code → Function → ℕ → Instr → List WordKind → Type 0
 AreReached code f place i ks = (k to : ℕ) → slice_get (ways code i place) k ≡ Some to → (n : ℕ) × Path code f n to (afterwards code f i k ks)
 
--- what came of a way from one place to another: an entry made behind the first is looked at in the same pass
+-- the outcome of a way from `place` to `to`: an entry made after the first is looked at in the same pass
 abbrev pub onward_of : Merge → ℕ → ℕ → Onward
 onward_of Same place to = Kept
 onward_of New place to = cond (nat_lt place to) Kept Grown
 onward_of Differs place to = Apart to
 
--- after the way of this number, where there is one
+-- after the way of this number, if there is one
 abbrev pub Followed : Onward → Code → Function → Table → Table → ℕ → Instr → List WordKind → ℕ → Type 0
 Followed Kept code f old new place i ks number =
     Ahead old new place × ((to : ℕ) → slice_get (ways code i place) number ≡ Some to → entry new to ≡ Some (afterwards code f i number ks))
 Followed Grown code f old new place i ks number = unknown new < unknown old
 Followed (Apart to) code f old new place i ks number = Parting code f to
 
--- after so many ways of an instruction
+-- after `number` ways of an instruction
 abbrev pub Spread : Bool → Code → Function → Table → Table → ℕ → Instr → List WordKind → ℕ → Type 0
 Spread false code f old new place i ks number =
     Ahead old new place × ((k to : ℕ) → k < number → slice_get (ways code i place) k ≡ Some to → entry new to ≡ Some (afterwards code f i k ks))

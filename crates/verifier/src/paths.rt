@@ -1,4 +1,4 @@
-//! The kinds on the operand stack at each place of a function, path by path.
+//! The kinds on the operand stack at each instruction of a function, path by path.
 
 ghost use Rattle.std.specs.Prelude.{◌≡◌, ◌+◌, ℕ, ◌<◌, IfOk, length, vec_len, slice_get, Some};
 ghost use Rattle.bytecode.specs.declared.instr.Instr.{Instr};
@@ -10,7 +10,7 @@ use bytecode::{Code, Function, Instr, Rule, WordKind, same_kinds};
 use std::alloc::{AllocError, Global};
 use verifier_base::{behind, broken_rule, first_broken, operands_at, way, way_count};
 
-/// What came of a way to a place.
+/// The outcome of a way to an instruction.
 #[derive(Clone, Copy)]
 pub enum Merge {
     Same,
@@ -57,7 +57,7 @@ fn lead(
     enter_kinds(table, to, kinds)
 }
 
-/// What a look at a place came to.
+/// The outcome of a look at an instruction.
 #[derive(Clone, Copy)]
 pub enum Visit {
     Settles,
@@ -100,7 +100,7 @@ fn step_at(
     }
 }
 
-/// What came of one way of an instruction.
+/// The outcome of one way of an instruction.
 #[derive(Clone, Copy)]
 pub enum Onward {
     /// The place to which it leads has these kinds, and no place before it has new ones.
@@ -111,7 +111,7 @@ pub enum Onward {
     Apart(usize),
 }
 
-/// What came of a way from one place to another. A place behind the first is looked at in the same pass.
+/// The outcome of a way from `place` to `to`. If `to` lies after `place` it is looked at in the same pass.
 fn arrive(merge: Merge, place: usize, to: usize) -> Onward
     ensures { result ≡ onward_of merge place to }
 {
@@ -218,7 +218,7 @@ fn look(
     }
 }
 
-/// What a pass over all places came to.
+/// The outcome of a pass over all instructions.
 #[derive(Clone, Copy)]
 pub enum Sweep {
     Done,
@@ -257,7 +257,7 @@ fn pass(
     }
 }
 
-/// The kinds at each place of a function, or the rule that it breaks.
+/// The kinds at each instruction of a function, or the rule that it violates.
 #[derive(Drop)]
 pub enum Inferred {
     Full(Vec<Option<Vec<WordKind>>>),
@@ -265,7 +265,7 @@ pub enum Inferred {
     PartedAt(usize),
 }
 
-/// A table where only the start has kinds, which are none.
+/// A table in which only the start has kinds, which are none.
 fn blank(alloc: Global, code: &Code, f: &Function) -> Result<Vec<Option<Vec<WordKind>>>, AllocError>
     requires { 0 < length f.now.instrs }
     ensures ok { IfOk result (λ t. (vec_len t ≡ length f.now.instrs) × Reached code.now f.now t.items) }
@@ -297,7 +297,7 @@ fn infer(alloc: Global, code: &Code, f: &Function) -> Result<Inferred, AllocErro
     }
 }
 
-/// What was inferred, as the rule that is broken or none.
+/// What was inferred, as the rule that is violated, or none.
 fn judge(inferred: &Inferred) -> Option<(Rule, usize)>
     ensures { result ≡ judged_of inferred.now }
 {
@@ -308,7 +308,7 @@ fn judge(inferred: &Inferred) -> Option<(Rule, usize)>
     }
 }
 
-/// The rule that a function breaks, and where.
+/// The rule that a function violates, and where.
 pub(crate) fn check_function(
     alloc: Global,
     code: &Code,

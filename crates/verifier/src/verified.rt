@@ -78,8 +78,11 @@ fn main_number(functions: &[Function]) -> Option<usize>
         .position(|function| function.name() == "main")
 }
 
-/// Verifies code. Refused 11 with the broken rule, 1 to 8, the function's number and the instruction's place, 0 for the
-/// function's heading. Of a shape or a table its number stands as the place and the function's number is 0; where there is no function `main` without parameters and result both are 0. Refused 13 for want of memory.
+/// Verifies code.
+///
+/// Errors: 11 with the violated rule, 1 to 8, the function's number and the instruction's place, 0 for the function's
+/// heading. For a shape or a table its number is the place and the function's number is 0; if there is no function
+/// `main` without parameters and result both are 0. 13 if it is out of memory.
 pub fn verify(alloc: Global, code: Code) -> Result<Verified, Fault>
     ensures code { IfOk result (λ verified. verified ≡ code) }
     ensures safe { IfOk result NeverStuck }
@@ -253,7 +256,7 @@ fn is_plain(f: &Function) -> bool
     f.params() == 0 && f.results().len() == 0
 }
 
-/// The rule that a function breaks, and where.
+/// The rule that a function violates, and where.
 fn rule_in(alloc: Global, code: &Code, f: &Function) -> Result<Option<(Rule, usize)>, AllocError>
     ensures { IfOk result (λ o. Judged o code.now f.now) }
 {

@@ -18,7 +18,7 @@ pub enum Need {
     One(WordKind),
     /// Two words of this kind.
     Two(WordKind),
-    /// So many words of any kind.
+    /// This many words of any kind.
     Some(usize),
     /// A channel.
     Channel,
@@ -74,7 +74,7 @@ fn printed(alloc: Global, parts: &[Part]) -> Result<Need, AllocError>
     Ok(Need::These(kinds))
 }
 
-/// The kinds of a shape; none where it is not there.
+/// The kinds of a shape; none if it is not there.
 fn kinds_of(code: &Code, s: u32) -> &[WordKind]
     ensures { result.now ≡ shape_kinds code.now s }
 {
@@ -84,7 +84,7 @@ fn kinds_of(code: &Code, s: u32) -> &[WordKind]
     }
 }
 
-/// The clauses of a select table; none where it is not there.
+/// The clauses of a select table; none if it is not there.
 fn clauses_of(code: &Code, q: u32) -> &[Clause]
     ensures { result.now ≡ clauses_in (slice_get code.now.selects q) }
 {
@@ -265,7 +265,7 @@ fn give(
     }
 }
 
-/// Where the operands of an instruction begin among these kinds, or none where it does not fit them.
+/// Where the operands of an instruction begin among these kinds, or `None` if it does not fit them.
 pub fn operands_at(
     alloc: Global,
     code: &Code,
@@ -291,7 +291,7 @@ pub fn operands_at(
     Ok(Some(at))
 }
 
-/// The kinds behind an instruction on its way of this number, whose operands begin at a place of these.
+/// The kinds after instruction `i` on its way `way`, whose operands begin at index `at` of `kinds`.
 pub fn behind(
     alloc: Global,
     code: &Code,

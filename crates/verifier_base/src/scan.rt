@@ -8,7 +8,7 @@ ghost use Rattle.verifier_base.specs.Scans.{Scanned, ScannedAt};
 use crate::ways::{select_way, select_ways};
 use bytecode::{Code, Function, Instr, Rule};
 
-/// Whether a select leads to places of a function of so many instructions.
+/// Whether each way of select `q` leads to one of `n` instructions.
 fn are_within(code: &Code, q: u32, n: usize) -> bool
     ensures { IsTrue result ↔ AreWithin (targets_in (slice_get code.now.selects q)) n }
 {
@@ -22,7 +22,7 @@ fn are_within(code: &Code, q: u32, n: usize) -> bool
     true
 }
 
-/// Whether a select leads behind a place.
+/// Whether each way of select `q` leads past `place`.
 fn are_behind(code: &Code, q: u32, place: usize) -> bool
     ensures { IsTrue result ↔ AreBehind (targets_in (slice_get code.now.selects q)) place }
 {

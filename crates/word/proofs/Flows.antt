@@ -81,7 +81,7 @@ has_room cs k m h = elim (cases_lt k (length cs)) [ inl l ↦ l | inr l ↦ let 
 pub record Sound (ss : List Sleeper) (cs : List Channel) (es : List Event) : Type 0 where
   -- whoever is asleep fell asleep at its request
   pub asleep : (x : Sleeper) → In x ss → slept x.number es ≡ Some x.request
-  -- where a receiver sleeps, the buffer is empty
+  -- if a receiver sleeps, the buffer is empty
   pub calm : (k : ℕ) (x : Sleeper) (o : Offer) → In x ss → first_offer k false (offers x.request) ≡ Some o → (channel_of cs k).items ≡ []
   pub order : (k : ℕ) → accepted k es ≡ received k es ++ (channel_of cs k).items
 
@@ -188,7 +188,7 @@ module _ (w : Shared) (n c : ℕ) (q : Request) (sw : IsSound w) where
   written : (k : ℕ) (items : List Item) → ((k < length w.channels) ⊎ (items ≡ [])) → (j : ℕ) → (channel_of (with_channel w n c q k (record (channel_of w.channels k) { items = items })).channels j).items ≡ cond (k == j) items (its j)
   written k items h j = items_set w.channels k (record (channel_of w.channels k) { items = items }) h j
 
-  -- channel k is written, where no receiver sleeps on it or its buffer is not filled
+  -- channel k is written, if no receiver sleeps on it or its buffer is not filled
   sound_written : (k : ℕ) (items : List Item) → ((k < length w.channels) ⊎ (items ≡ [])) → (reply : Reply) (ws : List (ℕ × Reply)) (d : Deal) → reply_deal q reply ≡ d
       → ((x : Sleeper) (f : Offer) → In x w.asleep → first_offer k false (offers x.request) ≡ Some f → items ≡ [])
       → ((j : ℕ) → Ord j d (map (λ (x : ℕ × Reply). x.0) ws) (cond (k == j) items (its j)))

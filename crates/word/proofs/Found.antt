@@ -25,7 +25,7 @@ cond_below clock limit a b h = let ne : clock ≡ limit → ⊥ = omega arith in
 
 module _ (K M : GoroutineKind) (R : K.State → M.State → Type 0) where
   module _ (limit : ℕ) where
-    -- both ask the same, and go on alike
+    -- both make the same request, and go on alike
     pub record Ready (s : Clocked K.State) (t : Clocked M.State) : Type 0 where
       pub q : Request
       pub left : asks K limit s ≡ Some q
@@ -39,7 +39,7 @@ module _ (K M : GoroutineKind) (R : K.State → M.State → Type 0) where
     Awaits q (Some s) None = ⊥
     Awaits q (Some s) (Some t) = Answers K M R q s.state t.state
 
-    -- the same is shared, and whoever is asleep awaits the same
+    -- the same is shared, and each sleeper awaits the same
     pub record Kept (w : Rest K.State) (v : Rest M.State) : Type 0 where
       pub shared : w.shared ≡ v.shared
       pub sleepers : (x : Sleeper) → In x w.shared.asleep → Awaits x.request (in_bed x.number w.beds) (in_bed x.number v.beds)

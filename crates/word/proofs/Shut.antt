@@ -89,7 +89,7 @@ none_on c sends (o ∷ os) h = go (o.chan == c) (cond sends (is_some o.item) (no
     go true d rec h' = cc
     go false d rec h' = rec h'
 
--- who offers on a channel is woken by its close
+-- a goroutine with an offer on a channel is woken by its close
 woken_on : (k : ℕ) (z : Item) (ss : List Sleeper) (x : Sleeper) (o : Offer) → In x ss → first_on k (offers x.request) ≡ Some o → IsApart x.number (map (λ (p : Sleeper × Offer). (p.0.number, close_reply z p.1)) (partners k ss)) → ⊥
 woken_on k z [] x o i h a = elim i [ ]
 woken_on k z (s ∷ ss) x o i h a = go (first_on k (offers s.request)) refl (woken_on k z ss x o) i a
@@ -204,7 +204,7 @@ module _ (w : Shared) (n c : ℕ) (q : Request) (tw : IsTight w) where
     taken_alone : (k : ℕ) (reply : Reply) (y : Item) (ok : Bool) → reply_deal q reply ≡ Takes k y ok → (j : ℕ) → its j ≡ true → enters j w.events (reply_deal q reply) [] ≡ []
     taken_alone k reply y ok d j h = ap (λ x. enters j w.events x []) d
 
-    -- who met a sleeping sender is on an open channel
+    -- a sleeping sender that is met is on an open channel
     met_open : (k : ℕ) (p : Sleeper × Offer) → partner k true w.asleep ≡ Some p → its k ≡ false
     met_open k p h = go (its k) refl
       where
@@ -235,7 +235,7 @@ module _ (w : Shared) (n c : ℕ) (q : Request) (tw : IsTight w) where
     tight_clause i (Some k) None h r = tight_receive k (suc i) (λ x ok. h (Some (x, ok)))
     tight_clause i (Some k) (Some item) h r = tight_send k item (suc i) (h None)
 
-  -- the channel is closed, and all who offered on it are woken
+  -- the channel is closed, and all that offered on it are woken
   closed_now : (k : ℕ) → q ≡ Close (Some k) → IsTight (done w n c q (with_channel w n c q k (record (channel_of w.channels k) { closed = true })) Nothing (map (λ (p : Sleeper × Offer). (p.0.number, close_reply (channel_of w.channels k).zero p.1)) (partners k w.asleep))).shared
   closed_now k e =
       let ch : Channel = record (channel_of w.channels k) { closed = true } in

@@ -4,7 +4,7 @@ use Rattle.std.proofs.Math.Seq.{take-add, take-length}
 use Rattle.std.proofs.lemmas.List.{append_assoc, length-drop}
 use Rattle.std.specs.Io.KnownBytes.{Appends}
 
--- so many bytes of a piece are written
+-- `done` bytes of a piece are written
 pub record Written (known_old known_new : Option (List ℕ)) (bytes : List ℕ) (done : ℕ) : Type 0 where
   pub within : done ≤ length bytes
   pub taken : Appends known_old known_new (take done bytes)

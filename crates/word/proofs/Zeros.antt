@@ -1,4 +1,4 @@
--- Zero with false is given only in or after a close, where all that was accepted was received.
+-- Zero with false is given only in or after a close, when all that was accepted was received.
 use Rattle.logical_clock.specs.declared.limits.TheConstants.{MAX_GOROUTINES}
 use Rattle.std.proofs.Common.{◌≡◌, ℕ, zero, suc, ◌+◌, ◌<◌, ℤ, pos, negsuc, Bool, true, false, ◌&&◌, ◌||◌, not, cond, List, [], ◌∷◌, ◌++◌, map, length, Option, Some, None, refl, sym, ap, ◌∙◌, subst, arith, inl, inr, ◌⊎◌, append_assoc, get_or-set_same, get_or-set_other}
 use Rattle.std.specs.Prelude.{◌==◌, nat_le, nat_lt, slice_set, unwrap_or}
@@ -30,7 +30,7 @@ zero_snoc c before (x ∷ es) e h new = (
   zero_snoc c (before ++ x ∷ []) es e h.1 (subst (λ b. gives_zero c b e ≡ true → (is_closed_in c (b ++ e ∷ []) ≡ true) × (accepted c (b ++ e ∷ []) ≡ received c (b ++ e ∷ []))) (sym (append_assoc before (x ∷ []) es)) new),
 )
 
--- ---- receivers whom a close wakes
+-- ---- receivers that a close wakes
 
 -- whose first offer on a channel is to receive has an offer to receive
 first_receives : (k : ℕ) (os : List Offer) → is_receive (first_on k os) ≡ true → (f : Offer) × (first_offer k false os ≡ Some f)
@@ -59,7 +59,7 @@ woken_receives k z es (s ∷ ss) lie h = go (first_on k (offers s.request)) (wok
 
 -- ---- one event more
 
--- closed is what was, or what the event closes; and where it gives zero with false, the channel is closed and empty
+-- closed is what was, or what the event closes; and if it gives zero with false, the channel is closed and empty
 record Adds (w v : Shared) : Type 0 where
   event : Event
   events : v.events ≡ w.events ++ event ∷ []
@@ -160,7 +160,7 @@ module _ (w : Shared) (n c : ℕ) (q : Request) (l : Late w) where
     adds_clause i (Some k) None h r = adds_receive k (suc i) (λ x ok. h (Some (x, ok))) r
     adds_clause i (Some k) (Some item) h r = adds_send k item (suc i) (h None)
 
-  -- a close: whom it wakes as a receiver slept at an empty buffer
+  -- a close: a receiver that it wakes slept at an empty buffer
   adds_close : (k : ℕ) → q ≡ Close (Some k) → Adds w (do_close w n c q k).shared
   adds_close k e = go (its k).closed
     where

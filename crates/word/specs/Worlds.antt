@@ -1,4 +1,4 @@
--- Worlds over any kind of state, and two kinds that nobody can tell apart.
+-- Worlds over any kind of state, and two kinds that nobody can distinguish.
 use Rattle.std.specs.Prelude.{◌≡◌, ℕ, ◌+◌, ◌==◌, ◌&&◌, not, Bool, true, cond, List, [], ◌∷◌, map, Option, Some, None, option_map}
 use Rattle.std.specs.Option.{is_some}
 use Rattle.turn_rule.specs.Turns.{Effect, Rules, World, run}
@@ -10,7 +10,7 @@ pub record Bed (A : Type 0) : Type 0 where
   pub number : ℕ
   pub state : Clocked A
 
--- beside the awake: what all share, and the states in which goroutines fell asleep, newest first
+-- apart from the awake: what all share, and the states in which goroutines fell asleep, newest first
 pub record Rest (A : Type 0) : Type 0 where
   pub shared : Shared
   pub beds : List (Bed A)
@@ -40,7 +40,7 @@ module _ (K : GoroutineKind) (limit : ℕ) where
   begun_at clock [] = []
   begun_at clock (x ∷ xs) = at clock (K.begin x.0 x.1) ∷ begun_at clock xs
 
-  -- who goes on, is woken or started is at this clock
+  -- the goroutines that go on, are woken or are started are at this clock
   abbrev pub effect : Rest K.State → ℕ → ℕ → Clocked K.State → Deed → Effect (Clocked K.State) (Rest K.State)
   effect w n clock s d = record {
     changes = (n, actor_after clock s d.fate) ∷ woken_by w.beds clock d.woken;
@@ -76,7 +76,7 @@ abbrev pub is_deserted : List Bool → Bool
 is_deserted [] = true
 is_deserted (b ∷ bs) = not b && is_deserted bs
 
--- the end, where the run has one: that of the last event, or Deadlock where nobody is awake
+-- the end, if the run has one: that of the last event, or Deadlock if nobody is awake
 abbrev pub end_by : Shared → List Bool → Option Ending
 end_by w awake = cond (is_some w.ending) w.ending (cond (is_deserted awake) (Some Deadlock) None)
 
@@ -93,7 +93,7 @@ pub record Same {A B : Type 0} (w : World (Clocked A) (Rest A)) (v : World (Cloc
 abbrev pub Follows : GoroutineKind → GoroutineKind → ℕ → Type 0
 Follows K M limit = (n : ℕ) → (m : ℕ) × Same (moment K limit n) (moment M limit m)
 
--- two kinds that nobody can tell apart, at any limit
+-- two kinds that nobody can distinguish, at any limit
 pub record Equal (K M : GoroutineKind) : Type 0 where
   pub there : (limit : ℕ) → Follows K M limit
   pub back : (limit : ℕ) → Follows M K limit

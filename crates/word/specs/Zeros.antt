@@ -25,11 +25,11 @@ abbrev pub any_receives : ℕ → List Event → List ℕ → Bool
 any_receives c before [] = false
 any_receives c before (p ∷ who) = receives c (slept p before) || any_receives c before who
 
--- an event after these gives zero with false on c: to its actor, or, being c's close, to a receiver whom it wakes
+-- an event after these gives zero with false on c: to its actor, or, being c's close, to a receiver that it wakes
 abbrev pub gives_zero : ℕ → List Event → Event → Bool
 gives_zero c before e = is_zero c (deal e) || ((closes c e && nat_le c (made_in before)) && any_receives c before e.partners)
 
--- zero with false is given only in or after c's close, where all that c accepted was received
+-- zero with false is given only in or after c's close, when all that c accepted was received
 abbrev pub ZeroAfter : ℕ → List Event → List Event → Type 0
 ZeroAfter c before [] = Unit {0}
 ZeroAfter c before (e ∷ es) =

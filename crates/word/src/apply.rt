@@ -60,7 +60,7 @@ pub enum Op {
     NeChan,
 }
 
-/// What an operator makes of its operands, or the panic that it meets. A unary operator is given its operand twice.
+/// The value of an operator on its operands, or the panic that it meets. A unary operator is given its operand twice.
 pub fn apply(op: Op, x: Word, y: Word) -> Result<Word, Panic>
     requires { value op x y ≢ None }
     ensures { value op x y ≡ Some result }
@@ -71,7 +71,7 @@ pub fn apply(op: Op, x: Word, y: Word) -> Result<Word, Panic>
     }
 }
 
-/// The same of words that may be of other kinds than the operator's: `None` of these.
+/// Like `apply`, but returns `None` if the words are of other kinds than the operator's.
 #[inline(always)]
 pub fn checked_apply(op: Op, x: Word, y: Word) -> Option<Result<Word, Panic>>
     ensures { result ≡ value op x y }

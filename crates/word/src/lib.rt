@@ -23,7 +23,8 @@ pub mod write;
 
 pub use write::{Flagged, ShortWrite, Write, WriteFault, write_all};
 
-/// The laws that make a turn stable hold of every kind of state: a local step lowers no clock, and who asks has none.
+/// The laws that make a turn stable hold of every kind of state: a local step lowers no clock, and a state that makes a
+/// request has no local step.
 pub fn kinds_have_laws<S>()
     ensures { (next : S → Next S) (answer : S → Reply → S) (begin : ℕ → List Word → S) (main limit : ℕ) → Laws (rules (record { State = S; next = next; answer = answer; begin = begin; main = main }) limit) }
 {}
@@ -34,8 +35,8 @@ pub fn related_kinds_are_equal<S, T, P>()
 {}
 
 /// At every moment each channel has delivered what it accepted, once and in order, but for what is in its buffer; one
-/// sender's items in the order in which they were offered; nothing is accepted after a close; and zero with false is given
-/// only in or after a close, where all that was accepted was received.
+/// sender's items in the order in which they were offered; nothing is accepted after a close; and zero with false is
+/// given only in or after a close, when all that was accepted was received.
 pub fn channels_deliver_in_order<S>()
     ensures order { (K : Parts S) (limit n : ℕ) → InOrder (moment (kind_of K) limit n).shared.shared }
     ensures rising { (K : Parts S) (limit n : ℕ) → IsRising (moment (kind_of K) limit n).shared.shared }

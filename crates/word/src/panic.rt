@@ -1,6 +1,6 @@
 //! Why a program panics.
 
-/// Why a program panics. A panic ends the program; it is told by its number, 1 to 9.
+/// Why a program panics. A panic ends the program; it is reported by its number, 1 to 9.
 #[derive(Clone, Copy, Debug, PartialEq, Eq)]
 pub enum Panic {
     /// P1: a division by zero (Go: Arithmetic operators).

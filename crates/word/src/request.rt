@@ -1,10 +1,10 @@
-//! What goroutines ask, and the events that come of it.
+//! The requests of goroutines, and the events that result.
 
 use crate::panic::Panic;
 use crate::value::{Item, Word};
 use logical_clock::Clock;
 
-/// A clause of a select: a send where there is an item. A channel is named by its number; `None` is `nil`.
+/// A clause of a select: a send if there is an item. A channel is named by its number; `None` is `nil`.
 pub struct Case {
     pub chan: Option<u32>,
     pub item: Option<Item>,
@@ -18,8 +18,8 @@ impl Drop for Case {
     }
 }
 
-/// What a goroutine asks, its operands in source order. Requests are performed one by one, each in its turn. A channel is
-/// named by its number, counted from 1; `None` is `nil`.
+/// A goroutine's request, its operands in source order. Requests are performed one by one, each in its turn. A channel
+/// is named by its number, counted from 1; `None` is `nil`.
 #[derive(Drop)]
 pub enum Request {
     /// A new channel of this size, whose zero item is this one (Go: Making slices, maps and channels).
@@ -42,23 +42,23 @@ pub enum Request {
     Print(Vec<u8>),
     /// A return from the goroutine's first function.
     End,
-    /// The same of goroutine 1, which ends the program.
+    /// Like `End`, for goroutine 1, which ends the program.
     Exit,
-    /// A panic, found while operands were valued or at a call.
+    /// A panic, found while operands were evaluated or at a call.
     Panic(Panic),
     /// At the clock limit, in place of a request or of a step that would tick.
     Exhausted,
 }
 
-/// What one that asked is told.
+/// The reply to a request.
 pub enum Reply {
     /// The request is done.
     Nothing,
     /// This value: a new channel, a length, a capacity.
     Word(Word),
-    /// This item was received; false where the channel is closed and empty.
+    /// This item was received; false if the channel is closed and empty.
     Received(Item, bool),
-    /// The select did the clause of this number, counted from 1, which received this where it receives.
+    /// The select did the clause of this number, counted from 1, which received this if it receives.
     Clause(usize, Option<(Item, bool)>),
     /// The select did its default.
     Default,
@@ -77,7 +77,7 @@ impl Drop for Reply {
     }
 }
 
-/// What became of a request.
+/// The outcome of a request.
 pub enum EventOutcome {
     /// It is done, and its goroutine goes on with this reply.
     Done(Reply),

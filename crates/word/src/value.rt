@@ -74,7 +74,7 @@ impl Item {
         }
     }
 
-    /// The item is these words now. It stays where it is: only words are written, those that it had and those that it gets.
+    /// Replaces the item's words by these. The item is not moved: only words are written, those that it had and those that it gets.
     #[inline(always)]
     pub fn set(&mut self, words: &[Word])
         requires { length words.now ≤ MAX_WORDS }

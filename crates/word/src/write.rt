@@ -14,13 +14,13 @@ pub struct WriteFault;
 
 /// What takes a run's bytes.
 pub trait Write {
-    // The bytes that were taken, where they are known.
+    // The bytes that were taken, if they are known.
     ghost contents: { Self → Option (List ℕ) } = { λ _. None };
 
     // Whether an error came, or no byte of a piece that is not empty was taken.
     ghost has_failed: { Self → Bool };
 
-    /// Takes a beginning of the piece, and answers how many bytes of it were taken.
+    /// Takes a beginning of the piece, and returns how many bytes of it were taken.
     fn write(&mut self, piece: &[u8]) -> Result<usize, WriteFault>
         ensures bound { IfOk result (λ n. n ≤ length piece.now) }
         ensures bytes { WriteAppends (contents self.old) (contents self.new) result piece.now }

@@ -21,7 +21,7 @@ use word::request::{Event, EventOutcome};
 /// A clock limit that is not reached.
 pub(crate) const LIMIT: u64 = 1 << 40;
 
-/// What is compared of a settling: the clock and the number of its event, and whether it sleeps.
+/// The part of a settling's result that is compared: the clock and the number of its event, and whether it sleeps.
 #[derive(Clone, Copy, PartialEq, Eq)]
 enum Seen {
     Event(u64, u64, bool),
@@ -30,20 +30,20 @@ enum Seen {
     NoMemory,
 }
 
-/// What is done with a book, and what has to come of it.
+/// What is done with a book, and the expected result.
 #[derive(Clone, Copy)]
 enum Move {
-    /// Whoever may be lent is lent and works, until all are parked; then the next settling comes to this.
+    /// All goroutines that may be lent are lent and work, until all are parked; then the next settling has this result.
     Next(Seen),
-    /// The same so many times, whatever it comes to.
+    /// Like `Next`, this many times, whatever the result.
     Skip(u32),
-    /// A settling comes to this.
+    /// A settling has this result.
     Settle(Seen),
-    /// Whoever is lent and stands before the next event is waited for, until it has published a later clock.
+    /// Waits for the lent goroutine that stands before the next event, until it has published a later clock.
     WaitForFloors,
-    /// Nobody may be lent.
+    /// No goroutine may be lent.
     LendNobody,
-    /// So many events are settled.
+    /// This number of events is settled.
     Events(u64),
     /// The output so far is this text.
     Write(&'static str),
@@ -174,7 +174,7 @@ fn makes<B: BookName>(book: &mut Book<B>, step: Move) -> bool {
     }
 }
 
-/// Whether a hand-over has its output, its trace and its end if nobody is lent, but steps are made in the book.
+/// Whether a hand-over has its output, its trace and its end if no goroutine is lent, but steps are made in the book.
 fn works_in_place(alloc: Global) -> Result<bool, Fault> {
     works_as::<Brand>(begin(alloc, &HANDS_OVER)?)
 }
@@ -209,13 +209,13 @@ fn park_in_place<B: BookName>(book: &mut Book<B>) {
     }
 }
 
-/// What the next settling comes to where all are parked.
+/// The result of the next settling once all are parked.
 fn next<B: BookName>(book: &mut Book<B>) -> Seen {
     park_all(book);
     settled(book)
 }
 
-/// Settles so often where all are parked.
+/// Settles `count` times, each time once all are parked.
 pub(crate) fn skip<B: BookName>(book: &mut Book<B>, count: u32) -> bool {
     for _ in 0..count {
         if next(book) == Seen::NoMemory {
@@ -225,7 +225,7 @@ pub(crate) fn skip<B: BookName>(book: &mut Book<B>, count: u32) -> bool {
     true
 }
 
-/// Lends whoever may be lent, one by one, until each of them is parked.
+/// Lends the goroutines that may be lent, one by one, until each of them is parked.
 fn park_all<B: BookName>(book: &mut Book<B>) {
     for _ in 0..10_000 {
         match lent(book) {
@@ -272,7 +272,7 @@ fn waits_for<B: BookName>(book: &mut Book<B>, first: Lease<B>) -> bool {
         && settled(book) == Seen::Waiting(2)
 }
 
-/// What the next settling comes to. The call is made again if it is refused memory.
+/// The result of the next settling. The call is made again if it is refused memory.
 fn settled<B: BookName>(book: &mut Book<B>) -> Seen {
     match seen_in(book.settle()) {
         Seen::NoMemory => seen_in(book.settle()),
@@ -294,7 +294,7 @@ fn event_seen(event: &Event) -> Seen {
     Seen::Event(event.clock.time(), event.number, sleeps)
 }
 
-/// Whether nobody was lent.
+/// Whether no goroutine was lent.
 fn is_nobody<B: BookName>(lent: Result<Option<Lease<B>>, Memory>) -> bool {
     matches!(&lent, Ok(None))
 }

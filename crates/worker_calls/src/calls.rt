@@ -7,7 +7,7 @@ use std::alloc::Global;
 use std::sync::Wait;
 use std::thread::Threads;
 
-/// Makes all calls, those of `machine_calls` too, and answers the names of the checks that fail.
+/// Makes all calls, those of `machine_calls` too, and returns the names of the checks that fail.
 pub fn failed_calls<R: Threads + Wait + Sync>(
     rt: &R,
     alloc: Global,

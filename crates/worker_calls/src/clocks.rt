@@ -25,7 +25,7 @@ const STEPS: u64 = 1000;
 /// The slot that is lent.
 const SLOT: usize = 7;
 
-/// What the two threads tell each other beside the clock.
+/// What the two threads share besides the clock.
 #[derive(Drop)]
 struct Marks {
     /// How often the one has looked.
@@ -81,7 +81,7 @@ fn rises<R: Threads + Sync>(
     Ok(climbed && seen)
 }
 
-/// Makes local steps, and publishes the clock behind each.
+/// Makes local steps, and publishes the clock after each.
 fn climb(alloc: Global, program: &Verified, state: GoState, lease: LeaseSeat, marks: &Marks) -> bool
     requires state { IsStateOf program.now LAST state }
     requires lease { (lease_loan lease ≡ loan_for program.now LAST 1 state) × (lease_clock lease ≡ state.clock) }
@@ -104,7 +104,7 @@ fn climb(alloc: Global, program: &Verified, state: GoState, lease: LeaseSeat, ma
 }
 
 /// Whether a look at the clock never finds less than a look before, less than what was published before, or more than what is
-/// announced behind it, until it finds the last clock.
+/// announced after it, until it finds the last clock.
 fn watch(table: &ClockTable, seat: BookSeat, marks: &Marks) -> bool
     requires table { seat_table seat ≡ table_of table.now }
     requires slot { SLOT < length (rows seat) }

@@ -1,4 +1,4 @@
-//! Calls that no text makes, of books, clocks, queues and workers, and what has to come of them.
+//! Calls that no program makes, of books, clocks, queues and workers, and their expected results.
 #![tactic(auto)]
 
 mod books;

@@ -8,7 +8,7 @@ use run_queue::RunQueue;
 use std::alloc::Global;
 use std::sync::Wait;
 
-/// What two puts and two takes in turn answer.
+/// The results of two puts and two takes in turn.
 #[derive(Drop)]
 struct Answers {
     put: Result<(), u32>,
@@ -17,7 +17,7 @@ struct Answers {
     none: Option<u32>,
 }
 
-/// Whether queues hand on what was put, and back what has no room.
+/// Whether queues hand on what was put, and hand back what does not fit.
 pub(crate) fn check<R: Wait>(rt: &R, alloc: Global, checks: &mut Checks) -> Result<(), Memory> {
     checks.see("a full queue hands an item back", hands_back(rt, alloc))?;
     checks.see(
@@ -33,7 +33,7 @@ fn hands_back<R: Wait>(rt: &R, alloc: Global) -> Result<bool, Fault> {
     Ok(puts && answers.taken == Some(7) && answers.none == None)
 }
 
-/// Two puts into a queue of capacity 1, and two takes. The contracts alone say that there is room for the first item, and that it is
+/// Two puts into a queue of capacity 1, and two takes. The contracts alone say that the first item fits, and that it is
 /// what is taken.
 fn in_turn<R: Wait>(rt: &R, alloc: Global, first: u32, second: u32) -> Result<Answers, Memory>
     ensures put { IfOk result (λ answers. answers.put ≡ Ok tt) }

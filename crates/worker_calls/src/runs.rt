@@ -20,7 +20,7 @@ const TRACE: &[u8] =
     b"0 1 make 1\n2 1 go 2\n3 1 go 3\n4 1 receive 1 sleeps\n4 2 print 2\n4 3 print 2\n\
     5 2 send 1 to 1\n5 3 send 1 sleeps\n6 1 receive 1 from 3\n6 2 end\n7 1 exit\n";
 
-/// A gate that holds nobody.
+/// A gate that holds no worker.
 struct Open;
 
 impl Gate for Open {
@@ -89,7 +89,7 @@ fn wrote(writer: Flagged<Vec<u8>>, bytes: &[u8]) -> bool {
     writer.into_inner().as_slice() == bytes
 }
 
-/// Whether the program writes the same 20 times, with each of several numbers of workers.
+/// Whether the program writes the same output 20 times, with each of several numbers of workers.
 fn always_writes<R: Threads + Wait + Sync>(rt: &R, alloc: Global) -> Result<bool, Fault> {
     for turn in 0..80 {
         let workers = match turn % 4 {
@@ -119,7 +119,7 @@ fn is_refused<R: Threads + Wait + Sync>(
     Ok(outcome == Err(fault) && wrote(out, b"") && wrote(trace, b""))
 }
 
-/// A writer that refuses every byte behind the first.
+/// A writer that refuses every byte after the first.
 #[derive(Drop)]
 struct Narrow {
     taken: bool,

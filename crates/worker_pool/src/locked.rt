@@ -20,7 +20,7 @@ const FEW_STEPS: u32 = 512;
 /// How many turns of goroutines that talk follow one another at most before a lease is given out again.
 const TALKS: u32 = 256;
 
-/// The book of a run, and what its threads tell each other.
+/// The book of a run, and the signals between its threads.
 #[derive(Drop)]
 pub(crate) struct Locked<B: RunName> {
     run: RunBook<B>,
@@ -60,7 +60,7 @@ impl<B: RunName> Locked<B> {
         }
     }
 
-    /// Whether a worker watches, and there is a lease for it: in the book, or in a queue of which it is told that it is filled.
+    /// Whether a worker watches, and there is a lease for it: in the book, or in a queue that was reported as filled.
     pub fn wants_call(&self, filled: bool) -> bool {
         self.signals.may_call() && (filled || self.run.may_lend())
     }
@@ -107,8 +107,8 @@ impl<B: RunName> Locked<B> {
     }
 
     /// A lease for a worker whose goroutines compute: of a queue; else of the book, with all others that can be lent put into
-    /// its queue, where workers find them that have none. It is a call, so that a worker whose goroutines talk
-    /// passes by what it doesn't need.
+    /// its queue, where workers without a lease find them. It is a call, so that a worker whose goroutines talk
+    /// skips what it doesn't need.
     #[inline(never)]
     fn long_lease<R: Wait>(
         &mut self,
@@ -167,7 +167,7 @@ impl<B: RunName> Locked<B> {
         Ok(lease)
     }
 
-    /// What there is to write, and the end, where the run has ended.
+    /// What there is to write, and the end, if the run has ended.
     pub fn next(
         &mut self,
         printed: &mut Share<Printed<B>>,
@@ -188,9 +188,9 @@ impl<B: RunName> Locked<B> {
         Ok(Handed::new(output, trace, end))
     }
 
-    /// Goroutines that talk make their steps under the lock, one after the other and without a lease, and what they ask is
-    /// committed. That ends where one computes, where there is nobody, where another worker whose goroutines talk is out, where
-    /// somebody comes to the lock, or after some turns.
+    /// Goroutines that talk make their steps under the lock, one after the other and without a lease, and their requests are
+    /// committed. That ends if one computes, if there is none, if another worker whose goroutines talk is out, if a thread
+    /// comes to the lock, or after some turns.
     pub fn talk(&mut self, coming: &AtomicU64) {
         if self.signals.is_over() || self.signals.is_talking() {
             return;
@@ -263,7 +263,7 @@ impl<B: RunName> Locked<B> {
     }
 }
 
-/// What a worker does that nothing can be lent to.
+/// The next turn of a worker to which nothing can be lent.
 fn idle_turn<B: RunName>(signals: &mut Signals) -> Turn<RunLease<B>> {
     if signals.begin_watch() {
         Turn::Watch

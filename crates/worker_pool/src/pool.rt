@@ -28,8 +28,8 @@ use word::Write;
 use word::end::End;
 use workers::{Gate, TraceWriter, WorkQueues};
 
-/// Runs a program up to the clock limit (1 to 2^62) on 1 to 64 workers, and answers how it ended. What is written begins the
-/// output of the one-thread run, and its trace; at an end it is all of them. Of a trace that nobody reads nothing is made.
+/// Runs a program up to the clock limit (1 to 2^62) on 1 to 64 workers, and returns how it ended. What is written begins the
+/// output of the one-thread run, and its trace; at an end it is all of them. A trace that nobody reads is not made.
 ///
 /// Errors: `BadWorkers`; `BadLimit`; `Memory`; `Write`.
 pub fn run<R: Threads + Wait + Sync, G: Gate + Sync, O: Write, T: TraceWriter>(
@@ -150,7 +150,7 @@ fn run_named<B: RunName + Send, R: Threads + Wait + Sync, G: Gate + Sync, O: Wri
     result
 }
 
-/// What the calling thread does beside the workers.
+/// What the calling thread does while the workers run.
 trait Task: Drop {
     type Output;
 

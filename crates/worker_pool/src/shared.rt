@@ -16,7 +16,7 @@ use workers::{Back, Pace, Turn, WorkQueues};
 /// How long the thread that writes sleeps, if nothing wakes it, in milliseconds.
 const WRITING_NAP: u64 = 5;
 
-/// The lock, and whom its threads wake.
+/// The lock, and the threads that are woken.
 #[derive(Drop)]
 pub(crate) struct Shared<B: RunName> {
     locked: Mutex<Locked<B>>,
@@ -45,7 +45,7 @@ impl<B: RunName> Shared<B> {
         }
     }
 
-    /// Takes the lock; whoever has it sees that somebody comes.
+    /// Takes the lock; the thread that has it sees that another one comes.
     fn lock<R: Wait>(&self, rt: &R) -> MutexGuard<'_, Locked<B>> {
         self.coming.fetch_add(1, Ordering::SeqCst);
         let locked = self.locked.lock(rt);
@@ -121,7 +121,7 @@ impl<B: RunName> Shared<B> {
         locked.next(printed, traced)
     }
 
-    /// The run stops for want of memory, unless it has ended.
+    /// The run stops because it is out of memory, unless it has ended.
     pub fn stop<R: Wait>(&self, rt: &R) {
         self.lock(rt).signals.stop();
         self.wake_all();
@@ -141,7 +141,7 @@ impl<B: RunName> Shared<B> {
     }
 }
 
-/// Naps without the lock, until a call cuts a nap short, or nobody has the lock when one ends: whoever has it sees to the rest.
+/// Naps without the lock, until a call cuts a nap short, or the lock is free when one ends: a thread that has it sees to the rest.
 fn watch<'a, B: RunName, R: Wait>(
     rt: &R,
     call: &Condvar,
@@ -165,7 +165,7 @@ fn watch<'a, B: RunName, R: Wait>(
     unreachable!()
 }
 
-/// Sleeps without the lock for so long; a call cuts that short.
+/// Sleeps without the lock for `length`; a call cuts that short.
 fn sleep<'a, B: RunName, R: Wait>(
     rt: &R,
     call: &Condvar,

@@ -12,7 +12,7 @@ const QUANTUM: u32 = 4096;
 /// How many times as many it makes before it is brought back, though its goroutine can go on.
 const QUANTA: u32 = 8;
 
-/// Below so many ticks of its goroutine a lease was short: the worker was at the lock for longer than it worked.
+/// A lease with fewer ticks of its goroutine was short: the worker was at the lock for longer than it worked.
 const FEW_TICKS: u64 = 64;
 
 /// Works until the run is over. The leases that lie in its queue then are dropped.
@@ -63,7 +63,7 @@ fn worked<B: RunName>(mut lease: RunLease<B>) -> Back<RunLease<B>> {
     Back::Running(lease)
 }
 
-/// A lease whose goroutine asks, which began at this clock.
+/// A lease whose goroutine makes a request, which began at this clock.
 fn asking<B: RunName>(begun: Clock, lease: RunLease<B>) -> Back<RunLease<B>> {
     if ticks(begun, lease.key().clock) < FEW_TICKS {
         Back::Talking(lease)

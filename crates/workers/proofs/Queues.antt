@@ -27,19 +27,19 @@ module _ {T : Type 0} where
   abbrev view_of : Stealer T → View T
   view_of stealer = take_view stealer.pass
 
-  -- who takes nothing knows what it knew
+  -- a pass that takes nothing knows what it knew
   pub views_kept : (l : List (Stealer T)) (i : ℕ) (x y : Stealer T) → take_view y.pass ≡ take_view (get_or l i x).pass → views_of (set l i y) ≡ views_of l
   views_kept l i x y same = map-set_same view_of l i y x same
 
   replaced : (l : List (Stealer T)) (i : ℕ) (y : Stealer T) → i < length l → views_of (set l i y) ≡ take i (views_of l) ++ view_of y ∷ drop (suc i) (views_of l)
   replaced l i y lt = map-set view_of l i y ∙ set_split (views_of l) i (view_of y) (subst (λ n. i < n) (sym (length-map l view_of)) lt)
 
-  -- who takes an item takes it of one of the queues
+  -- a pass that takes an item takes it of one of the queues
   taken : (l : List (Stealer T)) (i : ℕ) (x y : Stealer T) (item : T) → i < length l → TakesOne (take_view (get_or l i x).pass) item (take_view y.pass) → TakesOfOne (views_of l) item (views_of (set l i y))
   taken l i x y item lt takes =
       (take i (views_of l), drop (suc i) (views_of l), view_of (get_or l i x), view_of y, sym (views_kept l i x (get_or l i x) refl) ∙ replaced l i (get_or l i x) lt, replaced l i y lt, takes)
 
-  -- the same, where the queues are those at the start of a list of room for so many, of which each is as it was but one
+  -- like `taken`, for the first `n` queues of a list, of which each is as it was but one
   pub taken_back : (old now l : List (Stealer T)) (i n : ℕ) (x y : Stealer T) (item : T) (rest : List (Stealer T))
       → now ≡ old → length now ≡ n → length l ≡ length now → views_of l ≡ views_of now → i < length now
       → TakesOne (take_view (get_or l i x).pass) item (take_view y.pass) → TakesOfOne (views_of old) item (views_of (take n (set l i y ++ rest)))

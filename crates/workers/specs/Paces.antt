@@ -11,7 +11,7 @@ yields_after (Asking item) = false
 yields_after (Running item) = false
 yields_after NoMemory = false
 
--- how many of its last items were short, at most so many
+-- how many of its last items were short, at most `most`
 abbrev pub short_after : {T : Type 0} → (most short : ℕ) → Back T → ℕ
 short_after most short (Talking item) = min (short + 1) most
 short_after most short back = 0

@@ -7,7 +7,7 @@ use Rattle.workers.specs.declared.ends.Owner.{Owner}
 use Rattle.workers.specs.declared.ends.Stealer.{Stealer}
 
 module _ {T : Type 0} where
-  -- what the passes of a worker's own queue know once each was told what the other knows; the one that takes knew this before
+  -- what the passes of a worker's own queue know once each has learnt what the other knows; the one that takes knew this before
   abbrev pub LooksInto : (old : Owner T) → View T → (new : Owner T) → Type 0
   LooksInto old knows new = (put_view new.puts ≡ told_gone (put_view old.puts) knows) × (take_view new.takes ≡ told_put knows (put_view old.puts))
 

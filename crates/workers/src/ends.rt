@@ -41,7 +41,7 @@ impl<T: Drop> Owner<T> {
         Ok(Owner { queue, puts, takes })
     }
 
-    /// Puts an item at the back; it comes back where the queue is full.
+    /// Puts an item at the back; it comes back if the queue is full.
     pub fn put<R: Wait>(&mut self, rt: &R, item: T) -> Result<(), T>
         ensures ok { OnOk result (PutsOne (put_view self.old.puts) item (put_view self.new.puts)) }
         ensures back { IfErr result (λ back. (back ≡ item) × (put_view self.new.puts ≡ put_view self.old.puts)) }
@@ -50,7 +50,7 @@ impl<T: Drop> Owner<T> {
         self.queue.put(rt, &mut self.puts, item)
     }
 
-    /// The item at the front. None only where the queue was empty at one moment of the call. What it knows to be taken then, `put`
+    /// The item at the front. None only if the queue was empty at one moment of the call. What it knows to be taken then, `put`
     /// knows too.
     pub fn take<R: Wait>(&mut self, rt: &R) -> Option<T>
         ensures some { IfSome result (λ item. TakesOwn self.old item self.new) }
@@ -62,7 +62,7 @@ impl<T: Drop> Owner<T> {
         found
     }
 
-    /// What takes from this queue too.
+    /// A stealer of this queue.
     pub fn stealer(&mut self) -> Result<Stealer<T>, Memory>
         ensures same { arc_value self.new.queue ≡ arc_value self.old.queue }
         ensures queue { IfOk result (λ stealer. arc_value stealer.queue ≡ arc_value self.old.queue) }
@@ -74,7 +74,7 @@ impl<T: Drop> Owner<T> {
 }
 
 impl<T: Drop> Stealer<T> {
-    /// The item at the front. None only where the queue was empty at one moment of the call.
+    /// The item at the front. None only if the queue was empty at one moment of the call.
     pub fn take<R: Wait>(&mut self, rt: &R) -> Option<T>
         ensures some { IfSome result (λ item. TakesOne (take_view self.old.pass) item (take_view self.new.pass)) }
         ensures none { IfNone result (take_view self.new.pass ≡ take_view self.old.pass) }

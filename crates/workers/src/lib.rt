@@ -1,4 +1,4 @@
-//! What the workers of a pool have that knows of no book.
+//! The parts of a pool's workers that don't depend on a book.
 #![tactic(auto)]
 
 mod ends;

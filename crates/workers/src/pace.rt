@@ -13,7 +13,7 @@ const SHORT_NAP: u64 = 50_000;
 /// Its longest one.
 const LONG_NAP: u64 = 16_000_000;
 
-/// After so many short leases in a row a worker's goroutines do nothing but talk.
+/// After this many short leases in a row a worker's goroutines do nothing but talk.
 const MANY_SHORT: u32 = 64;
 
 /// Whether a worker leaves leases to another one, whether its goroutines only talk, and how long it naps when it watches.

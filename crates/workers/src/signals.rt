@@ -1,10 +1,10 @@
-//! What the threads of a run tell each other.
+//! The signals between the threads of a run.
 
 ghost use Rattle.std.specs.Prelude.{◌≡◌, ◌↔◌, ◌<◌, ◌+◌, ◌-◌, ◌%◌, ◌^◌, ◌||◌, IsTrue, false, is_some, min, not, true};
 
 use word::end::End;
 
-/// What the threads of a run tell each other under its lock.
+/// The signals between the threads of a run, under its lock.
 #[derive(Clone, Copy)]
 pub struct Signals {
     /// Whether memory was refused.
@@ -22,7 +22,7 @@ pub struct Signals {
 }
 
 impl Signals {
-    /// Nobody has told anything.
+    /// No signal was given.
     pub fn new() -> Signals
         ensures { result ≡ record { stopped = false; over = false; waiting = 0; watched = false; lent = 0; talkers = 0 } }
     {
@@ -43,7 +43,7 @@ impl Signals {
         self.over = true;
     }
 
-    /// The run stops for want of memory, unless it has ended.
+    /// The run stops because it is out of memory, unless it has ended.
     pub fn stop(&mut self)
         ensures { self.new ≡ record self.old { stopped = self.old.stopped || not self.old.over; over = true } }
     {
@@ -72,7 +72,7 @@ impl Signals {
         self.stopped
     }
 
-    /// A worker finds nothing to do. Answers whether it is to watch, since nobody else does.
+    /// A worker finds nothing to do. Returns whether it is to watch, since no other worker does.
     pub fn begin_watch(&mut self) -> bool
         ensures { (result ≡ not self.old.watched) × (self.new ≡ record self.old { watched = true }) }
     {
@@ -88,7 +88,7 @@ impl Signals {
         self.watched = false;
     }
 
-    /// Whether workers wait, and nobody watches for them.
+    /// Whether workers wait, and none watches for them.
     pub fn wants_watch(&self) -> bool
         ensures { IsTrue result ↔ ((0 < self.now.waiting) × (self.now.watched ≡ false)) }
     {

@@ -7,7 +7,7 @@ use word::{Flagged, Write};
 
 /// What takes the lines of a run's trace.
 pub trait TraceWriter: Write {
-    /// Whether somebody reads what is written. Where nobody does, no line is made.
+    /// Whether the trace is read. If it is not, no line is made.
     fn is_read(&self) -> bool
         ensures { result ≡ false → Self.contents self.now ≡ None };
 }

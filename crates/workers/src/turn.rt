@@ -5,9 +5,9 @@
 pub enum Back<T: Drop> {
     /// With nothing, since it begins.
     Begun,
-    /// With an item whose goroutine asks, after a few steps.
+    /// With an item whose goroutine makes a request, after a few steps.
     Talking(T),
-    /// With an item whose goroutine asks, after many steps.
+    /// With an item whose goroutine makes a request, after many steps.
     Asking(T),
     /// With an item whose goroutine can go on at once.
     Running(T),
@@ -20,9 +20,9 @@ pub enum Back<T: Drop> {
 pub enum Turn<T: Drop> {
     /// It works this item.
     Work(T),
-    /// It naps, and looks again: nobody else does.
+    /// It naps, and looks again: no other worker does.
     Watch,
-    /// It waits until it is woken: somebody else watches.
+    /// It waits until it is woken: another worker watches.
     Wait,
     /// It leaves: the run is over.
     Leave,

@@ -44,7 +44,7 @@ impl<T: Drop> WorkQueues<T> {
         Ok(all)
     }
 
-    /// Puts an item into its own queue. It comes back only where that was full at one moment of the call, or where 2^62 had been put.
+    /// Puts an item into its own queue. It comes back only if that was full at one moment of the call, or if 2^62 had been put.
     pub fn put<R: Wait>(&mut self, rt: &R, item: T) -> Result<(), T>
         ensures ok { OnOk result (PutsOne (put_view self.old.own.puts) item (put_view self.new.own.puts)) }
         ensures filled { OnOk result (self.new.filled ≡ true) }
@@ -56,7 +56,7 @@ impl<T: Drop> WorkQueues<T> {
         Ok(())
     }
 
-    /// An item of its own queue, else of the others'. None only where each queue was empty at one moment of the call. What it knows to
+    /// An item of its own queue, else of the others'. None only if each queue was empty at one moment of the call. What it knows to
     /// be taken from its own queue then, `put` knows too.
     #[inline(never)]
     pub fn take<R: Wait>(&mut self, rt: &R) -> Option<T>

@@ -118,7 +118,7 @@ module _ {S W : Type 0} (r : Rules S W) (laws : Laws r) where
   states_length [] = refl
   states_length (x ∷ xs) = ap suc (states_length xs)
 
-  -- who meets a state that leads to a request leads there
+  -- a goroutine that meets a state that leads to a request leads there
   leads_on : (s t y : S) → Meets r s t → RowSettles r (Some t) (Some y) → RowSettles r (Some s) (Some y)
   leads_on s t y m h =
       let d = h.0.0 in

@@ -27,7 +27,7 @@ use Rattle.world_core_base.proofs.Deserted.{deserted, inhabited}
 use Rattle.world_core_base.proofs.Found.{waiting_found}
 use Rattle.world_core_base.proofs.Leases.{core_set}
 
--- ---- who is awake, and who asks
+-- ---- the goroutines that are awake, and those that make a request
 
 pub end_where : (core : CoreValue) (b : Bool) → core.ending ≡ None → is_deserted (map is_some core.rows) ≡ b → end_in core ≡ cond b (Some Deadlock) None
 end_where core b going e = ap (λ (o : Option Ending). cond (is_some o) o (cond (is_deserted (map is_some core.rows)) (Some Deadlock) None)) going ∙ ap (λ t. cond t (Some Deadlock) None) e
@@ -46,7 +46,7 @@ parked_row (Some row) c h = (row, refl, go row.parked refl h)
     go true e h' = e
     go false e h' = absurd cc
 
--- who has the turn asks
+-- the goroutine that has the turn makes a request
 pub turn_asks : (code : Code) (limit : ℕ) (core : CoreValue) (n : ℕ) → FitsCore code limit core → HasTurn core n → Asks code limit core.rows n
 turn_asks code limit core n fits t =
     let p = parked_row (slice_index_or core.rows t.key.number None) t.key.clock (waiting_found core.rows t.key t.least) in
@@ -158,7 +158,7 @@ module _ (code : Code) (limit : ℕ) where
       let h = more_turns steps i d (happens (rules (code_kind code) limit) m s) (omega (arith, l)) in
       rw e (omega (arith, h))
 
-  -- after so many steps the world is the machine's, and has an event for each turn
+  -- after `steps` the world is the machine's, and has an event for each turn
   pub record Went (steps : List Step) (w : WorldValue) : Type 0 where
     pub world : IsWorldOf (scheduled code limit steps) w
     pub fits : FitsCore code limit w.core

@@ -32,7 +32,7 @@ pub record IsWorldOf (m : CodeMachine) (w : WorldValue) : Type 0 where
   pub events : w.events ≡ (shared_of m).events
   pub output : w.output ≡ (shared_of m).output
 
--- the end, where there is one: that of the last event, or Deadlock where nobody is awake
+-- the end, if there is one: that of the last event, or Deadlock if nobody is awake
 abbrev pub end_in : CoreValue → Option Ending
 end_in core = cond (is_some core.ending) core.ending (cond (is_deserted (map is_some core.rows)) (Some Deadlock) None)
 
@@ -56,7 +56,7 @@ abbrev pub is_turn : CodeMachine → Code → ℕ → Step → Bool
 is_turn m code limit Settle = has_turn_with m.rows (least (keys (parked_clock (rules (code_kind code) limit)) 0 m.rows))
 is_turn m code limit step = false
 
--- the events that a step commits: one where it is a Settle that has a turn, before the end
+-- the events that a step commits: one if it is a Settle that has a turn, before the end
 abbrev pub turns_at : Code → ℕ → CodeMachine → Step → ℕ
 turns_at code limit m step = cond (is_some (shared_of m).ending) 0 (cond (is_turn m code limit step) 1 0)
 
@@ -80,7 +80,7 @@ scheduled code limit steps = schedule (rules (code_kind code) limit) steps (firs
 
 -- ---- what is committed
 
--- the events and the output are those of the one-thread run after some number of moves, and so is the end, where there is one
+-- the events and the output are those of the one-thread run after some number of moves, and so is the end, if there is one
 pub record IsMoment (code : Code) (limit : ℕ) (w : WorldValue) : Type 0 where
   pub moves : ℕ
   pub events : w.events ≡ (moment (code_kind code) limit moves).shared.shared.events
@@ -89,7 +89,7 @@ pub record IsMoment (code : Code) (limit : ℕ) (w : WorldValue) : Type 0 where
 
 -- first in, first out: what a channel accepted is what was received and then its buffer; one sender's items come in the
 -- order in which they were offered; nothing is accepted after a close; and zero with false is given only in or after a
--- close, where all that was accepted was received
+-- close, when all that was accepted was received
 pub record IsFirstInFirstOut (w : WorldValue) : Type 0 where
   pub order : (c : ℕ) → accepted c w.events ≡ received c w.events ++ (channel_of w.core.channels.channels c).items
   pub rising : (c : ℕ) → Rises (entries c w.events)

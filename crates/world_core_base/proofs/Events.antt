@@ -79,9 +79,9 @@ go_below code limit core n clock means a go = still_below code limit core n cloc
 pub meets_below : (code : Code) (limit : ℕ) (core : CoreValue) (n clock : ℕ) (means : Request) → IsAsked code limit core n clock means → IsOfChannels means → clock < limit
 meets_below code limit core n clock means a meets = still_below code limit core n clock means a (λ (e : means ≡ Exhausted). subst IsOfChannels e meets)
 
--- ---- who falls asleep was told nothing
+-- ---- a goroutine that falls asleep has no pending reply words
 
--- one who asks for channels is not doomed
+-- a goroutine with a request to channels is not doomed
 not_doomed : (limit clock events n : ℕ) (d : Bool) (x : NextFrames) (what means : Request) → asks_of limit clock (cond d (Asks (Panic SendOnClosed)) x) ≡ Some what → means ≡ meant_after events n what → IsOfChannels means → d ≡ false
 not_doomed limit clock events n false x what means e meant meets = refl
 not_doomed limit clock events n true x what means e meant meets = absurd (by (clock == limit) (events + 1 == 2 ^ 62) e meant)

@@ -22,7 +22,7 @@ leads_goes code limit quantum base s t h g =
     let r = rules (code_kind code) limit in
     (h.0 + g.0, moved_add r (laws (code_kind code) limit) h.0 g.0 base ∙ ap (moved r g.0) h.1 ∙ g.2)
 
--- rows that fit still fit where one is replaced by another that fits
+-- rows that fit still fit if one is replaced by another that fits
 pub fits_set : (code : Code) (limit : ℕ) (rows : Rows) (n : ℕ) (row : Option (Row State)) → FitsAll code limit rows → FitsRow code limit row → FitsAll code limit (slice_set rows n row)
 fits_set code limit rows n row all fits k = elim (cases_eq k n) [
   | inl e ↦ elim (cases_lt n (length rows)) [

@@ -67,7 +67,7 @@ actor_length beds n s Dozes = length-set beds n (Some s)
 actor_length beds n s Leaves = refl
 actor_length beds n s Stays = refl
 
--- nobody is woken or started but by one that goes on
+-- only a goroutine that goes on wakes or starts others
 abbrev pub Quiet : Fate → List (ℕ × Reply) → List (ℕ × List Word) → Type 0
 Quiet (GoesOn reply) ws xs = Unit {0}
 Quiet Dozes ws xs = (ws ≡ []) × (xs ≡ [])
@@ -99,14 +99,14 @@ module _ (code : Code) (limit : ℕ) where
       let l = length-append rows (new ∷ []) in
       omega (arith, e, l)
 
-  -- those who are started stand behind the others
+  -- the started goroutines come after the others
   started_rows : (xs : List (ℕ × List Word)) (rows : Rows) (clock : ℕ) → rows ++ map (λ (t : State). Some (row_of (rules (code_kind code) limit) t)) (begun_at (code_kind code) limit clock xs) ≡ new_rows code rows clock xs
   started_rows [] rows clock = append-nil rows
   started_rows (x ∷ xs) rows clock =
       let new : Option (Row State) = Some (free_row (at clock (code_begin code x.0 x.1))) in
       sym (append_assoc rows (new ∷ []) (map (λ (t : State). Some (row_of (rules (code_kind code) limit) t)) (begun_at (code_kind code) limit clock xs))) ∙ started_rows xs (rows ++ new ∷ []) clock
 
-  -- the beds of those who are woken are the ones that are kept
+  -- the beds of the woken goroutines are the ones that are kept
   abbrev Agree : Beds → List (Bed Frames) → List (ℕ × Reply) → Type 0
   Agree beds all [] = Unit {0}
   Agree beds all (w ∷ ws) = (slice_index_or beds w.0 None ≡ in_bed w.0 all) × Agree beds all ws
@@ -175,7 +175,7 @@ module _ (code : Code) (limit : ℕ) where
       ∙ sym (actor_is n s d.fate m.shared.beds core.rows (woken_by (code_kind code) limit m.shared.beds (s.clock + 1) d.woken))
       ∙ ap (λ (rows : Rows). changed_rows (rules (code_kind code) limit) rows ((n, actor_after (code_kind code) limit (s.clock + 1) s d.fate) ∷ woken_by (code_kind code) limit m.shared.beds (s.clock + 1) d.woken)) h.rows)
 
-  -- who sleeps then lies in the bed that is kept
+  -- each sleeper is then in the bed that is kept
   beds_by : (n : ℕ) (s : State) (q : Request) (f : Fate) (beds : Beds) (all : List (Bed Frames)) (ss : List Sleeper) (x : Sleeper) → n < length beds → LieIn beds all ss → Lies ss n q f x → slice_index_or (actor_beds beds n s f) x.number None ≡ in_bed x.number (beds_after (code_kind code) limit all n s f)
   beds_by n s q (GoesOn reply) beds all ss x l h k = lies_at beds all ss x h k
   beds_by n s q Dozes beds all ss x l h (inl k) =
@@ -217,7 +217,7 @@ module _ (code : Code) (limit : ℕ) where
       go None f = tt
       go (Some s) f = free_fits code limit (told (code_kind code) s clock w.1) (told_fits s clock w.1 v le f)
 
-  -- those who are started run functions of the code
+  -- the started goroutines run functions of the code
   abbrev AllWithin : List (ℕ × List Word) → Type 0
   AllWithin [] = Unit {0}
   AllWithin (x ∷ xs) = (x.0 < length code.functions) × AllWithin xs
@@ -241,7 +241,7 @@ module _ (code : Code) (limit : ℕ) where
 
   -- ---- the request of a goroutine, whatever else is shared
 
-  -- beside the channels of the core, these are shared
+  -- what is shared besides the channels of the core
   pub record Beside (core : CoreValue) (o : Others) : Type 0 where
     pub live : o.live ≡ core.live
     pub ending : o.ending ≡ core.ending

@@ -1,4 +1,4 @@
--- Those who are woken get up one by one.
+-- The woken goroutines get up one by one.
 use Rattle.std.proofs.Common.{◌≡◌, ℕ, ◌+◌, ◌≤◌, ◌++◌, List, [], ◌∷◌, map, length, Option, None, IfSome, sym, ap, ◌∙◌, subst, inl, inr, arith, append_assoc, get_or-set_same, get_or-set_other}
 use Rattle.std.specs.Prelude.{option_map, slice_index_or, slice_set}
 use Rattle.std.proofs.lemmas.Bool.{cases_eq, cases_lt}
@@ -14,7 +14,7 @@ use Rattle.awake_rows.specs.Slots.{Beds, Rows, State, free_row}
 abbrev FitsFrames : Code → Beds → Type 0
 FitsFrames code bs = (k : ℕ) → IfSome (slice_index_or bs k None) (λ (s : State). IsFrameOf code s.state)
 
--- those who are left get up from here as all did at first
+-- waking those that are left gives from here what waking all gave at first
 pub record Waking (code : Code) (clock : ℕ) (rs rs' : Rows) (bs bs' : Beds) (left all : List (ℕ × Reply)) (ns ns' : List ℕ) (len most : ℕ) : Type 0 where
   pub fits : (k : ℕ) → IfSome (slice_index_or bs k None) (λ (s : State). IsFrameOf code s.state)
   pub rows : woken_rows code rs bs clock left ≡ woken_rows code rs' bs' clock all
@@ -49,7 +49,7 @@ next_wakes code clock rs rs' rows bs bs' beds w left all ns ns' numbers len most
       room = omega (arith, had, s);
     }
 
--- one room less is enough for those who are left
+-- one buffer less is enough for those that are left
 pub next_room : {A B : Type 0} (left : List A) (w : A) (rooms new : List B) (room : B) → length (w ∷ left) ≤ length rooms → rooms ≡ new ++ room ∷ [] → length left ≤ length new
 next_room left w rooms new room enough is =
     let one = ap length is ∙ length_push new room in

@@ -39,7 +39,7 @@ module _ (code : Code) (limit : ℕ) (core : CoreValue) (n clock : ℕ) (means :
       ap (λ (o : Option (Row State)). slice_set core.rows n (option_map (λ (row : Row State). free_row (told (code_kind code) row.state later reply)) o)) a.here
       ∙ ap (λ t. slice_set core.rows n (Some (free_row (told (code_kind code) a.row.state t reply)))) (e ∙ ap (λ t. t + 1) (sym a.time))
 
-  -- so it does where another one stands behind the others
+  -- so it does if another one comes after the others
   answered_before : (new : Option (Row State)) (later : ℕ) (reply : Reply) → answered_rows code (core.rows ++ new ∷ []) n later reply ≡ answered later reply ++ new ∷ []
   answered_before new later reply =
       let l = there core.rows n a.row a.here in
@@ -198,7 +198,7 @@ few_woken channels n c means (outcomes.Done reply woken) new does =
 few_woken channels n c means outcomes.Sleeps new does = omega arith
 few_woken channels n c means (outcomes.Panics cause k) new does = omega arith
 
--- whom a request wakes are at most those who are asleep, or one
+-- a request wakes at most the sleeping goroutines, or one
 most_within : (means : Request) (ss : List Sleeper) → most_woken means ss ≤ max (length ss) 1
 most_within (Close None) ss = omega arith
 most_within (Close (Some k)) ss = let few = length-partners k ss in omega (arith, few)

@@ -1,4 +1,4 @@
--- A goroutine of the code starts functions of the code, and asks other than `exhausted` below the limit.
+-- A goroutine of the code starts functions of the code, and below the limit its request is not `exhausted`.
 use Rattle.std.proofs.Common.{◌≡◌, ℕ, ◌+◌, ◌<◌, ◌^◌, Bool, true, false, cond, List, [], ◌∷◌, ◌++◌, length, Option, Some, None, refl, sym, ap, ◌∙◌, subst, arith, inl, inr}
 use Rattle.std.specs.Prelude.{◌==◌, ℤ, Result, Ok, Err, nat_lt, slice_get}
 use Rattle.std.proofs.lemmas.Bool.{cases_lt, eq-eqb}

@@ -40,7 +40,7 @@ pub record CoreValue : Type 0 where
   pub events : ℕ
   pub ending : Option Ending
 
--- each of these sleeps in the state that is kept for it
+-- each of the sleepers is asleep in the state that is kept for it
 abbrev pub LieIn : Beds → List (Bed Frames) → List Sleeper → Type 0
 LieIn beds all [] = Unit {0}
 LieIn beds all (x ∷ xs) = (slice_index_or beds x.number None ≡ in_bed x.number all) × LieIn beds all xs
@@ -56,11 +56,12 @@ pub record IsCoreOf (m : CodeMachine) (core : CoreValue) : Type 0 where
   pub events : core.events ≡ length (shared_of m).events
   pub ending : core.ending ≡ (shared_of m).ending
 
--- none of these numbers is n; each of them stands there once
+-- none of the numbers is n
 abbrev pub Misses : ℕ → List ℕ → Type 0
 Misses n [] = Unit {0}
 Misses n (m ∷ ms) = (m ≢ n) × Misses n ms
 
+-- each number occurs once
 abbrev pub Once : List ℕ → Type 0
 Once [] = Unit {0}
 Once (n ∷ ns) = Misses n ns × Once ns
@@ -89,7 +90,7 @@ opened_core code = record {
   ending = None;
 }
 
--- goroutine n is awake and asks
+-- goroutine n is awake and at a request
 pub record Asks (code : Code) (limit : ℕ) (rows : Rows) (n : ℕ) : Type 0 where
   pub row : Row State
   pub here : slice_index_or rows n None ≡ Some row
@@ -97,11 +98,11 @@ pub record Asks (code : Code) (limit : ℕ) (rows : Rows) (n : ℕ) : Type 0 whe
   pub asks : is_some (asks (code_kind code) limit row.state) ≡ true
   pub unlent : row.lease ≡ None
 
--- after so many events, what goroutine n's request means: a return of goroutine 1 is an exit, and event number 2^62 is exhausted
+-- after `events` events, what goroutine n's request means: a return of goroutine 1 is an exit, and event number 2^62 is exhausted
 abbrev pub meant_after : ℕ → ℕ → Request → Request
 meant_after events n q = cond (events + 1 == 2 ^ 62) Exhausted (asked n q)
 
--- goroutine n stands at this clock, and what it asks means this request
+-- goroutine n has this clock, and its request means `means`
 pub record IsAsked (code : Code) (limit : ℕ) (core : CoreValue) (n clock : ℕ) (means : Request) : Type 0 where
   pub row : Row State
   pub what : Request
@@ -118,7 +119,7 @@ abbrev pub IsGo : Request → Type 0
 IsGo (Go f args) = Unit {0}
 IsGo q = ⊥
 
--- what comes of a request that ends the run so
+-- the outcome of a request that ends the run so
 abbrev pub ended_as : Ending → EventOutcome
 ended_as (Panicked cause) = Panics cause 0
 ended_as end = Done Nothing
@@ -130,7 +131,7 @@ IsLast Exhausted o e = (o ≡ Done Nothing) × (e ≡ RanOut)
 IsLast (Panic cause) o e = (o ≡ Panics cause 0) × (e ≡ Panicked cause)
 IsLast q o e = ⊥
 
--- what stands in a place for an event before there was one
+-- the contents of an event's place before there was an event
 abbrev pub no_event : Event
 no_event = record { clock = 0; number = 0; request = End; outcome = Sleeps; partners = [] }
 
@@ -165,7 +166,7 @@ pub record IsPerformed (code : Code) (limit : ℕ) (m : CodeMachine) (n : ℕ) (
   pub events : (shared_of (perform_row (rules (code_kind code) limit) m n (slice_index_or m.rows n None))).events ≡ (shared_of m).events ++ event_of event ∷ []
   pub output : (shared_of (perform_row (rules (code_kind code) limit) m n (slice_index_or m.rows n None))).output ≡ (shared_of m).output ++ bytes
 
--- so it is in each world of which this is the core
+-- so it is in each world with this core
 abbrev pub Performs : Code → ℕ → CoreValue → ℕ → Recorded → List ℕ → CoreValue → Type 0
 Performs code limit old n event bytes new = (m : CodeMachine) → IsCoreOf m old → IsPerformed code limit m n event bytes new
 
@@ -175,7 +176,7 @@ Performs code limit old n event bytes new = (m : CodeMachine) → IsCoreOf m old
 abbrev pub to_lend : CoreValue → Option Key
 to_lend core = cond (is_some core.ending) None (least (keys free_clock 0 core.rows))
 
--- the first to lend has made local steps where it stands; what it answers is whether it then asks, or nothing where memory is wanting
+-- the goroutine to lend next has made local steps; `answer` is whether it is then at a request, or None if out of memory
 pub record Works (code : Code) (limit quantum : ℕ) (old : CoreValue) (answer : Option Bool) (new : CoreValue) : Type 0 where
   pub key : Key
   pub first : to_lend old ≡ Some key
@@ -200,38 +201,38 @@ pub record HasTurn (core : CoreValue) (n : ℕ) : Type 0 where
 
 -- ---- what a deed leaves
 
--- the beds without those who get up
+-- the beds without those of the goroutines that are woken
 abbrev pub left_beds : Beds → List (ℕ × Reply) → Beds
 left_beds beds [] = beds
 left_beds beds (w ∷ ws) = left_beds (slice_set beds w.0 None) ws
 
--- goroutine n's bed, where it falls asleep in this state
+-- goroutine n's bed, if it falls asleep in this state
 abbrev pub actor_beds : Beds → ℕ → State → Fate → Beds
 actor_beds beds n s Dozes = slice_set beds n (Some s)
 actor_beds beds n s (GoesOn reply) = beds
 actor_beds beds n s Leaves = beds
 actor_beds beds n s Stays = beds
 
--- an empty place for each that is started
+-- an empty place for each started goroutine
 abbrev pub new_places : {A : Type 0} → List (Option A) → List (ℕ × List Word) → List (Option A)
 new_places places [] = places
 new_places places (x ∷ xs) = new_places (places ++ None ∷ []) xs
 
 module _ (code : Code) where
-  -- those who are woken are told so at this clock, and get up
+  -- the woken goroutines get their replies at this clock, and are awake
   abbrev pub woken_rows : Rows → Beds → ℕ → List (ℕ × Reply) → Rows
   woken_rows rows beds clock [] = rows
   woken_rows rows beds clock (w ∷ ws) =
       woken_rows (slice_set rows w.0 (option_map (λ (s : State). free_row (told (code_kind code) s clock w.1)) (slice_index_or beds w.0 None))) (slice_set beds w.0 None) clock ws
 
-  -- where the actor is then
+  -- where the acting goroutine is afterwards
   abbrev pub actor_row : State → ℕ → Fate → Option (Row State)
   actor_row s clock (GoesOn reply) = Some (free_row (told (code_kind code) s clock reply))
   actor_row s clock Dozes = None
   actor_row s clock Leaves = None
   actor_row s clock Stays = Some (free_row s)
 
-  -- those who are started
+  -- the started goroutines
   abbrev pub new_rows : Rows → ℕ → List (ℕ × List Word) → Rows
   new_rows rows clock [] = rows
   new_rows rows clock (x ∷ xs) = new_rows (rows ++ Some (free_row (at clock (code_begin code x.0 x.1))) ∷ []) clock xs

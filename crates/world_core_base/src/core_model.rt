@@ -65,7 +65,7 @@ impl Core {
         self.situation.events
     }
 
-    /// The end of the run, where an event ended it.
+    /// The end of the run, if an event ended it.
     #[inline(always)]
     pub fn ending(&self) -> Option<End>
         ensures { result ≡ self.now.ending }
@@ -81,7 +81,7 @@ impl Core {
         self.situation.goroutines.count()
     }
 
-    /// The parked goroutine of least key. A goroutine's number is its place in the rows.
+    /// The parked goroutine of least key. A goroutine's number is its index in the rows.
     #[tactic(auto, using(awake_rows::proofs::Found::waiting_found))]
     #[inline(always)]
     pub fn least_parked(&self) -> Option<Key>
@@ -91,7 +91,7 @@ impl Core {
         self.situation.goroutines.least_among(Among::Parked)
     }
 
-    /// Who stands before the key: an awake goroutine whose floor the key is not below. None where the key has the turn.
+    /// The goroutine before the key: an awake one whose floor the key is not below. `None` if the key has the turn.
     #[inline(always)]
     pub fn blocker(&self, key: Key) -> Option<u64>
         ensures { MatchOption result (has_turn key 0 self.now.rows ≡ true) (λ n. (has_turn key 0 self.now.rows ≡ false) × IsBefore self.now.rows key n) }
@@ -113,9 +113,8 @@ impl Core {
         self.situation.channels.asleep().max(1)
     }
 
-    /// Performs the request of goroutine `number`, which is awake and asks: writes the event to
-    /// its place, and appends to the output what it prints. Without the memory that it needs it changes nothing but what
-    /// stands in that place, which is of no account then.
+    /// Performs the request of goroutine `number`, which is awake and at a request: writes the event to `event`, and appends to `output`
+    /// what it prints. If it is out of memory it changes nothing but `event`, whose contents are then unspecified.
     #[inline(always)]
     pub fn perform(
         &mut self,
@@ -150,10 +149,10 @@ impl Core {
         self.situation.lend_least()
     }
 
-    /// The one that would be lent makes at most `quantum` local steps where it stands, up to a request, and is parked if it then
-    /// asks. Answers whether it does; none where there is nobody to lend.
+    /// Makes at most `quantum` local steps of the goroutine that would be lent next, up to a request, and parks it if it is then at one.
+    /// Returns whether it is; `None` if there is no goroutine to lend.
     ///
-    /// Errors: want of memory, when some of the steps may be made.
+    /// Errors: out of memory, when some of the steps may be made.
     #[inline(always)]
     pub fn work_least(
         &mut self,

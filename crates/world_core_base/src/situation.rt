@@ -1,4 +1,4 @@
-//! Where a run stands, and the requests that are performed there.
+//! The state of a run, and the requests that are performed on it.
 
 ghost use Rattle.std.specs.Prelude.{◌≡◌, ℕ, ◌+◌, ◌-◌, ◌<◌, ◌≤◌, ◌^◌, [], ◌∷◌, ◌++◌, IfNone, IfOk, IfSome, IsSome, OnErr, OnOk, None, Some, length, map, option_map, slice_index_or, slice_set, vec_capacity, vec_len};
 ghost use Rattle.bytecode.specs.Machine.{code_begin, code_kind};
@@ -27,7 +27,7 @@ use word::end::End;
 use word::panic::Panic;
 use word::request::{Event, EventOutcome, Reply, Request};
 
-/// Where a run stands: who is awake or asleep and in which state, the channels, and the end.
+/// The state of a run: the goroutines awake and asleep and their states, the channels, and the ending.
 pub(crate) struct Situation {
     /// The goroutines that are awake or asleep. None has the number 0.
     pub goroutines: Goroutines,
@@ -108,10 +108,10 @@ impl Situation {
         Some((key.number, state))
     }
 
-    /// The one that would be lent makes at most `quantum` local steps where it stands, up to a request, and is parked if it then
-    /// asks. Answers whether it does; none where there is nobody to lend.
+    /// Makes at most `quantum` local steps of the goroutine that would be lent next, up to a request, and parks it if it is then at one.
+    /// Returns whether it is; `None` if there is no goroutine to lend.
     ///
-    /// Errors: want of memory, when some of the steps may be made.
+    /// Errors: out of memory, when some of the steps may be made.
     pub fn work_least(
         &mut self,
         alloc: Global,
@@ -136,9 +136,8 @@ impl Situation {
         Ok(Some(asking))
     }
 
-    /// Performs the request of goroutine `number`, which is awake and asks: writes the event to
-    /// its place, and appends to the output what it prints. Without the memory that it needs it changes nothing but what
-    /// stands in that place, which is of no account then.
+    /// Performs the request of goroutine `number`, which is awake and at a request: writes the event to `event`, and appends to `output`
+    /// what it prints. If it is out of memory it changes nothing but `event`, whose contents are then unspecified.
     pub fn perform(
         &mut self,
         alloc: Global,
@@ -189,8 +188,8 @@ impl Situation {
         }
     }
 
-    /// The clock of goroutine `number`. What its request means is written to its place: a return of goroutine 1 is an exit,
-    /// and event number 2^62 of a run is `Exhausted`.
+    /// The clock of goroutine `number`. What its request means is written to `request`: a return of goroutine 1 is an exit, and event
+    /// number 2^62 of a run is `Exhausted`.
     fn asked(
         &self,
         lists: &mut RequestLists,
@@ -379,7 +378,7 @@ impl Situation {
 }
 
 impl Situation {
-    /// Goroutine `number`'s request is done: it goes on with this reply, at this clock.
+    /// Completes the request of goroutine `number`: it continues with this reply, at this clock.
     #[inline(always)]
     fn go_on(&mut self, code: &Verified, number: u64, reply: &Reply, later: Clock)
         requires frame { IfSome (slice_index_or self.old.rows number None) (λ row. IsFrameOf code.now row.state.state) }
@@ -406,7 +405,7 @@ impl Situation {
         self.ending = Some(end);
     }
 
-    /// Goroutine `number` is no more. Returns its state, in whose room another one may start.
+    /// Ends goroutine `number`. Returns its state, whose memory another one may reuse.
     fn take_out(&mut self, number: u64) -> Option<GoState>
         requires { self.old.events < 2 ^ 62 }
         ensures { self.new ≡ record self.old { rows = slice_set self.old.rows number None; live = self.old.live - 1; events = self.old.events + 1 } }
@@ -445,7 +444,7 @@ impl Situation {
         select_core::meet(&mut self.channels, actor, request, outcome, woken)
     }
 
-    /// Goroutine `number` falls asleep, and leaves its room.
+    /// Goroutine `number` falls asleep, and leaves its buffer to `rooms`.
     fn fall_asleep(&mut self, number: u64, rooms: &mut Vec<Room>)
         requires events { self.old.events < 2 ^ 62 }
         requires awake { IsSome (slice_index_or self.old.rows number None) }
@@ -461,8 +460,8 @@ impl Situation {
         self.events += 1;
     }
 
-    /// Those who are woken get up with their replies, at this clock, each in one of the rooms; their numbers are put behind the
-    /// others.
+    /// Wakes the goroutines of `spare.woken` with their replies, at this clock, each with a buffer of `spare.rooms`, and appends their
+    /// numbers to `partners`.
     fn wake_all(
         &mut self,
         code: &Verified,
@@ -500,7 +499,7 @@ fn first_goroutine(alloc: Global, code: &Verified) -> Result<Goroutines, Memory>
     Ok(goroutines)
 }
 
-/// What comes of the request that ends the run so.
+/// The outcome of the request that ends the run so.
 fn outcome_at(end: End) -> EventOutcome
     ensures { outcome_of result ≡ ended_as end }
 {

@@ -1,4 +1,4 @@
-//! What goroutines and events leave to those behind them.
+//! Memory of earlier goroutines and events, for later ones.
 
 ghost use Rattle.std.specs.Prelude.{◌≡◌, ◌<◌, ◌≤◌, IfOk, OnOk, length};
 ghost use Rattle.bytecode.specs.Machine.{code_begin};
@@ -13,18 +13,18 @@ use std::alloc::Global;
 use verifier::Verified;
 use word::value::Word;
 
-/// How many rooms of those who fell asleep are kept for those who get up, and how many of those who ended for those who start.
+/// How many buffers of goroutines that fell asleep are kept, and how many states of goroutines that ended.
 pub(crate) const MOST_SPARE: usize = 64;
 
-/// What goroutines and events leave to those behind them. Contracts don't see it.
+/// Memory of earlier goroutines and events, for later ones. Contracts don't mention it.
 pub(crate) struct Spare {
-    /// Rooms of those who fell asleep, for those who get up.
+    /// Buffers of goroutines that fell asleep, for those that wake up.
     pub rooms: Vec<Room>,
-    /// States of those who ended, in whose room others start.
+    /// States of goroutines that ended, whose memory new ones reuse.
     pub states: Vec<GoState>,
-    /// Where an event lists whom it wakes.
+    /// Where an event lists the goroutines that it wakes.
     pub woken: Vec<Woken>,
-    /// Lists of requests that were performed, for those that come.
+    /// Lists of performed requests, for later requests.
     pub lists: RequestLists,
 }
 
@@ -44,7 +44,7 @@ impl Drop for Spare {
 }
 
 impl Spare {
-    /// No rooms.
+    /// Nothing kept.
     pub fn none(alloc: Global) -> Spare {
         Spare {
             rooms: Vec::new(alloc),
@@ -55,7 +55,7 @@ impl Spare {
     }
 }
 
-/// Makes sure that there are so many rooms.
+/// Makes sure that there are at least `count` buffers.
 pub(crate) fn make_rooms(alloc: Global, rooms: &mut Vec<Room>, count: usize) -> Result<(), Memory>
     ensures { OnOk result (count ≤ length rooms.new.items) }
 {
@@ -65,8 +65,8 @@ pub(crate) fn make_rooms(alloc: Global, rooms: &mut Vec<Room>, count: usize) -> 
     Ok(())
 }
 
-/// A goroutine at the first instruction of a function, whose parameters are these words, in the room of one that has ended, if there
-/// is any.
+/// A goroutine at the first instruction of a function, with these words as parameters. It reuses the memory of one that has ended, if
+/// there is any.
 pub(crate) fn begin_state(
     alloc: Global,
     code: &Verified,
@@ -86,7 +86,7 @@ pub(crate) fn begin_state(
     Ok(state)
 }
 
-/// One that has ended leaves its room, unless there are enough.
+/// Keeps the memory of a goroutine that ended, unless there is enough.
 pub(crate) fn keep_state(states: &mut Vec<GoState>, ended: Option<GoState>) {
     let Some(mut state) = ended else {
         return;

@@ -14,8 +14,7 @@ use goroutine_vm::Room;
 use logical_clock::Clock;
 use verifier::Verified;
 
-/// Those who are woken get up with their replies, at this clock, each in one of these rooms; their numbers are put behind the
-/// others.
+/// Wakes these goroutines with their replies, at this clock, each with one of these buffers, and appends their numbers to the list.
 #[inline(always)]
 pub(crate) fn wake(
     goroutines: &mut Goroutines,
@@ -42,7 +41,7 @@ pub(crate) fn wake(
     }
 }
 
-/// A goroutine that is awake falls asleep in its state, and leaves its room for one who gets up.
+/// Puts an awake goroutine to sleep in its state, and keeps its buffer for one that wakes up.
 #[inline(always)]
 pub(crate) fn doze(goroutines: &mut Goroutines, rooms: &mut Vec<Room>, number: u64)
     requires awake { IsSome (slice_index_or goroutines.old.rows number None) }

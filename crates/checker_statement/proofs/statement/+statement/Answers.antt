@@ -348,7 +348,7 @@ statement-returns-in_ok-return_statement-in-Return-clause-after t c = rw (return
 pub statement-returns-in_ok-return_statement-in-Return-clause-none : goal.statement-returns-in_ok-return_statement-in-Return-clause-none
 statement-returns-in_ok-return_statement-in-Return-clause-none t c = rw (return_is _ _ c.in-Return.is) c.in_ok-return_statement-in-Return.ensures.none
 
--- ---- what stands behind the block of an if
+-- ---- what comes after the block of an if
 
 pub otherwise-returns-in-Nothing-clause-end : goal.otherwise-returns-in-Nothing-clause-end
 otherwise-returns-in-Nothing-clause-end t c = rw (nothing_is _ c.in-Nothing.is) (omega arith)

@@ -4,7 +4,7 @@ use Rattle.type_table.specs.Views.{field_in, Fits}
 use Rattle.type_table.specs.Visible.{types_of, globals_in}
 use Rattle.type_table.proofs.layout.field_among.Given as goal
 
--- what is left of the fields lies behind those that were passed
+-- what is left of the fields follows those that were passed
 abbrev pub invariant-loop-field : goal.invariant-loop-field
 invariant-loop-field l = record {
   found : option_map (behind l.place) (field_among (globals_in l.table).structs (map (field_in (types_of l.table)) (drop l.field-index l.fields)) l.name)

@@ -4,7 +4,7 @@ use Rattle.bytecode.specs.Machine.{Frames, begun, goes_on}
 use Rattle.goroutine_vm_base.proofs.Stacks.{entered_view, last_is, last_of, on_err, some_called, some_deep, written_some, written_view, written_within}
 use Rattle.goroutine_vm_base.proofs.call_stack.CallStack.enter.Goals as goal
 
--- the frames with one that is kept behind them are the same call stack
+-- the frames with a kept one after them are the same call stack
 stands : (c : goal.After-as_mut_slice) → reverse (take c.self.inside.depth c.as_mut_slice.result.now) ≡ c.args.self.now
 stands c = ap (λ (l : Frames). reverse (take c.self.inside.depth l)) c.as_mut_slice.ensures.value ∙ ap reverse c.in_ok-keep_one.ensures.same ∙ c.self.view_is
 
