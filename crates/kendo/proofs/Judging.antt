@@ -7,11 +7,14 @@ use Rattle.exploration.specs.declared.findings.Verdict.{Verdict}
 use Rattle.exploration.specs.declared.findings.Verdict.TheVariants.{Other, Same, SameSoFar}
 use Rattle.go_text.specs.declared.fault.Fault.{Fault}
 use Rattle.go_text.specs.declared.fault.Fault.TheVariants as faults
-use Rattle.kendo.specs.Verdicts.{compared_status, explored_status, FindsPlainly, IsAgainst, IsExplored, IsJudged, IsSaid, IsTested, IsTracedAs, Judges, Says, tested_status}
+use Rattle.kendo.specs.Verdicts.{compared_status, Compares, exploration_status, explored_status, Explores, FindsPlainly, IsAgainst, IsAgainstIfAny, IsExplored, IsJudged, IsSaid, IsTested, IsTracedAs, Judges, Says, SaysIfAny, test_status, tested_status, Tests}
 use Rattle.kendo_compare.specs.Comparing.{IsCompared}
 use Rattle.kendo_report.specs.Outcome.{report_status}
-use Rattle.kendo_shell.proofs.Findings.{explored as of_verdict, told}
-use Rattle.kendo_shell.specs.Answers.{Finds, IsReason, IsStatusOf, Tells}
+use Rattle.clap.specs.Words.{Text}
+use Rattle.kendo_shell.proofs.Findings.{explored as of_verdict, told, told_status}
+use Rattle.kendo_shell.proofs.Obeying.{obeyed}
+use Rattle.kendo_shell.specs.Answers.{Finds, IsReason, IsStatus, IsStatusOf, Obeys, Tells}
+use Rattle.pauses.specs.Plans.{Pause}
 use Rattle.word.specs.declared.end.End.{End}
 use Rattle.word.specs.declared.end.End.TheVariants.{Finished}
 
@@ -28,7 +31,7 @@ finds_reason (subcommands.Inspect limit) text fault why = why
 finds_reason (subcommands.Paused limit) text fault why = why
 finds_reason (subcommands.Run workers limit) text fault why = why
 
-pub refused : (invocation : Invocation) (text : List ℕ) (fault : Fault) (status : ℕ) → IsReason invocation.subcommand text fault → status ≡ report_status (Err fault)
+refused : (invocation : Invocation) (text : List ℕ) (fault : Fault) (status : ℕ) → IsReason invocation.subcommand text fault → status ≡ report_status (Err fault)
     → IsJudged invocation text status
 refused invocation text fault status why is = (Err fault, finds_reason invocation.subcommand text fault why, is)
 
@@ -47,11 +50,16 @@ explored_in (subcommands.Inspect limit) against strict whole text verdict status
 explored_in (subcommands.Paused limit) against strict whole text verdict status shown is = absurd shown
 explored_in (subcommands.Run workers limit) against strict whole text verdict status shown is = absurd shown
 
-pub explored : (invocation : Invocation) (text : List ℕ) (verdict : Verdict) (status : ℕ) → IsExplored invocation.subcommand text verdict
+explored : (invocation : Invocation) (text : List ℕ) (verdict : Verdict) (status : ℕ) → IsExplored invocation.subcommand text verdict
     → status ≡ explored_status verdict invocation.whole → IsJudged invocation text status
 explored invocation text verdict status shown is =
     let both = explored_in invocation.subcommand invocation.against invocation.strict invocation.whole text verdict status shown is in
     (Ok Finished, both.0, both.1)
+
+pub explored_or_not : (invocation : Invocation) (text : List ℕ) (found : Result Verdict Fault) (status : ℕ) → Explores invocation.subcommand text found
+    → status ≡ exploration_status found invocation.whole → IsJudged invocation text status
+explored_or_not invocation text (Ok verdict) status shown is = explored invocation text verdict status shown is
+explored_or_not invocation text (Err fault) status why is = refused invocation text fault status why is
 
 tested_in : {T : Type 0} (s : Subcommand) (against : Option T) (strict whole : Bool) (text : List ℕ) (passed : Bool) (status : ℕ) → IsTested s text passed
     → status ≡ tested_status passed → Finds s text (Ok Finished) × Says s against strict whole text Finished status
@@ -65,32 +73,62 @@ tested_in (subcommands.Inspect limit) against strict whole text passed status sh
 tested_in (subcommands.Paused limit) against strict whole text passed status shown is = absurd shown
 tested_in (subcommands.Run workers limit) against strict whole text passed status shown is = absurd shown
 
-pub tested : (invocation : Invocation) (text : List ℕ) (passed : Bool) (status : ℕ) → IsTested invocation.subcommand text passed → status ≡ tested_status passed
+tested : (invocation : Invocation) (text : List ℕ) (passed : Bool) (status : ℕ) → IsTested invocation.subcommand text passed → status ≡ tested_status passed
     → IsJudged invocation text status
 tested invocation text passed status shown is =
     let both = tested_in invocation.subcommand invocation.against invocation.strict invocation.whole text passed status shown is in
     (Ok Finished, both.0, both.1)
 
-against_in : {T : Type 0} (s : Subcommand) (against : Option T) (path : T) (strict whole : Bool) (text : List ℕ) (end : End) (status : ℕ) → against ≡ Some path
-    → IsAgainst s strict text end status → Says s against strict whole text end status
-against_in (subcommands.Run workers limit) against path strict whole text end status is says =
-    subst (λ a. Says (subcommands.Run workers limit) a strict whole text end status) (sym is) says
-against_in (subcommands.Paused limit) against path strict whole text end status is says =
-    subst (λ a. Says (subcommands.Paused limit) a strict whole text end status) (sym is) says
-against_in subcommands.Check against path strict whole text end status is (lines, recorded, same, traced, as_said, told_so) = absurd traced
-against_in subcommands.List against path strict whole text end status is (lines, recorded, same, traced, as_said, told_so) = absurd traced
-against_in (subcommands.Reference limit) against path strict whole text end status is (lines, recorded, same, traced, as_said, told_so) = absurd traced
-against_in (subcommands.Timeline limit) against path strict whole text end status is (lines, recorded, same, traced, as_said, told_so) = absurd traced
-against_in (subcommands.Explore limit tries states) against path strict whole text end status is (lines, recorded, same, traced, as_said, told_so) = absurd traced
-against_in (subcommands.Test limit tries states) against path strict whole text end status is (lines, recorded, same, traced, as_said, told_so) = absurd traced
-against_in (subcommands.Inspect limit) against path strict whole text end status is (lines, recorded, same, traced, as_said, told_so) = absurd traced
+pub tested_or_not : (invocation : Invocation) (text : List ℕ) (found : Result Bool Fault) (status : ℕ) → Tests invocation.subcommand text found → status ≡ test_status found
+    → IsJudged invocation text status
+tested_or_not invocation text (Ok passed) status shown is = tested invocation text passed status shown is
+tested_or_not invocation text (Err fault) status why is = refused invocation text fault status why is
+
+against_in : {T : Type 0} (s : Subcommand) (against : Option T) (path : T) (strict whole : Bool) (pauses : List Pause) (recorded text : List ℕ) (end : End) (status : ℕ)
+    → against ≡ Some path → IsAgainst s pauses strict recorded text end status → Says s against strict whole text end status
+against_in (subcommands.Run workers limit) against path strict whole pauses recorded text end status is says =
+    subst (λ a. Says (subcommands.Run workers limit) a strict whole text end status) (sym is) (pauses, recorded, says)
+against_in (subcommands.Paused limit) against path strict whole pauses recorded text end status is says =
+    subst (λ a. Says (subcommands.Paused limit) a strict whole text end status) (sym is) (pauses, recorded, says)
+against_in subcommands.Check against path strict whole pauses recorded text end status is (lines, same, traced, as_said, status_is) = absurd traced
+against_in subcommands.List against path strict whole pauses recorded text end status is (lines, same, traced, as_said, status_is) = absurd traced
+against_in (subcommands.Reference limit) against path strict whole pauses recorded text end status is (lines, same, traced, as_said, status_is) = absurd traced
+against_in (subcommands.Timeline limit) against path strict whole pauses recorded text end status is (lines, same, traced, as_said, status_is) = absurd traced
+against_in (subcommands.Explore limit tries states) against path strict whole pauses recorded text end status is (lines, same, traced, as_said, status_is) = absurd traced
+against_in (subcommands.Test limit tries states) against path strict whole pauses recorded text end status is (lines, same, traced, as_said, status_is) = absurd traced
+against_in (subcommands.Inspect limit) against path strict whole pauses recorded text end status is (lines, same, traced, as_said, status_is) = absurd traced
 
 -- a run that ended was compared with a trace
-pub compared : {T : Type 0} (s : Subcommand) (against : Option T) (path : T) (strict whole : Bool) (text lines recorded : List ℕ) (end : End) (is_same : Bool) (report status : ℕ)
-    → against ≡ Some path → IsTracedAs s text lines end → IsCompared strict recorded lines is_same → report ≡ report_status (Ok end) → status ≡ compared_status is_same report
-    → Says s against strict whole text end status
-compared s against path strict whole text lines recorded end is_same report status path_is traced same_or_not reported is =
-    against_in s against path strict whole text end status path_is (lines, recorded, is_same, traced, same_or_not, is ∙ ap (compared_status is_same) reported)
+pub compared : (invocation : Invocation) (pauses : List Pause) (text lines recorded : List ℕ) (outcome : Result End Fault) (end : End) (strict is_same : Bool) (report status : ℕ)
+    → outcome ≡ Ok end → strict ≡ invocation.strict → Finds invocation.subcommand text outcome → IfOk outcome (IsTracedAs invocation.subcommand pauses text lines)
+    → IsCompared strict recorded lines is_same → report ≡ report_status outcome → status ≡ compared_status is_same report → Compares invocation pauses recorded text status
+compared invocation pauses text lines recorded outcome end strict is_same report status is is_strict finds traced same_or_not reported status_is = (
+  Ok end,
+  subst (Finds invocation.subcommand text) is finds,
+  lines,
+  is_same,
+  subst (λ (o : Result End Fault). IfOk o (IsTracedAs invocation.subcommand pauses text lines)) is traced,
+  subst (λ b. IsCompared b recorded lines is_same) is_strict same_or_not,
+  status_is ∙ ap (compared_status is_same) (reported ∙ ap report_status is),
+)
+
+-- one that did not was not
+pub uncompared : (invocation : Invocation) (pauses : List Pause) (text recorded : List ℕ) (outcome : Result End Fault) (fault : Fault) (status : ℕ) → outcome ≡ Err fault
+    → Finds invocation.subcommand text outcome → status ≡ report_status outcome → Compares invocation pauses recorded text status
+uncompared invocation pauses text recorded outcome fault status is finds status_is =
+    (Err fault, subst (Finds invocation.subcommand text) is finds, status_is ∙ ap report_status is)
+
+said_in : {T : Type 0} (s : Subcommand) (against : Option T) (path : T) (strict whole : Bool) (pauses : List Pause) (recorded text : List ℕ) (outcome : Result End Fault) (status : ℕ)
+    → against ≡ Some path → IsAgainstIfAny s pauses strict recorded text outcome status → SaysIfAny s against strict whole text outcome status
+said_in s against path strict whole pauses recorded text (Ok end) status is says = against_in s against path strict whole pauses recorded text end status is says
+said_in s against path strict whole pauses recorded text (Err fault) status is says = says
+
+-- the status of a run that is compared is that of the invocation
+pub against_trace : {T : Type 0} (s : Subcommand) (against : Option T) (path : T) (strict whole : Bool) (pauses : List Pause) (recorded text : List ℕ) (status : ℕ) → against ≡ Some path
+    → (outcome : Result End Fault) × Finds s text outcome × IsAgainstIfAny s pauses strict recorded text outcome status
+    → (outcome : Result End Fault) × Finds s text outcome × SaysIfAny s against strict whole text outcome status
+against_trace s against path strict whole pauses recorded text status is (outcome, finds, says) =
+    (outcome, finds, said_in s against path strict whole pauses recorded text outcome status is says)
 
 -- ---- a command that neither explores nor tests, nor compares its run
 
@@ -172,19 +210,19 @@ verdict_in (subcommands.Timeline limit) None strict whole text end status finds 
 verdict_in (subcommands.Inspect limit) None strict whole text end status finds is = told (subcommands.Inspect limit) text (Ok end) status finds is
 verdict_in (subcommands.Paused limit) None strict whole text end status finds is = told (subcommands.Paused limit) text (Ok end) status finds is
 verdict_in (subcommands.Run workers limit) None strict whole text end status finds is = told (subcommands.Run workers limit) text (Ok end) status finds is
-verdict_in (subcommands.Paused limit) (Some path) strict whole text end status finds (lines, recorded, true, traced, as_said, is) =
+verdict_in (subcommands.Paused limit) (Some path) strict whole text end status finds (pauses, recorded, lines, true, traced, as_said, is) =
     told (subcommands.Paused limit) text (Ok end) status finds is
-verdict_in (subcommands.Paused limit) (Some path) strict whole text end status finds (lines, recorded, false, traced, as_said, is) =
+verdict_in (subcommands.Paused limit) (Some path) strict whole text end status finds (pauses, recorded, lines, false, traced, as_said, is) =
     of_verdict (subcommands.Paused limit) text (Ok end) _ status finds refl (inr is)
-verdict_in (subcommands.Run workers limit) (Some path) strict whole text end status finds (lines, recorded, true, traced, as_said, is) =
+verdict_in (subcommands.Run workers limit) (Some path) strict whole text end status finds (pauses, recorded, lines, true, traced, as_said, is) =
     told (subcommands.Run workers limit) text (Ok end) status finds is
-verdict_in (subcommands.Run workers limit) (Some path) strict whole text end status finds (lines, recorded, false, traced, as_said, is) =
+verdict_in (subcommands.Run workers limit) (Some path) strict whole text end status finds (pauses, recorded, lines, false, traced, as_said, is) =
     of_verdict (subcommands.Run workers limit) text (Ok end) _ status finds refl (inr is)
-verdict_in subcommands.Check (Some path) strict whole text end status finds (lines, recorded, same, traced, as_said, told_so) = absurd traced
-verdict_in subcommands.List (Some path) strict whole text end status finds (lines, recorded, same, traced, as_said, told_so) = absurd traced
-verdict_in (subcommands.Reference limit) (Some path) strict whole text end status finds (lines, recorded, same, traced, as_said, told_so) = absurd traced
-verdict_in (subcommands.Timeline limit) (Some path) strict whole text end status finds (lines, recorded, same, traced, as_said, told_so) = absurd traced
-verdict_in (subcommands.Inspect limit) (Some path) strict whole text end status finds (lines, recorded, same, traced, as_said, told_so) = absurd traced
+verdict_in subcommands.Check (Some path) strict whole text end status finds (pauses, recorded, lines, same, traced, as_said, told_so) = absurd traced
+verdict_in subcommands.List (Some path) strict whole text end status finds (pauses, recorded, lines, same, traced, as_said, told_so) = absurd traced
+verdict_in (subcommands.Reference limit) (Some path) strict whole text end status finds (pauses, recorded, lines, same, traced, as_said, told_so) = absurd traced
+verdict_in (subcommands.Timeline limit) (Some path) strict whole text end status finds (pauses, recorded, lines, same, traced, as_said, told_so) = absurd traced
+verdict_in (subcommands.Inspect limit) (Some path) strict whole text end status finds (pauses, recorded, lines, same, traced, as_said, told_so) = absurd traced
 
 status_in : (invocation : Invocation) (text : List ℕ) (outcome : Result End Fault) (status : ℕ) → Finds invocation.subcommand text outcome → IsSaid invocation text outcome status
     → IsStatusOf invocation.subcommand text status
@@ -192,6 +230,10 @@ status_in invocation text (Ok end) status finds is = verdict_in invocation.subco
 status_in invocation text (Err fault) status finds is = told invocation.subcommand text (Err fault) status finds is
 
 -- what the status says of some program is the status of some program
-pub tells : (invocation : Invocation) (status : ℕ) → (status ≡ 64) ⊎ Judges invocation status → (status ≡ 64) ⊎ Tells invocation.subcommand status
+tells : (invocation : Invocation) (status : ℕ) → (status ≡ 64) ⊎ Judges invocation status → (status ≡ 64) ⊎ Tells invocation.subcommand status
 tells invocation status (inl is) = inl is
 tells invocation status (inr (text, (outcome, finds, is))) = inr (text, status_in invocation text outcome status finds is)
+
+pub judged_status : (words : List Text) (status : ℕ) → Obeys Judges words status → IsStatus status
+judged_status words status obeys =
+    obeyed {Reports = Judges} words status (λ invocation judges. told_status invocation.subcommand status (tells invocation status judges)) obeys

@@ -41,6 +41,11 @@ explored_status Same whole = 0
 explored_status SameSoFar true = 9
 explored_status SameSoFar false = 0
 
+-- that of its outcome
+abbrev pub exploration_status : Result Verdict Fault → (whole : Bool) → ℕ
+exploration_status (Ok verdict) whole = explored_status verdict whole
+exploration_status (Err fault) whole = report_status (Err fault)
+
 -- ---- tests
 
 abbrev pub passes : TestVerdict → Bool
@@ -62,24 +67,40 @@ abbrev pub tested_status : (passed : Bool) → ℕ
 tested_status true = 0
 tested_status false = 1
 
+-- the status of the outcome of a test
+abbrev pub test_status : Result Bool Fault → ℕ
+test_status (Ok passed) = tested_status passed
+test_status (Err fault) = report_status (Err fault)
+
 -- ---- runs that are compared with a trace
 
--- the run of the text, which ends so, has this trace
-abbrev pub IsTracedAs : Subcommand → (text : List ℕ) → (lines : List ℕ) → End → Type 0
-IsTracedAs (subcommands.Run workers limit) text lines end = IsTraced text limit lines end
-IsTracedAs (subcommands.Paused limit) text lines end = (pauses : List Pause) × IsTracedBy pauses text limit lines end
-IsTracedAs subcommand text lines end = ⊥
+-- the run of the text, by these pauses if the command names a plan, ends so and has this trace
+abbrev pub IsTracedAs : Subcommand → List Pause → (text lines : List ℕ) → End → Type 0
+IsTracedAs (subcommands.Run workers limit) pauses text lines end = IsTraced text limit lines end
+IsTracedAs (subcommands.Paused limit) pauses text lines end = IsTracedBy pauses text limit lines end
+IsTracedAs subcommand pauses text lines end = ⊥
 
 -- the status of a run that is compared, which is `status` if it is the recorded one
 abbrev pub compared_status : (is_same : Bool) → (status : ℕ) → ℕ
 compared_status true status = status
 compared_status false status = 8
 
--- the status says whether the run of the text is the one of some recorded trace, byte by byte or goroutine by goroutine
-abbrev pub IsAgainst : Subcommand → (strict : Bool) → (text : List ℕ) → End → (status : ℕ) → Type 0
-IsAgainst subcommand strict text end status =
-    (lines : List ℕ) × (recorded : List ℕ) × (is_same : Bool) × IsTracedAs subcommand text lines end × IsCompared strict recorded lines is_same
+-- the status says whether the run of the text, which ends so, is the recorded one, byte by byte or goroutine by goroutine
+abbrev pub IsAgainst : Subcommand → List Pause → (strict : Bool) → (recorded text : List ℕ) → End → (status : ℕ) → Type 0
+IsAgainst subcommand pauses strict recorded text end status =
+    (lines : List ℕ) × (is_same : Bool) × IsTracedAs subcommand pauses text lines end × IsCompared strict recorded lines is_same
     × (status ≡ compared_status is_same (report_status (Ok end)))
+
+-- or why it does not end
+abbrev pub IsAgainstIfAny : Subcommand → List Pause → (strict : Bool) → (recorded text : List ℕ) → Result End Fault → (status : ℕ) → Type 0
+IsAgainstIfAny subcommand pauses strict recorded text (Ok end) status = IsAgainst subcommand pauses strict recorded text end status
+IsAgainstIfAny subcommand pauses strict recorded text (Err fault) status = status ≡ report_status (Err fault)
+
+-- the exit status of an invocation whose run of this program, by these pauses if it names a plan, is compared with this recorded trace
+abbrev pub Compares : Invocation → List Pause → (recorded text : List ℕ) → (status : ℕ) → Type 0
+Compares invocation pauses recorded text status =
+    (outcome : Result End Fault) × Finds invocation.subcommand text outcome
+    × IsAgainstIfAny invocation.subcommand pauses invocation.strict recorded text outcome status
 
 -- ---- all commands
 
@@ -90,12 +111,16 @@ Says (subcommands.Explore limit tries states) against strict whole text end stat
 Says (subcommands.Test limit tries states) against strict whole text end status =
     (passed : Bool) × IsTested (subcommands.Test limit tries states) text passed × (status ≡ tested_status passed)
 Says subcommand None strict whole text end status = status ≡ report_status (Ok end)
-Says subcommand (Some path) strict whole text end status = IsAgainst subcommand strict text end status
+Says subcommand (Some path) strict whole text end status = (pauses : List Pause) × (recorded : List ℕ) × IsAgainst subcommand pauses strict recorded text end status
 
--- the status of what the command finds
+-- or the status of why it did not
+abbrev pub SaysIfAny : {T : Type 0} → Subcommand → (against : Option T) → (strict whole : Bool) → (text : List ℕ) → Result End Fault → (status : ℕ) → Type 0
+SaysIfAny subcommand against strict whole text (Ok end) status = Says subcommand against strict whole text end status
+SaysIfAny subcommand against strict whole text (Err fault) status = status ≡ report_status (Err fault)
+
+-- the status of what the invocation finds
 abbrev pub IsSaid : Invocation → (text : List ℕ) → Result End Fault → (status : ℕ) → Type 0
-IsSaid invocation text (Ok end) status = Says invocation.subcommand invocation.against invocation.strict invocation.whole text end status
-IsSaid invocation text (Err fault) status = status ≡ report_status (Err fault)
+IsSaid invocation text outcome status = SaysIfAny invocation.subcommand invocation.against invocation.strict invocation.whole text outcome status
 
 -- the exit status of what the invocation finds in this program
 abbrev pub IsJudged : Invocation → (text : List ℕ) → (status : ℕ) → Type 0

@@ -1,11 +1,13 @@
 //! Runs that are compared with recorded traces.
 
 ghost use Rattle.std.specs.Prelude.{◌≡◌, ◌⊎◌, IfOk};
-ghost use Rattle.kendo.specs.Verdicts.{IsTracedAs, Judges, compared_status};
+ghost use Rattle.kendo.specs.Verdicts.{Compares, IsTracedAs, Judges, compared_status};
 ghost use Rattle.kendo_compare.specs.Comparing.{IsCompared};
 ghost use Rattle.kendo_shell.specs.Answers.{Finds};
+ghost use Rattle.pauses.specs.Plans.{pauses_of};
 
 use crate::explaining::{explain, kept_program};
+use crate::exploring::Task;
 use command_line::arguments::{Invocation, Subcommand};
 use go_text::{Fault, Memory};
 use kendo_compare::{
@@ -46,6 +48,38 @@ pub(crate) fn compare_file(
     let Some((bytes, _no_trace)) = opened(rt, alloc, invocation, file, None)? else {
         return Ok(USAGE);
     };
+    let recorded = Recorded {
+        path,
+        bytes: recorded.as_slice(),
+        is_strict: invocation.strict,
+    };
+    let task = Task {
+        rt,
+        alloc,
+        invocation,
+        file,
+    };
+    compare_run(task, threads, invocation, plan, bytes, &recorded)
+}
+
+/// Like `compare_file`, for the bytes of the file and of the recorded trace.
+fn compare_run(
+    task: Task<'_, '_, '_>,
+    threads: &(impl Threads + Wait + Sync),
+    invocation: &Invocation<'_, '_>,
+    plan: &Plan,
+    bytes: Vec<u8>,
+    recorded: &Recorded<'_>,
+) -> Result<u8, Memory>
+    requires { recorded.now.is_strict ≡ invocation.now.strict }
+    ensures { IfOk result (Compares invocation.now (pauses_of plan.now.pauses.items) recorded.now.bytes.now bytes.items) }
+{
+    let Task {
+        rt,
+        alloc,
+        invocation: _,
+        file,
+    } = task;
     let text = bytes.clone()?;
     let mut outputs = Outputs::new(rt, Trace::Dropped);
     let mut trace = Vec::new(alloc);
@@ -61,15 +95,10 @@ pub(crate) fn compare_file(
     let status = told(rt, alloc, None, &outcome)?;
     let kept = kept_program(alloc, invocation, file, Some(plan), text.as_slice());
     explain(rt, alloc, invocation, kept, outcome, outputs.refused());
-    let recorded = Recorded {
-        path,
-        bytes: recorded.as_slice(),
-        is_strict: invocation.strict,
-    };
     let program = program_of(invocation, plan, file, text.as_slice());
     match outcome {
         Ok(_) => {
-            let is_same = compare(rt, alloc, &program, &recorded, trace.as_slice())?;
+            let is_same = compare(rt, alloc, &program, recorded, trace.as_slice())?;
             Ok(status_of(is_same, status))
         }
         Err(_) => Ok(status),
@@ -148,7 +177,7 @@ fn find(
     trace: &mut Vec<u8>,
 ) -> Result<End, Fault>
     ensures found { Finds invocation.now.subcommand bytes.items result }
-    ensures traced { IfOk result (IsTracedAs invocation.now.subcommand bytes.items trace.new.items) }
+    ensures traced { IfOk result (IsTracedAs invocation.now.subcommand (pauses_of plan.now.pauses.items) bytes.items trace.new.items) }
 {
     match invocation.subcommand {
         Subcommand::Run { workers, limit } => run_with_trace(

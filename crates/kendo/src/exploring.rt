@@ -2,7 +2,7 @@
 
 ghost use Rattle.std.specs.Prelude.{◌≡◌, ◌⊎◌, IfErr, IfOk};
 ghost use Rattle.command_line.specs.declared.arguments.Subcommand.TheVariants as subcommands;
-ghost use Rattle.kendo.specs.Verdicts.{Explores, IsJudged, Judges, explored_status};
+ghost use Rattle.kendo.specs.Verdicts.{Explores, IsJudged, Judges, exploration_status, explored_status};
 
 use crate::explaining::{explain, kept_program};
 use command_line::arguments::{Invocation, Subcommand};
@@ -22,7 +22,7 @@ const OTHER: u8 = 8;
 /// The exit status if not all orders could be searched, and that counts.
 const NOT_ALL: u8 = 9;
 
-/// Tells on standard error how many states were visited.
+/// Reports on standard error how many states were visited.
 #[derive(Clone, Copy)]
 pub(crate) struct Counter<'r> {
     pub rt: &'r HostRuntime,
@@ -84,13 +84,26 @@ fn explore(
         invocation,
         file,
     };
-    match find(task, invocation, bytes, &mut outputs) {
-        Ok(verdict) => Ok(status_of(verdict, invocation.whole)),
-        Err(fault) => {
-            let status = told(rt, alloc, None, &Err(fault))?;
-            explain(rt, alloc, invocation, kept, Err(fault), outputs.refused());
-            Ok(status)
-        }
+    let found = find(task, invocation, bytes, &mut outputs);
+    let status = report(rt, alloc, found, invocation.whole)?;
+    if let Err(fault) = found {
+        explain(rt, alloc, invocation, kept, Err(fault), outputs.refused());
+    }
+    Ok(status)
+}
+
+/// Reports on standard error why a program was not explored. Returns the exit status of the exploration.
+fn report(
+    rt: &HostRuntime,
+    alloc: Global,
+    found: Result<Verdict, Fault>,
+    whole: bool,
+) -> Result<u8, Memory>
+    ensures { IfOk result (λ status. status ≡ exploration_status found whole) }
+{
+    match found {
+        Ok(verdict) => Ok(status_of(verdict, whole)),
+        Err(fault) => told(rt, alloc, None, &Err(fault)),
     }
 }
 

@@ -45,7 +45,7 @@ fn main(rt: HostRuntime) -> ExitCode {
 }
 
 /// Reads the command line and does what it asks, down to the exit status. `threads` permits a run to start workers and wait for them.
-#[tactic(auto, using(kendo_shell::proofs::Obeying::obeyed_status))]
+#[tactic(auto, using(crate::proofs::Judging::judged_status))]
 fn start(rt: &HostRuntime, threads: &(impl Threads + Wait + Sync)) -> Result<u8, Memory>
     ensures { IfOk result IsStatus }
 {
@@ -63,7 +63,7 @@ fn obey(
     alloc: Global,
     words: &[String],
 ) -> Result<u8, Memory>
-    ensures { IfOk result (λ status. Obeys (map string_bytes words.now) status) }
+    ensures { IfOk result (λ status. Obeys Judges (map string_bytes words.now) status) }
 {
     match command(alloc)?.try_get_matches_from(words) {
         Ok(matches) => match invocation_of(&matches) {

@@ -2,7 +2,7 @@
 
 ghost use Rattle.std.specs.Prelude.{◌≡◌, ◌⊎◌, IfErr, IfOk};
 ghost use Rattle.command_line.specs.declared.arguments.Subcommand.TheVariants as subcommands;
-ghost use Rattle.kendo.specs.Verdicts.{Judges, Tests, passes, tested_status};
+ghost use Rattle.kendo.specs.Verdicts.{IsJudged, Judges, Tests, passes, test_status, tested_status};
 
 use crate::explaining::{explain, kept_program};
 use crate::exploring::{Counter, Task};
@@ -117,17 +117,37 @@ fn test_file(
         trace: None,
         ..*invocation
     };
-    let Some((bytes, _no_trace)) = opened(rt, alloc, &source, file, None)? else {
-        return Ok(USAGE);
-    };
-    let mut outputs = Outputs::new(rt, Trace::Dropped);
     let task = Task {
         rt,
         alloc,
         invocation,
         file,
     };
-    match find(task, threads, invocation, bytes, &mut outputs) {
+    match opened(rt, alloc, &source, file, None)? {
+        Some((bytes, _no_trace)) => test_program(task, threads, invocation, bytes),
+        None => Ok(USAGE),
+    }
+}
+
+/// Like `test_file`, for the bytes of the file.
+fn test_program(
+    task: Task<'_, '_, '_>,
+    threads: &(impl Threads + Wait + Sync),
+    invocation: &Invocation<'_, '_>,
+    bytes: Vec<u8>,
+) -> Result<u8, Memory>
+    ensures { IfOk result (IsJudged invocation.now bytes.items) }
+{
+    let mut outputs = Outputs::new(task.rt, Trace::Dropped);
+    let found = find(task, threads, invocation, bytes, &mut outputs);
+    report(task.rt, task.alloc, found)
+}
+
+/// Reports on standard error why a program was not tested. Returns the exit status of the test.
+fn report(rt: &HostRuntime, alloc: Global, found: Result<bool, Fault>) -> Result<u8, Memory>
+    ensures { IfOk result (λ status. status ≡ test_status found) }
+{
+    match found {
         Ok(passes) => Ok(status_of(passes)),
         Err(fault) => told(rt, alloc, None, &Err(fault)),
     }
@@ -163,7 +183,7 @@ fn find(
     }
 }
 
-/// Tests the program, and writes what comes of it. Returns whether it passes.
+/// Tests the program, and writes the report. Returns whether it passes.
 fn test(
     task: Task<'_, '_, '_>,
     threads: &(impl Threads + Wait + Sync),

@@ -1,4 +1,4 @@
--- The trace of a text.
+-- The trace of a program.
 use Rattle.std.specs.Prelude.{◌≡◌, ℕ, List, Some}
 use Rattle.kendo_reading.specs.Reading.{Reads}
 use Rattle.meaning.specs.Source.{source_kind}
@@ -14,10 +14,10 @@ use Rattle.word.specs.declared.end.End.{End}
 abbrev pub IsTraceOf : GoroutineKind → (limit : ℕ) → End → (lines : List ℕ) → Type 0
 IsTraceOf K limit end lines = (n : ℕ) × (lines ≡ trace (moment K limit n).shared.shared.events) × (end_of (moment K limit n) ≡ Some end)
 
--- so they are of the run of a text
+-- the lines are the trace of the run of a program
 abbrev pub IsTraced : (text : List ℕ) → (limit : ℕ) → (lines : List ℕ) → End → Type 0
 IsTraced text limit lines end = (file : File) × Reads text file × IsTraceOf (source_kind file) limit end lines
 
--- and of its run by a plan of pauses
+-- the lines are the trace of its run by a plan of pauses
 abbrev pub IsTracedBy : List Pause → (text : List ℕ) → (limit : ℕ) → (lines : List ℕ) → End → Type 0
 IsTracedBy pauses text limit lines end = (file : File) × Reads text file × IsTraceOf (paused (source_kind file) pauses) limit end lines

@@ -1,6 +1,6 @@
 //! Runs whose traces are kept.
 
-ghost use Rattle.std.specs.Prelude.{◌≡◌, IfOk};
+ghost use Rattle.std.specs.Prelude.{◌≡◌, IfErr, IfOk};
 ghost use Rattle.command_line.specs.declared.arguments.Subcommand.TheVariants as subcommands;
 ghost use Rattle.kendo_compare.specs.Traces.{IsTraced, IsTracedBy};
 ghost use Rattle.kendo_shell.specs.Answers.{Finds};
@@ -30,6 +30,7 @@ pub fn run_with_trace<R: Threads + Wait + Sync, O: Write>(
 ) -> Result<End, Fault>
     ensures found { Finds (subcommands.Run workers limit) bytes.items result }
     ensures traced { IfOk result (IsTraced bytes.items limit trace.new.items) }
+    ensures kept { IfErr result (λ _. trace.new ≡ trace.old) }
 {
     let mut kept = Flagged::new(Vec::new(alloc));
     let end = run_bytes(rt, alloc, bytes, limit, workers, &Open, out, &mut kept)?;
@@ -50,6 +51,7 @@ pub fn run_paused_with_trace<O: Write>(
 ) -> Result<End, Fault>
     ensures found { Finds (subcommands.Paused limit) bytes.items result }
     ensures traced { IfOk result (IsTracedBy (pauses_of plan.now.pauses.items) bytes.items limit trace.new.items) }
+    ensures kept { IfErr result (λ _. trace.new ≡ trace.old) }
 {
     let mut kept = Flagged::new(Vec::new(alloc));
     let end = traced_bytes(alloc, bytes, plan, limit, out, &mut kept)?;

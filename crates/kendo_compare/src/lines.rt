@@ -41,9 +41,9 @@ pub struct Compared {
     pub lines: Vec<u8>,
 }
 
-/// Sees whether bytes are a trace.
+/// Checks that bytes are a trace.
 ///
-/// Errors: the first line that is broken, or out of memory.
+/// Errors: the first malformed line, or out of memory.
 pub fn check_trace(alloc: Global, bytes: &[u8]) -> Result<(), TraceError>
     ensures { MatchResult result (λ _. (events : List Event) × IsTrace bytes.now events) (IsWhy bytes.now) }
 {

@@ -1,4 +1,4 @@
-//! Where the source makes the request of an event.
+//! The location in the source of the request of an event.
 
 use crate::lines::Program;
 use go_text::{Fault, Memory};
@@ -7,7 +7,7 @@ use paused_timeline::timeline_paused;
 use std::alloc::Global;
 use timeline::{Recording, Window};
 
-/// Where the source makes the request of an event.
+/// The location in the source of the request of an event.
 #[derive(Drop)]
 pub(crate) struct Place {
     /// The name of the function.

@@ -88,7 +88,7 @@ impl Report<'_> {
         Ok(())
     }
 
-    /// Appends the first line that is not the same in both traces.
+    /// Appends the first line that differs between the traces.
     fn push_first_line(self, said: &mut Words) -> Result<(), Memory> {
         let event = self.first_line();
         let run = line_at(self.run, event);
@@ -109,7 +109,7 @@ impl Report<'_> {
         Ok(())
     }
 
-    /// The number of the first line that is not the same, counted from 1.
+    /// The number of the first line that differs, counted from 1.
     fn first_line(self) -> usize {
         let mut event: usize = 1;
         for (one, other) in self.run.iter().zip(self.was.iter()) {

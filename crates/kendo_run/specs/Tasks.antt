@@ -4,7 +4,7 @@ use Rattle.command_line.specs.declared.arguments.Subcommand.TheVariants as subco
 use Rattle.kendo_run.specs.declared.task.Task.{Task}
 use Rattle.kendo_run.specs.declared.task.Task.TheVariants as tasks
 
--- the command that asks for it
+-- the command of a task
 abbrev pub subcommand_of : Task → Subcommand
 subcommand_of tasks.Check = subcommands.Check
 subcommand_of (tasks.Run workers limit) = subcommands.Run workers limit

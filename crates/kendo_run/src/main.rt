@@ -4,7 +4,7 @@
 
 ghost use Rattle.std.specs.Prelude.{◌≡◌, ◌⊎◌, IfOk, map, string_bytes};
 ghost use Rattle.kendo_run.specs.Tasks.{subcommand_of};
-ghost use Rattle.kendo_shell.specs.Answers.{Finds, IsStatus, IsStatusOf, Obeys, Tells};
+ghost use Rattle.kendo_shell.specs.Answers.{Finds, IsStatus, IsStatusOf, Obeys, Tells, TellsOf};
 
 mod task;
 
@@ -28,7 +28,7 @@ fn main(rt: HostRuntime) -> ExitCode {
     exit(&rt, start(&rt, &rt))
 }
 
-/// Reads the command line and does what it asks, down to the exit status. `threads` permits a run to start workers and wait for them.
+/// Reads the command line and runs its command, down to the exit status. `threads` permits a run to start workers and wait for them.
 #[tactic(auto, using(kendo_shell::proofs::Obeying::obeyed_status))]
 fn start(rt: &HostRuntime, threads: &(impl Threads + Wait + Sync)) -> Result<u8, Memory>
     ensures { IfOk result IsStatus }
@@ -40,14 +40,14 @@ fn start(rt: &HostRuntime, threads: &(impl Threads + Wait + Sync)) -> Result<u8,
     }
 }
 
-/// Does what these words ask, the first of which is the program's name, down to the exit status.
+/// Runs the command of these words, the first of which is the program's name, down to the exit status.
 fn obey(
     rt: &HostRuntime,
     threads: &(impl Threads + Wait + Sync),
     alloc: Global,
     words: &[String],
 ) -> Result<u8, Memory>
-    ensures { IfOk result (λ status. Obeys (map string_bytes words.now) status) }
+    ensures { IfOk result (λ status. Obeys TellsOf (map string_bytes words.now) status) }
 {
     match command(alloc)?.try_get_matches_from(words) {
         Ok(matches) => match invocation_of(&matches) {

@@ -20,7 +20,7 @@ pub(crate) enum Task {
     },
 }
 
-/// What is asked for, if this program does it: `None` for another command, or if it is to explain or to compare.
+/// The command's task, if this program does it: `None` for another command, or if it is to explain or to compare.
 pub(crate) fn task_of(invocation: &Invocation<'_, '_>) -> Option<Task>
     ensures some { IfSome result (λ task. subcommand_of task ≡ invocation.now.subcommand) }
     ensures plain { IfSome result (λ _. (invocation.now.explains ≡ false) × (is_some invocation.now.against ≡ false)) }

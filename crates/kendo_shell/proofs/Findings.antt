@@ -1,7 +1,7 @@
 -- What a command finds in a text, and the exit status that tells it.
-use Rattle.std.proofs.Common.{◌≡◌, ◌↔◌, ℕ, ◌≤◌, ◌<◌, ◌^◌, ◌⊎◌, inl, inr, List, [], Result, Ok, Err, IfOk, IfErr, IsErrOf, refl, sym, ap, subst, ◌∙◌, arith}
+use Rattle.std.proofs.Common.{◌≡◌, ◌↔◌, ℕ, ◌≤◌, ◌<◌, ◌==◌, ◌^◌, ◌⊎◌, inl, inr, Bool, true, false, List, Result, Ok, Err, IfOk, IfErr, IsErrOf, refl, sym, ap, subst, ◌∙◌, arith}
 use Rattle.std.proofs.lemmas.Bool.{cases_lt}
-use Rattle.kendo_shell.specs.Answers.{Finds, HasReading, IsInBounds, IsReason, IsStatus, IsStatusOf, IsVerdict, Tells}
+use Rattle.kendo_shell.specs.Answers.{Finds, HasReading, IsInBounds, IsReason, IsStatus, IsStatusOf, IsVerdict, Tells, first_failed}
 use Rattle.command_line.specs.declared.arguments.Subcommand.{Subcommand}
 use Rattle.command_line.specs.declared.arguments.Subcommand.TheVariants as subcommands
 use Rattle.kendo_report.specs.Outcome.{fault_status, report_status}
@@ -78,7 +78,7 @@ unreadable subcommand text faults.BadLimit bounds is none why = absurd (omega (a
 unreadable subcommand text faults.Memory bounds is none why = tt
 unreadable subcommand text faults.Write bounds is none why = absurd (omega (arith, is))
 
--- want of memory is a reason for every command
+-- out of memory is a reason for every command
 pub no_memory : (subcommand : Subcommand) (text : List ℕ) (fault : Fault) → fault ≡ faults.Memory → IsReason subcommand text fault
 no_memory subcommand text fault is = subst (IsReason subcommand text) (sym is) tt
 
@@ -263,12 +263,12 @@ told_status subcommand status (inl is) = inr (inl is)
 told_status subcommand status (inr (text, (outcome, finds, inl is))) = subst IsStatus (sym is) (outcome_is subcommand text outcome finds)
 told_status subcommand status (inr (text, (outcome, finds, inr is))) = verdict_is subcommand outcome status is
 
--- the exit status of tests, or, if how many passed can't be written, of that
-pub test_summed : (subcommand : Subcommand) (limit tries states status all : ℕ) → subcommand ≡ subcommands.Test limit tries states → (all ≡ status) ⊎ (all ≡ 6)
-    → (status ≡ 64) ⊎ Tells subcommand status → (all ≡ 64) ⊎ Tells subcommand all
-test_summed subcommand limit tries states status all is (inl same) tells = subst (λ n. (n ≡ 64) ⊎ Tells subcommand n) (sym same) tells
-test_summed subcommand limit tries states status all is (inr lost) tells =
-    inr ([], (Err faults.Write, subst (λ (s : Subcommand). Finds s [] (Err faults.Write)) (sym is) tt, inl lost))
+is_one_of : (b : Bool) (first second status : ℕ) → status ≡ (if b then second else first) → (status ≡ first) ⊎ (status ≡ second)
+is_one_of true first second status is = inr is
+is_one_of false first second status is = inl is
+
+pub one_of : (first second status : ℕ) → status ≡ first_failed first second → (status ≡ first) ⊎ (status ≡ second)
+one_of first second status is = is_one_of (first == 0) first second status is
 
 -- one of two exit statuses that tell what was found
 pub either_tells : (subcommand : Subcommand) (first second status : ℕ) → (status ≡ first) ⊎ (status ≡ second) → (first ≡ 64) ⊎ Tells subcommand first → (second ≡ 64) ⊎ Tells subcommand second

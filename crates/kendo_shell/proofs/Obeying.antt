@@ -10,7 +10,7 @@ use Rattle.clap.specs.declared.error.kind.ErrorKind.{ErrorKind}
 use Rattle.clap.specs.declared.error.kind.ErrorKind.TheVariants as kinds
 use Rattle.clap.specs.declared.parser.matches.ArgMatches.{ArgMatches}
 use Rattle.kendo_shell.proofs.Findings.{told_status}
-use Rattle.kendo_shell.specs.Answers.{IsStatus, Obeys, WasDone, WasNothing, WasShown, ShowsAs, Tells}
+use Rattle.kendo_shell.specs.Answers.{IsStatus, Obeys, WasDone, WasNothing, WasShown, ShowsAs, TellsOf}
 use Rattle.command_line.specs.CommandLine.{IsAsked, kendo}
 use Rattle.command_line.specs.declared.arguments.Invocation.{Invocation}
 
@@ -20,22 +20,22 @@ fails app words parsed is f = subst (λ (a : App). is_simple_and_free a ≡ true
 asked : (app : App) (words : List Text) (m : ArgMatches) (o : Option Invocation) → app ≡ kendo → HasMatchesOf app words m → IsAsked (subcommand_rows_of m) o → IsAsked (subcommand_of kendo words) o
 asked app words m o is has a = subst (λ rows. IsAsked rows o) (subst (λ (a : App). HasMatchesOf a words m) is has refl).1 a
 
-pub done : (app : App) (words : List Text) (m : ArgMatches) (invocation : Invocation) (status : ℕ) → app ≡ kendo
+pub done : {Reports : Invocation → ℕ → Type 0} (app : App) (words : List Text) (m : ArgMatches) (invocation : Invocation) (status : ℕ) → app ≡ kendo
     → (is_simple_and_free app ≡ true → FailsBy {T = ArgMatches} (fault_of app words) (Ok m)) → HasMatchesOf app words m
-    → IsAsked (subcommand_rows_of m) (Some invocation) → (status ≡ 64) ⊎ Tells invocation.subcommand status → Obeys words status
-done app words m invocation status is f has a tells = WasDone (fails app words (Ok m) is f) invocation (asked app words m (Some invocation) is has a) tells
+    → IsAsked (subcommand_rows_of m) (Some invocation) → (status ≡ 64) ⊎ Reports invocation status → Obeys Reports words status
+done app words m invocation status is f has a reports = WasDone (fails app words (Ok m) is f) invocation (asked app words m (Some invocation) is has a) reports
 
-pub nothing_done : (app : App) (words : List Text) (m : ArgMatches) → app ≡ kendo
+pub nothing_done : {Reports : Invocation → ℕ → Type 0} (app : App) (words : List Text) (m : ArgMatches) → app ≡ kendo
     → (is_simple_and_free app ≡ true → FailsBy {T = ArgMatches} (fault_of app words) (Ok m)) → HasMatchesOf app words m
-    → IsAsked (subcommand_rows_of m) None → Obeys words 64
+    → IsAsked (subcommand_rows_of m) None → Obeys Reports words 64
 nothing_done app words m is f has a = WasNothing (fails app words (Ok m) is f) (asked app words m None is has a) refl
 
 untrue : {A : Type 0} → false ≡ true → A
 untrue e = absurd cc
 
-pub shown : {E : Type 0} (app : App) (words : List Text) (e : Error) (result : Result ℕ E) → app ≡ kendo
+pub shown : {E : Type 0} {Reports : Invocation → ℕ → Type 0} (app : App) (words : List Text) (e : Error) (result : Result ℕ E) → app ≡ kendo
     → (is_simple_and_free app ≡ true → FailsBy {T = ArgMatches} (fault_of app words) (Err e)) → IsErr result ↔ (kind_of e ≡ kinds.OutOfMemory)
-    → IfOk result (λ status. ShowsAs (kind_of e) status) → IfOk result (λ status. Obeys words status)
+    → IfOk result (λ status. ShowsAs (kind_of e) status) → IfOk result (λ status. Obeys Reports words status)
 shown app words e (Ok status) is f memory shows =
     elim (fails app words (Err e) is f) [ inl full ↦ untrue (memory.1 full) | inr among ↦ WasShown (kind_of e) among shows ]
 shown app words e (Err x) is f memory shows = shows
@@ -61,7 +61,12 @@ shown_status kinds.Io status is = inr (inl is)
 shown_status kinds.Format status is = inr (inl is)
 shown_status kinds.OutOfMemory status is = inr (inl is)
 
-pub obeyed_status : (words : List Text) (status : ℕ) → Obeys words status → IsStatus status
-obeyed_status words status (WasDone none invocation a tells) = told_status invocation.subcommand status tells
-obeyed_status words status (WasNothing none a is) = inr (inl is)
-obeyed_status words status (WasShown kind among shows) = shown_status kind status shows
+-- an exit status that obeys a command line is one of the program, if those that report are
+pub obeyed : {Reports : Invocation → ℕ → Type 0} (words : List Text) (status : ℕ) → ((invocation : Invocation) → (status ≡ 64) ⊎ Reports invocation status → IsStatus status)
+    → Obeys Reports words status → IsStatus status
+obeyed words status reported (WasDone none invocation a reports) = reported invocation reports
+obeyed words status reported (WasNothing none a is) = inr (inl is)
+obeyed words status reported (WasShown kind among shows) = shown_status kind status shows
+
+pub obeyed_status : (words : List Text) (status : ℕ) → Obeys TellsOf words status → IsStatus status
+obeyed_status words status obeys = obeyed {Reports = TellsOf} words status (λ invocation tells. told_status invocation.subcommand status tells) obeys

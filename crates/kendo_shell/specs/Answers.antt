@@ -1,5 +1,5 @@
 -- What the program finds in a file.
-use Rattle.std.specs.Prelude.{◌≡◌, ℕ, ◌≤◌, ◌⊎◌, List, [], Some, None, Result, Ok, Err}
+use Rattle.std.specs.Prelude.{◌≡◌, ℕ, ◌≤◌, ◌==◌, ◌⊎◌, List, [], Some, None, Result, Ok, Err}
 use Rattle.clap.specs.Faults.{fault_of}
 use Rattle.clap.specs.Kinds.{IsAmong}
 use Rattle.clap.specs.Simple.{subcommand_of}
@@ -46,7 +46,7 @@ IsInBounds (subcommands.Inspect limit) = IsLimit limit
 IsInBounds (subcommands.Paused limit) = IsLimit limit
 IsInBounds subcommand = Unit {0}
 
--- why the command finds no end: want of memory; workers or a limit out of their bounds, the workers first; else a writer that refused bytes, of a text that
+-- why the command finds no end: out of memory; workers or a limit out of their bounds, the workers first; else a writer that refused bytes, of a text that
 -- has a reading; or, by this fault, why the text has no reading. A test is reported in lines of its own, whatever the text is
 abbrev pub IsReason : Subcommand → List ℕ → Fault → Type 0
 IsReason subcommand text faults.Memory = Unit {0}
@@ -98,6 +98,10 @@ IsStatusOf subcommand text status =
 abbrev pub Tells : Subcommand → ℕ → Type 0
 Tells subcommand status = (text : List ℕ) × IsStatusOf subcommand text status
 
+-- the first of two exit statuses that is not 0, or 0
+abbrev pub first_failed : (first second : ℕ) → ℕ
+first_failed first second = if first == 0 then second else first
+
 -- an exit status of the program
 abbrev pub IsStatus : ℕ → Type 0
 IsStatus status = (status ≤ 6) ⊎ ((status ≡ 64) ⊎ ((status ≡ 8) ⊎ (status ≡ 9)))
@@ -108,11 +112,15 @@ ShowsAs kinds.DisplayHelp status = (status ≡ 0) ⊎ (status ≡ 6)
 ShowsAs kinds.DisplayVersion status = (status ≡ 0) ⊎ (status ≡ 6)
 ShowsAs kind status = status ≡ 64
 
--- the exit status of a command line
-pub data Obeys (words : List Text) (status : ℕ) : Type 0 where
-  -- the words are taken: 64, as where a file can't be read or created, or what was found in some text
-  WasDone : fault_of kendo words ≡ [] → (invocation : Invocation) → IsAsked (subcommand_of kendo words) (Some invocation) → (status ≡ 64) ⊎ Tells invocation.subcommand status → Obeys words status
-  -- they ask for nothing that is done
-  WasNothing : fault_of kendo words ≡ [] → IsAsked (subcommand_of kendo words) None → status ≡ 64 → Obeys words status
+-- the exit status of what an invocation finds in some program
+abbrev pub TellsOf : Invocation → (status : ℕ) → Type 0
+TellsOf invocation status = Tells invocation.subcommand status
+
+-- the exit status of a command line, if `Reports` says which statuses report what an invocation finds
+pub data Obeys (Reports : Invocation → (status : ℕ) → Type 0) (words : List Text) (status : ℕ) : Type 0 where
+  -- the words are accepted: 64 if a file can't be read or created, otherwise the status reports what was found
+  WasDone : fault_of kendo words ≡ [] → (invocation : Invocation) → IsAsked (subcommand_of kendo words) (Some invocation) → (status ≡ 64) ⊎ Reports invocation status → Obeys Reports words status
+  -- they request nothing that is done
+  WasNothing : fault_of kendo words ≡ [] → IsAsked (subcommand_of kendo words) None → status ≡ 64 → Obeys Reports words status
   -- they are refused, or ask for help
-  WasShown : (kind : ErrorKind) → IsAmong kind (fault_of kendo words) → ShowsAs kind status → Obeys words status
+  WasShown : (kind : ErrorKind) → IsAmong kind (fault_of kendo words) → ShowsAs kind status → Obeys Reports words status

@@ -1,8 +1,8 @@
 //! The words of a command line, and what is shown of those that are no command.
 
-ghost use Rattle.std.specs.Prelude.{◌≡◌, ◌↔◌, ◌⊎◌, IsErr, IfOk};
+ghost use Rattle.std.specs.Prelude.{◌≡◌, ◌↔◌, IsErr, IfOk};
 ghost use Rattle.clap.specs.Values.{kind_of};
-ghost use Rattle.kendo_shell.specs.Answers.{ShowsAs};
+ghost use Rattle.kendo_shell.specs.Answers.{ShowsAs, first_failed};
 
 use crate::streams::tell;
 use crate::suggestion::suggest;
@@ -62,9 +62,9 @@ pub fn name_of<'f>(invocation: &Invocation<'_, '_>, file: &'f str) -> Option<&'f
     }
 }
 
-/// The first of two exit statuses that is not 0.
+/// The first of two exit statuses that is not 0; 0 if both are.
 pub fn first_failure(first: u8, second: u8) -> u8
-    ensures { (result ≡ first) ⊎ (result ≡ second) }
+    ensures { result ≡ first_failed first second }
 {
     if first == 0 { second } else { first }
 }

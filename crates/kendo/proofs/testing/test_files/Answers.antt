@@ -1,8 +1,9 @@
 use Rattle.kendo.proofs.Judging.{either, summed}
+use Rattle.kendo_shell.proofs.Findings.{one_of}
 use Rattle.kendo.proofs.testing.test_files.Goals as goal
 
 pub loop-file-preserved : goal.loop-file-preserved
-loop-file-preserved g c = either c.args.invocation.now _ _ _ c.first_failure-status.ensures c.loop-file.invariant c.in_ok-next.ensures
+loop-file-preserved g c = either c.args.invocation.now _ _ _ (one_of _ _ _ c.first_failure-status.ensures) c.loop-file.invariant c.in_ok-next.ensures
 
 pub returns : goal.returns
 returns g c = summed c.args.invocation.now _ _ _ _ _ c.in-Test.is c.in_ok-all.ensures c.loop-file.invariant
