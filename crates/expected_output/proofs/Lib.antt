@@ -1,1 +1,2 @@
 pub mod SameLines
+pub mod SortedLines

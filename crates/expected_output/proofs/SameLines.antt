@@ -30,3 +30,14 @@ sorted_alike one other xs ys seen_xs seen_ys a b e f is =
     let lines : List (Bor (List ℕ)) → List (List ℕ) = map (λ (x : Bor (List ℕ)). x.now) in
     let same : lines xs ≡ lines ys = ap lines (sym e) ∙ (is ∙ ap lines f) in
     IsPermutation-trans one (lines xs) other a (subst (λ (zs : List (List ℕ)). IsPermutation zs other) (sym same) (IsPermutation-sym other (lines ys) b))
+
+-- lists of the same lines are equal line by line
+pub alike_lines : (equal : Bor (List ℕ) → Bor (List ℕ) → Bool) → ((a b : Bor (List ℕ)) → a.now ≡ b.now → equal a b ≡ true) → (xs ys : List (Bor (List ℕ)))
+    → map (λ (x : Bor (List ℕ)). x.now) xs ≡ map (λ (y : Bor (List ℕ)). y.now) ys → pointwise equal xs ys ≡ true
+alike_lines equal e [] [] is = refl
+alike_lines equal e [] (y ∷ ys) is = absurd cc
+alike_lines equal e (x ∷ xs) [] is = absurd cc
+alike_lines equal e (x ∷ xs) (y ∷ ys) is =
+    let first : x.now ≡ y.now = cc in
+    let rest : map (λ (x : Bor (List ℕ)). x.now) xs ≡ map (λ (y : Bor (List ℕ)). y.now) ys = cc in
+    rw (e x y first, alike_lines equal e xs ys rest) refl

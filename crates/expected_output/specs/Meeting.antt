@@ -1,5 +1,5 @@
 -- When a run is as expected.
-use Rattle.std.specs.Prelude.{◌≡◌, ℕ, ◌==◌, Bool, true, false, List, Option, Some, None, string_bytes}
+use Rattle.std.specs.Prelude.{◌≡◌, ℕ, ◌==◌, Bool, true, false, List, Option, Some, None, string_bytes, IsUtf8}
 use Rattle.std.specs.Str.{trim}
 use Rattle.std.specs.List.{slice_split}
 use Rattle.std.specs.List.Sorted.{IsPermutation}
@@ -16,9 +16,9 @@ abbrev pub AreSame : (is_unordered : Bool) → (wanted output : List ℕ) → Ty
 AreSame true wanted output = HaveSameLines (trim wanted) (trim output)
 AreSame false wanted output = trim output ≡ trim wanted
 
--- this output is the expected one
+-- this output, which is UTF-8 as the comments are, is the expected one
 abbrev pub IsExpected : ExpectedOutput → List ℕ → Type 0
-IsExpected wanted output = AreSame wanted.is_unordered (string_bytes wanted.text) output
+IsExpected wanted output = IsUtf8 output × AreSame wanted.is_unordered (string_bytes wanted.text) output
 
 abbrev pub IsExpectedIfAny : Option ExpectedOutput → List ℕ → Type 0
 IsExpectedIfAny None output = Unit {0}
@@ -27,11 +27,3 @@ IsExpectedIfAny (Some wanted) output = IsExpected wanted output
 -- a run that ended so, and printed this in all, is as expected
 abbrev pub Meets : Expectation → End → List ℕ → Type 0
 Meets expectation end output = (end ≡ expectation.end) × IsExpectedIfAny expectation.output output
-
--- the order of lines counts
-abbrev pub IsOrderedIfAny : Option ExpectedOutput → Type 0
-IsOrderedIfAny None = Unit {0}
-IsOrderedIfAny (Some wanted) = wanted.is_unordered ≡ false
-
-abbrev pub IsOrdered : Expectation → Type 0
-IsOrdered expectation = IsOrderedIfAny expectation.output

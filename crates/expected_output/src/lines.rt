@@ -2,7 +2,9 @@
 
 ghost use Rattle.std.specs.Prelude.{◌≡◌, ◌==◌, IfOk, IsTrue, map};
 ghost use Rattle.std.specs.List.{slice_split};
-ghost use Rattle.std.specs.List.Sorted.{IsPermutation};
+ghost use Rattle.std.specs.Cmp.Lexicographic.{slice_cmp};
+ghost use Rattle.std.specs.List.Sorted.{IsPermutation, IsSortedByKey};
+ghost use Rattle.std.specs.Ordering.{nat_cmp};
 
 use std::alloc::{AllocError, Global};
 
@@ -10,7 +12,8 @@ use std::alloc::{AllocError, Global};
 ///
 /// Errors: out of memory.
 pub fn sorted_lines<'t>(alloc: Global, text: &'t str) -> Result<Vec<&'t str>, AllocError>
-    ensures { IfOk result (λ lines. IsPermutation (slice_split (λ b. b == 10) text.entry.now) (map (λ line. line.now) lines.items)) }
+    ensures lines { IfOk result (λ lines. IsPermutation (slice_split (λ b. b == 10) text.entry.now) (map (λ line. line.now) lines.items)) }
+    ensures sorted { IfOk result (λ lines. IsSortedByKey (λ line. line.now) (slice_cmp nat_cmp) lines.items) }
 {
     let mut lines = lines_in(alloc, text)?;
     lines.sort()?;
@@ -26,7 +29,8 @@ fn lines_in<'t>(alloc: Global, text: &'t str) -> Result<Vec<&'t str>, AllocError
 
 /// Whether two lists of lines are the same.
 pub(crate) fn are_same_lines(one: &[&str], other: &[&str]) -> bool
-    ensures { IsTrue result → map (λ line. line.now) one.now ≡ map (λ line. line.now) other.now }
+    ensures yes { IsTrue result → map (λ line. line.now) one.now ≡ map (λ line. line.now) other.now }
+    ensures no { map (λ line. line.now) one.now ≡ map (λ line. line.now) other.now → IsTrue result }
 {
     one == other
 }

@@ -1,7 +1,7 @@
 //! Whether a run is as expected.
 
-ghost use Rattle.std.specs.Prelude.{◌≡◌, IfOk, IsTrue, IsUtf8, false};
-ghost use Rattle.expected_output.specs.Meeting.{HaveSameLines, IsExpected, IsOrdered, Meets};
+ghost use Rattle.std.specs.Prelude.{IfOk, IsTrue};
+ghost use Rattle.expected_output.specs.Meeting.{HaveSameLines, IsExpected, Meets};
 
 use crate::expectation::{Expectation, ExpectedOutput};
 use crate::lines::{are_same_lines, sorted_lines};
@@ -15,7 +15,7 @@ impl Expectation {
     /// Errors: out of memory.
     pub fn is_met(&self, alloc: Global, end: End, output: &[u8]) -> Result<bool, Memory>
         ensures yes { IfOk result (λ met. IsTrue met → Meets self.now end output.now) }
-        ensures no { IfOk result (λ met. IsOrdered self.now → IsUtf8 output.now → Meets self.now end output.now → IsTrue met) }
+        ensures no { IfOk result (λ met. Meets self.now end output.now → IsTrue met) }
     {
         if end != self.end {
             return Ok(false);
@@ -31,7 +31,7 @@ impl ExpectedOutput {
     /// Whether this output is the expected one.
     fn is_met(&self, alloc: Global, output: &[u8]) -> Result<bool, Memory>
         ensures yes { IfOk result (λ met. IsTrue met → IsExpected self.now output.now) }
-        ensures no { IfOk result (λ met. self.now.is_unordered ≡ false → IsUtf8 output.now → IsExpected self.now output.now → IsTrue met) }
+        ensures no { IfOk result (λ met. IsExpected self.now output.now → IsTrue met) }
     {
         let Ok(output) = str::from_utf8(output) else {
             return Ok(false);
@@ -47,7 +47,8 @@ impl ExpectedOutput {
 
 /// Whether two texts have the same lines, each as often.
 fn have_same_lines(alloc: Global, one: &str, other: &str) -> Result<bool, Memory>
-    ensures { IfOk result (λ same. IsTrue same → HaveSameLines one.now other.now) }
+    ensures yes { IfOk result (λ same. IsTrue same → HaveSameLines one.now other.now) }
+    ensures no { IfOk result (λ same. HaveSameLines one.now other.now → IsTrue same) }
 {
     let one = sorted_lines(alloc, one)?;
     let other = sorted_lines(alloc, other)?;
