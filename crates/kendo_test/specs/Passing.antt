@@ -1,6 +1,6 @@
 -- When a program passes its test, and when it fails.
-use Rattle.std.specs.Prelude.{◌≡◌, ◌⊎◌, ℕ, List, Some, IsUtf8}
-use Rattle.expected_output.specs.Meeting.{IsOrdered, Meets}
+use Rattle.std.specs.Prelude.{◌≡◌, ◌⊎◌, ℕ, List, Some}
+use Rattle.expected_output.specs.Meeting.{Meets}
 use Rattle.expected_output.specs.declared.expectation.Expectation.{Expectation}
 use Rattle.exploration.specs.Shown.{RunsBy, ShownEnd}
 use Rattle.kendo_reading.specs.Reading.{Reads}
@@ -26,9 +26,9 @@ Passes expectation text limit = (output : List ℕ) × (end : End) × Prints tex
 abbrev pub PrintsPaused : (text : List ℕ) → (limit : ℕ) → (output : List ℕ) → End → Type 0
 PrintsPaused text limit output end = (file : File) × (pauses : List Pause) × Reads text file × RunsBy file limit pauses output end
 
--- a run that ended so, and printed this in all, is not as expected; nothing is said of lines in any order
+-- a run that ended so, and printed this in all, is not as expected
 abbrev pub Misses : Expectation → End → List ℕ → Type 0
-Misses expectation end output = IsOrdered expectation → IsUtf8 output → Meets expectation end output → ⊥
+Misses expectation end output = Meets expectation end output → ⊥
 
 -- the run is not as expected
 abbrev pub FailsAlone : Expectation → (text : List ℕ) → (limit : ℕ) → Type 0
@@ -41,7 +41,13 @@ FailsBy expectation text limit one = PrintsPaused text limit one.output one.end 
 abbrev pub Fails : Expectation → (text : List ℕ) → (limit : ℕ) → Type 0
 Fails expectation text limit = FailsAlone expectation text limit ⊎ ((one : ShownEnd) × FailsBy expectation text limit one)
 
--- a text that is said to pass passes, and one that is said to fail fails
+-- by this expectation a text that is said to pass passes, and one that is said to fail fails
+abbrev pub IsRightBy : Expectation → Verdict → (text : List ℕ) → (limit : ℕ) → Type 0
+IsRightBy expectation (Passed by) text limit = (by ≡ expectation) × Passes expectation text limit
+IsRightBy expectation (Failed by) text limit = (by ≡ expectation) × Fails expectation text limit
+IsRightBy expectation Untested text limit = Unit {0}
+
+-- so it is by the expectation that the verdict names
 abbrev pub IsRight : Verdict → (text : List ℕ) → (limit : ℕ) → Type 0
 IsRight (Passed expectation) text limit = Passes expectation text limit
 IsRight (Failed expectation) text limit = Fails expectation text limit

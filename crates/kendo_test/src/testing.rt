@@ -1,7 +1,7 @@
 //! The test of a program.
 
 ghost use Rattle.std.specs.Prelude.{◌≡◌, ◌⊎◌, ◌↔◌, IfErr, IfOk, IsErrOf};
-ghost use Rattle.kendo_test.specs.Passing.{IsRight, Passes};
+ghost use Rattle.kendo_test.specs.Passing.{IsRight, IsRightBy, Passes};
 ghost use Rattle.whole_run.specs.Runs.{IsLimit};
 
 use crate::differences::push_differences;
@@ -74,7 +74,7 @@ pub fn test_bytes<R: Threads + Wait + Sync, P: Progress>(
 }
 
 /// Like `test_bytes`, up to a limit within its bounds.
-#[tactic(auto, using(crate::proofs::Verdicts::failed_is_right))]
+#[tactic(auto, using(crate::proofs::Verdicts::right_by_any))]
 fn test<R: Threads + Wait + Sync, P: Progress>(
     rt: &R,
     alloc: Global,
@@ -105,7 +105,7 @@ fn source_of(alloc: Global, bytes: &[u8]) -> Result<Source, Fault> {
 }
 
 /// Compares the run of a program with what is expected, and then, if this is requested, searches its other orders.
-#[tactic(auto, using(crate::proofs::Verdicts::failed_is_right))]
+#[tactic(auto, using(crate::proofs::Verdicts::failed_is_right, crate::proofs::Verdicts::untested_is_right_by))]
 fn compare<R: Threads + Wait + Sync, P: Progress>(
     rt: &R,
     alloc: Global,
@@ -115,7 +115,7 @@ fn compare<R: Threads + Wait + Sync, P: Progress>(
     expectation: Expectation,
     progress: &mut P,
 ) -> Result<Tested, Memory>
-    ensures { IfOk result (λ tested. IsRight tested.verdict bytes.now options.limit) }
+    ensures { IfOk result (λ tested. IsRightBy expectation tested.verdict bytes.now options.limit) }
 {
     let text = Vec::from_slice(alloc, bytes)?;
     match run_expected(rt, alloc, text, options.limit, &expectation) {
@@ -141,7 +141,7 @@ fn search_others<P: Progress>(
     progress: &mut P,
 ) -> Result<Tested, Memory>
     requires { Passes expectation bytes.now options.limit }
-    ensures { IfOk result (λ tested. IsRight tested.verdict bytes.now options.limit) }
+    ensures { IfOk result (λ tested. IsRightBy expectation tested.verdict bytes.now options.limit) }
 {
     let mut said = Words::new(alloc);
     said.text("ok    ");
