@@ -1,2 +1,3 @@
 pub mod SameLines
 pub mod SortedLines
+pub mod Saying
