@@ -1,3 +1,4 @@
 pub mod Meeting
 pub mod Printing
 pub mod Saying
+pub mod Ends
