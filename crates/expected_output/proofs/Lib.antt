@@ -1,3 +1,4 @@
 pub mod SameLines
 pub mod SortedLines
 pub mod Saying
+pub mod Commenting

@@ -2,3 +2,4 @@ pub mod Meeting
 pub mod Printing
 pub mod Saying
 pub mod Ends
+pub mod Comments

@@ -1,5 +1,9 @@
 //! The comments of a program.
 
+ghost use Rattle.std.specs.Prelude.{◌≡◌, ◌==◌, ℕ, List, MatchOption, drop};
+ghost use Rattle.std.specs.List.{before_first, position_or_len};
+ghost use Rattle.expected_output.specs.Comments.{IsComment, IsFirstComment, unspaced};
+
 use go_text::{Fault, Source};
 use scanner::scan;
 use std::alloc::{AllocError, Global};
@@ -49,18 +53,18 @@ impl Comments {
                 most_lines = Some(if is_beside_token { 0 } else { 1 });
                 self.found.push(String::new(self.alloc))?;
             }
-            self.append(comment.text)?;
+            self.append(comment.body)?;
             rest = comment.rest;
         }
         Ok(())
     }
 
-    /// Appends a comment, with its marks, to the last one.
+    /// Appends a comment, without its marks, to the last one.
     fn append(&mut self, comment: &str) -> Result<(), AllocError> {
         let Some(last) = self.found.last_mut() else {
             return Ok(());
         };
-        for line in unmarked(comment).split('\n') {
+        for line in comment.split('\n') {
             last.push_str(line.trim_end())?;
             last.push('\n')?;
         }
@@ -68,36 +72,29 @@ impl Comments {
     }
 }
 
-/// What stands between the marks of a comment; of a line comment without the space after the mark.
-fn unmarked(comment: &str) -> &str {
-    if let Some(line) = comment.strip_prefix("//") {
-        return line.strip_prefix(" ").unwrap_or(line);
-    }
-    let inner = comment.strip_prefix("/*").unwrap_or(comment);
-    inner.strip_suffix("*/").unwrap_or(inner)
-}
-
-/// A comment with its marks, in what stands between two tokens.
+/// A comment in what stands between two tokens.
 #[derive(Clone, Copy)]
 struct Comment<'s> {
     /// The white space before it.
     before: &'s str,
-    text: &'s str,
+    /// What stands between its marks; of a line comment without the space after the mark.
+    body: &'s str,
     /// What stands after it.
     rest: &'s str,
 }
 
 impl<'s> Comment<'s> {
-    /// The first comment of a text that has only comments and white space; `None` if it has none.
-    fn first(gap: &'s str) -> Option<Comment<'s>> {
-        let start = gap.find('/')?;
-        let text = gap.get(start..)?;
-        let length = comment_len(text)?;
-        Some(Comment {
-            before: gap.get(..start)?,
-            text: text.get(..length)?,
-            rest: text.get(length..)?,
-        })
+    /// The first comment of a gap, which has only comments and white space; `None` if it has none.
+    fn first(gap: &'s str) -> Option<Comment<'s>>
+        ensures { MatchOption result ((before : List ℕ) (body : List ℕ) (rest : List ℕ) → IsFirstComment gap.entry.now before body rest → ⊥) (λ comment. IsFirstComment gap.entry.now comment.before.now comment.body.now comment.rest.now) }
+    {
+        let Some((before, text)) = gap.split_once('/') else {
+            return None;
+        };
+        match comment_after_slash(text) {
+            Some((body, rest)) => Some(Comment { before, body, rest }),
+            None => None,
+        }
     }
 
     /// How many lines end before it.
@@ -106,11 +103,45 @@ impl<'s> Comment<'s> {
     }
 }
 
-/// How many bytes the comment takes with which a text begins, without the end of the line of a line comment.
-fn comment_len(text: &str) -> Option<usize> {
-    if text.starts_with("//") {
-        return Some(text.find('\n').unwrap_or(text.len()));
+/// What a comment says that goes on here after its first slash, and what follows it; `None` if none does.
+fn comment_after_slash(text: &str) -> Option<(&str, &str)>
+    ensures { MatchOption result ((body : List ℕ) (rest : List ℕ) → IsComment text.entry.now body rest → ⊥) (λ parts. IsComment text.entry.now parts.0.now parts.1.now) }
+{
+    if let Some(line) = text.strip_prefix('/') {
+        return Some(line_comment(line));
     }
-    let inner = text.get(2..)?.find("*/")?;
-    Some(inner.saturating_add(4))
+    match text.strip_prefix('*') {
+        Some(inner) => inner.split_once("*/"),
+        None => None,
+    }
+}
+
+/// What a line comment says, without a space at its front, and what stands from the end of its line on.
+fn line_comment(line: &str) -> (&str, &str)
+    ensures body { result.0.now ≡ unspaced (before_first (λ b. b == 10) line.entry.now) }
+    ensures rest { result.1.now ≡ drop (position_or_len (λ b. b == 10) line.entry.now) line.entry.now }
+{
+    let (body, rest) = split_line(line);
+    (unspaced(body), rest)
+}
+
+/// The first line of a text without its end, and what stands from that on.
+fn split_line(text: &str) -> (&str, &str)
+    ensures line { result.0.now ≡ before_first (λ b. b == 10) text.entry.now }
+    ensures rest { result.1.now ≡ drop (position_or_len (λ b. b == 10) text.entry.now) text.entry.now }
+{
+    match text.find('\n') {
+        Some(at) => text.split_at(at),
+        None => (text, ""),
+    }
+}
+
+/// A text without a space at its front.
+fn unspaced(text: &str) -> &str
+    ensures { result.now ≡ unspaced text.entry.now }
+{
+    match text.strip_prefix(' ') {
+        Some(rest) => rest,
+        None => text,
+    }
 }

@@ -1,5 +1,5 @@
 -- What a command finds in a text, and the exit status that tells it.
-use Rattle.std.proofs.Common.{◌≡◌, ◌↔◌, ℕ, ◌≤◌, ◌<◌, ◌==◌, ◌^◌, ◌⊎◌, inl, inr, Bool, true, false, List, Result, Ok, Err, IfOk, IfErr, IsErrOf, refl, sym, ap, subst, ◌∙◌, arith}
+use Rattle.std.proofs.Common.{◌≡◌, ◌↔◌, ℕ, ◌≤◌, ◌<◌, ◌==◌, ◌^◌, cond, ◌⊎◌, inl, inr, Bool, true, false, List, Result, Ok, Err, IfOk, IfErr, IsErrOf, refl, sym, ap, subst, ◌∙◌, arith}
 use Rattle.std.proofs.lemmas.Bool.{cases_lt}
 use Rattle.kendo_shell.specs.Answers.{Finds, HasReading, IsInBounds, IsReason, IsStatus, IsStatusOf, IsVerdict, Tells, first_failed}
 use Rattle.command_line.specs.declared.arguments.Subcommand.{Subcommand}
@@ -263,7 +263,7 @@ told_status subcommand status (inl is) = inr (inl is)
 told_status subcommand status (inr (text, (outcome, finds, inl is))) = subst IsStatus (sym is) (outcome_is subcommand text outcome finds)
 told_status subcommand status (inr (text, (outcome, finds, inr is))) = verdict_is subcommand outcome status is
 
-is_one_of : (b : Bool) (first second status : ℕ) → status ≡ (if b then second else first) → (status ≡ first) ⊎ (status ≡ second)
+is_one_of : (b : Bool) (first second status : ℕ) → status ≡ cond b second first → (status ≡ first) ⊎ (status ≡ second)
 is_one_of true first second status is = inr is
 is_one_of false first second status is = inl is
 
