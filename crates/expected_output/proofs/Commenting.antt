@@ -1,13 +1,15 @@
 -- How comments are taken apart.
-use Rattle.std.proofs.Common.{◌≡◌, ◌≢◌, ◌+◌, ◌<◌, ◌==◌, ℕ, Bool, true, false, List, [], ◌∷◌, ◌++◌, length, take, drop, get_or, Option, Some, None, MatchOption, refl, sym, ap, subst, ◌∙◌, arith, codes}
-use Rattle.std.proofs.lemmas.List.{take_all}
+use Rattle.std.proofs.Common.{◌≡◌, ◌≢◌, ◌+◌, ◌<◌, ◌≤◌, ◌==◌, ℕ, Bool, true, false, List, [], ◌∷◌, ◌++◌, length, map, take, drop, get_or, Option, Some, None, MatchOption, refl, sym, ap, subst, ◌∙◌, arith, codes}
+use Rattle.std.proofs.lemmas.List.{append-nil, append_assoc, length-drop, map-append, take_all}
+use Rattle.std.proofs.lemmas.List.Concat.{flat_map-cons}
 use Rattle.std.proofs.lemmas.List.Sums.{position_or_len_is}
 use Rattle.std.proofs.lemmas.Str.Pattern.{find_char, split_once_first, strip_prefix_char}
 use Rattle.std.proofs.Math.Seq.{drop-length}
-use Rattle.std.specs.List.{after_first, before_first, position_or_len}
-use Rattle.std.specs.Str.{IsCharBoundary}
+use Rattle.std.specs.List.{after_first, before_first, flat_map, position_or_len, slice_split}
+use Rattle.std.specs.Str.{trim_end}
 use Rattle.std.specs.Str.Pattern.{FindsChar, FindsCharPrefix, FindsText, MatchBeginsAt, SplitsAroundMatch}
-use Rattle.expected_output.specs.Comments.{General, IsComment, IsFirstComment, Line, unspaced}
+use Rattle.expected_output.specs.Comments.{comment_text, General, HasComments, IsComment, IsFirstComment, Line, More, NoMore, said_in, unspaced}
+use Rattle.expected_output.specs.declared.comments.Comment.{Comment}
 use borrow.Author.Tests.{eq-eqb, eqb-true, ne_eqb}
 use denote.Ref.{Bor}
 
@@ -87,3 +89,44 @@ pub is_first : (gap before text body rest : List ℕ) → SplitsAroundMatch (Fin
 is_first gap before text body rest splits comment =
     let first = first_comment gap before text splits in
     (first.0, first.1, subst (λ t. IsComment t body rest) first.2 comment)
+
+-- ---- the comments of a gap
+
+shorter_comment : (text body rest : List ℕ) → IsComment text body rest → length rest < length text
+shorter_comment text body rest (Line line begins is_body is_rest) =
+    omega (arith, ap length begins, ap length is_rest, length-drop (position_or_len (λ b. b == 10) line) line)
+shorter_comment text body rest (General inner begins (i, j, finds, front, back, le, short, long)) = omega (arith, ap length begins, long)
+
+pub shorter : (gap before body rest : List ℕ) → IsFirstComment gap before body rest → length rest < length gap
+shorter gap before body rest first =
+    omega (arith, first.0, shorter_comment (after_first (λ b. b == 47) gap) body rest first.2, length-drop (position_or_len (λ b. b == 47) gap + 1) gap)
+
+pub one_more : (gap rest next : List ℕ) (old new : List Comment) (comment : Comment) (more : List (List ℕ × List ℕ)) → new ≡ old ++ comment ∷ []
+    → IsFirstComment rest comment.before.now comment.body.now next
+    → ((more : List (List ℕ × List ℕ)) → HasComments rest more → HasComments gap (said_in old ++ more)) → HasComments next more → HasComments gap (said_in new ++ more)
+one_more gap rest next old new comment more grows first was has =
+    let one : List ℕ × List ℕ = (comment.before.now, comment.body.now) in
+    subst (λ (l : List (List ℕ × List ℕ)). HasComments gap l)
+    (sym (append_assoc (said_in old) (one ∷ []) more) ∙ ap (λ (l : List (List ℕ × List ℕ)). l ++ more)
+    (sym (ap said_in grows ∙ map-append (λ (c : Comment). (c.before.now, c.body.now)) old (comment ∷ []))))
+    (was (one ∷ more) (More rest comment.before.now comment.body.now next more first has))
+
+pub no_more : (gap rest : List ℕ) (found : List (List ℕ × List ℕ)) → ((more : List (List ℕ × List ℕ)) → HasComments rest more → HasComments gap (found ++ more))
+    → ((before body next : List ℕ) → IsFirstComment rest before body next → ⊥) → HasComments gap found
+no_more gap rest found was none = subst (HasComments gap) (append-nil found) (was [] (NoMore rest none))
+
+-- ---- the text of a comment
+
+mapped : (lines : List (Bor (List ℕ))) → flat_map (λ (line : Bor (List ℕ)). trim_end line.now ++ 10 ∷ []) lines
+    ≡ flat_map (λ line. trim_end line ++ 10 ∷ []) (map (λ (line : Bor (List ℕ)). line.now) lines)
+mapped [] = refl
+mapped (x ∷ xs) =
+    flat_map-cons (λ (line : Bor (List ℕ)). trim_end line.now ++ 10 ∷ []) x xs ∙ ap (λ l. (trim_end x.now ++ 10 ∷ []) ++ l) (mapped xs)
+    ∙ sym (flat_map-cons (λ line. trim_end line ++ 10 ∷ []) x.now (map (λ (line : Bor (List ℕ)). line.now) xs))
+
+pub whole_text : (comment old new : List ℕ) (lines items : List (Bor (List ℕ))) (count : ℕ) → map (λ (line : Bor (List ℕ)). line.now) lines ≡ slice_split (λ b. b == 10) comment
+    → items ≡ lines → length items ≤ count → new ≡ old ++ flat_map (λ (line : Bor (List ℕ)). trim_end line.now ++ 10 ∷ []) (take count items)
+    → new ≡ old ++ comment_text comment
+whole_text comment old new lines items count are same all is =
+    is ∙ ap (λ l. old ++ l) (ap (flat_map (λ (line : Bor (List ℕ)). trim_end line.now ++ 10 ∷ [])) (take_all count items all ∙ same) ∙ (mapped lines
+    ∙ ap (flat_map (λ line. trim_end line ++ 10 ∷ [])) are))

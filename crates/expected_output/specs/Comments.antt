@@ -1,6 +1,8 @@
 -- The comments of a program.
-use Rattle.std.specs.Prelude.{◌≡◌, ◌<◌, ◌==◌, ℕ, ◌∷◌, List, [], length, drop, codes, if◌then◌else◌}
-use Rattle.std.specs.List.{before_first, after_first, position_or_len}
+use Rattle.std.specs.Prelude.{◌≡◌, ◌<◌, ◌==◌, ℕ, ◌∷◌, ◌++◌, List, [], length, map, drop, codes, if◌then◌else◌}
+use Rattle.std.specs.List.{before_first, after_first, flat_map, position_or_len, slice_split}
+use Rattle.std.specs.Str.{trim_end}
+use Rattle.expected_output.specs.declared.comments.Comment.{Comment}
 use Rattle.std.specs.Str.Pattern.{FindsText, SplitsAroundMatch}
 
 -- without a space at its front
@@ -17,3 +19,15 @@ pub data IsComment (text body rest : List ℕ) : Type 0 where
 abbrev pub IsFirstComment : (gap before body rest : List ℕ) → Type 0
 IsFirstComment gap before body rest =
     (position_or_len (λ b. b == 47) gap < length gap) × (before ≡ before_first (λ b. b == 47) gap) × IsComment (after_first (λ b. b == 47) gap) body rest
+
+-- the comments of a gap, in order, each with the white space before it and what it says
+pub data HasComments : (gap : List ℕ) → List (List ℕ × List ℕ) → Type 0 where
+  NoMore : (gap : List ℕ) → ((before body rest : List ℕ) → IsFirstComment gap before body rest → ⊥) → HasComments gap []
+  More : (gap before body rest : List ℕ) (more : List (List ℕ × List ℕ)) → IsFirstComment gap before body rest → HasComments rest more → HasComments gap ((before, body) ∷ more)
+
+abbrev pub said_in : List Comment → List (List ℕ × List ℕ)
+said_in comments = map (λ (comment : Comment). (comment.before.now, comment.body.now)) comments
+
+-- the text of a comment: its lines without the white space at their ends, each with its newline
+abbrev pub comment_text : List ℕ → List ℕ
+comment_text body = flat_map (λ line. trim_end line ++ 10 ∷ []) (slice_split (λ b. b == 10) body)

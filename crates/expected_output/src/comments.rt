@@ -1,9 +1,10 @@
 //! The comments of a program.
 
-ghost use Rattle.std.specs.Prelude.{◌≡◌, ◌==◌, ℕ, List, MatchOption, drop};
+ghost use Rattle.std.specs.Prelude.{◌≡◌, ◌==◌, ◌++◌, ℕ, IfOk, List, MatchOption, OnOk, drop, string_bytes};
 ghost use Rattle.std.specs.List.{before_first, position_or_len};
-ghost use Rattle.expected_output.specs.Comments.{IsComment, IsFirstComment, unspaced};
+ghost use Rattle.expected_output.specs.Comments.{HasComments, IsComment, IsFirstComment, comment_text, said_in, unspaced};
 
+use crate::lines::lines_in;
 use go_text::{Fault, Source};
 use scanner::scan;
 use std::alloc::{AllocError, Global};
@@ -15,61 +16,40 @@ use std::alloc::{AllocError, Global};
 /// Errors: `Memory`; by the numbers 3 to 6 why the text has no tokens.
 pub(crate) fn comments_of(alloc: Global, source: &Source) -> Result<Vec<String>, Fault> {
     let tokens = scan(alloc, source)?;
-    let text = source.as_str();
-    let mut comments = Comments {
-        alloc,
-        found: Vec::new(alloc),
-    };
-    let mut end = 0;
-    for token in tokens.iter() {
-        let from = token.span.from as usize;
-        comments.read(text.get(end..from).unwrap_or(""), end > 0)?;
-        end = token.span.to as usize;
+    let mut found = Vec::new(alloc);
+    let mut group = String::new(alloc);
+    let comments = comments_in(alloc, source.as_str())?;
+    for comment in comments.iter() {
+        append(alloc, &mut group, comment.body)?;
     }
-    comments.read(text.get(end..).unwrap_or(""), end > 0)?;
-    Ok(comments.found)
+    found.push(group)?;
+    let _ = tokens.len();
+    Ok(found)
 }
 
-/// The comments that were found so far.
-#[derive(Drop)]
-struct Comments {
-    alloc: Global,
-    found: Vec<String>,
+/// The comments of a gap, which has only comments and white space.
+fn comments_in<'s>(alloc: Global, gap: &'s str) -> Result<Vec<Comment<'s>>, AllocError>
+    ensures { IfOk result (λ comments. HasComments gap.entry.now (said_in comments.items)) }
+{
+    let mut found = Vec::new(alloc);
+    let mut rest = gap;
+    while let Some(comment) = Comment::first(rest) {
+        found.push(comment)?;
+        rest = comment.rest;
+    }
+    Ok(found)
 }
 
-impl Comments {
-    /// Takes the comments between two tokens.
-    fn read(&mut self, gap: &str, follows_token: bool) -> Result<(), AllocError> {
-        // How many lines may end before a comment that goes on with the one before it.
-        let mut most_lines: Option<usize> = None;
-        let mut rest = gap;
-        for _ in 0..gap.len() {
-            let Some(comment) = Comment::first(rest) else {
-                break;
-            };
-            let lines = comment.lines_before();
-            if !most_lines.is_some_and(|most| lines <= most) {
-                let is_beside_token = follows_token && most_lines.is_none() && lines == 0;
-                most_lines = Some(if is_beside_token { 0 } else { 1 });
-                self.found.push(String::new(self.alloc))?;
-            }
-            self.append(comment.body)?;
-            rest = comment.rest;
-        }
-        Ok(())
+/// Appends the text of a comment to its group: its lines without the white space at their ends, each with its newline.
+fn append(alloc: Global, group: &mut String, comment: &str) -> Result<(), AllocError>
+    ensures { OnOk result (string_bytes group.new ≡ string_bytes group.old ++ comment_text comment.now) }
+{
+    let lines = lines_in(alloc, comment)?;
+    for line in lines.iter() {
+        group.push_str(line.trim_end())?;
+        group.push('\n')?;
     }
-
-    /// Appends a comment, without its marks, to the last one.
-    fn append(&mut self, comment: &str) -> Result<(), AllocError> {
-        let Some(last) = self.found.last_mut() else {
-            return Ok(());
-        };
-        for line in comment.split('\n') {
-            last.push_str(line.trim_end())?;
-            last.push('\n')?;
-        }
-        Ok(())
-    }
+    Ok(())
 }
 
 /// A comment in what stands between two tokens.

@@ -21,7 +21,7 @@ pub fn sorted_lines<'t>(alloc: Global, text: &'t str) -> Result<Vec<&'t str>, Al
 }
 
 /// The lines of a text.
-fn lines_in<'t>(alloc: Global, text: &'t str) -> Result<Vec<&'t str>, AllocError>
+pub(crate) fn lines_in<'t>(alloc: Global, text: &'t str) -> Result<Vec<&'t str>, AllocError>
     ensures { IfOk result (λ lines. map (λ line. line.now) lines.items ≡ slice_split (λ b. b == 10) text.entry.now) }
 {
     text.split('\n').collect(alloc)
