@@ -2,3 +2,4 @@ pub mod SameLines
 pub mod SortedLines
 pub mod Saying
 pub mod Commenting
+pub mod Grouping

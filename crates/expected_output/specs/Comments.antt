@@ -1,6 +1,6 @@
 -- The comments of a program.
-use Rattle.std.specs.Prelude.{◌≡◌, ◌<◌, ◌==◌, ℕ, ◌∷◌, ◌++◌, List, [], length, map, drop, codes, if◌then◌else◌}
-use Rattle.std.specs.List.{before_first, after_first, flat_map, position_or_len, slice_split}
+use Rattle.std.specs.Prelude.{◌≡◌, ◌+◌, ◌<◌, ◌==◌, ℕ, ◌∷◌, ◌++◌, List, [], length, map, take, drop, codes, not, nat_lt, ◌&&◌, Bool, false, if◌then◌else◌}
+use Rattle.std.specs.List.{before_first, after_first, count_by, flat_map, position_or_len, prefix_len, slice_split}
 use Rattle.std.specs.Str.{trim_end}
 use Rattle.expected_output.specs.declared.comments.Comment.{Comment}
 use Rattle.std.specs.Str.Pattern.{FindsText, SplitsAroundMatch}
@@ -31,3 +31,32 @@ said_in comments = map (λ (comment : Comment). (comment.before.now, comment.bod
 -- the text of a comment: its lines without the white space at their ends, each with its newline
 abbrev pub comment_text : List ℕ → List ℕ
 comment_text body = flat_map (λ line. trim_end line ++ 10 ∷ []) (slice_split (λ b. b == 10) body)
+
+-- how many lines end in the white space before a comment
+abbrev pub lines_before : List ℕ × List ℕ → ℕ
+lines_before comment = count_by (λ b. b == 10) comment.0
+
+-- how many lines may end between the comments of a group whose first comment this is: none if it stands on the line of a token
+abbrev pub most_lines : (follows_token : Bool) → List ℕ × List ℕ → ℕ
+most_lines follows_token first = if follows_token && (lines_before first == 0) then 0 else 1
+
+-- how many comments go on with the one before them
+abbrev pub group_size : (most : ℕ) → List (List ℕ × List ℕ) → ℕ
+group_size most comments = prefix_len (λ comment. not (nat_lt most (lines_before comment))) comments
+
+abbrev pub group_text : List (List ℕ × List ℕ) → List ℕ
+group_text comments = flat_map (λ (comment : List ℕ × List ℕ). comment_text comment.1) comments
+
+-- the text of the first group of comments, which are `size`
+pub record IsFirstGroup (follows_token : Bool) (comments : List (List ℕ × List ℕ)) (text : List ℕ) (size : ℕ) : Type 0 where
+  pub first : List ℕ × List ℕ
+  pub more : List (List ℕ × List ℕ)
+  pub all : comments ≡ first ∷ more
+  pub count : size ≡ 1 + group_size (most_lines follows_token first) more
+  pub is : text ≡ comment_text first.1 ++ group_text (take (group_size (most_lines follows_token first) more) more)
+
+-- the texts of the groups of comments between two tokens (Go: `ast.CommentGroup`)
+pub data AreGroups : (follows_token : Bool) → List (List ℕ × List ℕ) → List (List ℕ) → Type 0 where
+  NoGroup : (follows_token : Bool) → AreGroups follows_token [] []
+  Group : (follows_token : Bool) (comments : List (List ℕ × List ℕ)) (text : List ℕ) (size : ℕ) (groups : List (List ℕ)) → IsFirstGroup follows_token comments text size
+      → AreGroups false (drop size comments) groups → AreGroups follows_token comments (text ∷ groups)

@@ -1,8 +1,8 @@
 //! The comments of a program.
 
-ghost use Rattle.std.specs.Prelude.{◌≡◌, ◌==◌, ◌++◌, ℕ, IfOk, List, MatchOption, OnOk, drop, string_bytes};
+ghost use Rattle.std.specs.Prelude.{◌≡◌, ◌≤◌, ◌==◌, ◌++◌, ℕ, IfOk, List, MatchOption, OnOk, drop, length, map, string_bytes};
 ghost use Rattle.std.specs.List.{before_first, position_or_len};
-ghost use Rattle.expected_output.specs.Comments.{HasComments, IsComment, IsFirstComment, comment_text, said_in, unspaced};
+ghost use Rattle.expected_output.specs.Comments.{AreGroups, HasComments, IsComment, IsFirstComment, IsFirstGroup, comment_text, group_size, group_text, lines_before, most_lines, said_in, unspaced};
 
 use crate::lines::lines_in;
 use go_text::{Fault, Source};
@@ -38,6 +38,71 @@ fn comments_in<'s>(alloc: Global, gap: &'s str) -> Result<Vec<Comment<'s>>, Allo
         rest = comment.rest;
     }
     Ok(found)
+}
+
+/// The texts of the groups of comments between two tokens. `follows_token` says whether a token stands before them.
+fn groups_of(
+    alloc: Global,
+    comments: &[Comment<'_>],
+    follows_token: bool,
+) -> Result<Vec<String>, AllocError>
+    ensures { IfOk result (λ groups. AreGroups follows_token (said_in comments.now) (map string_bytes groups.items)) }
+{
+    let mut groups = Vec::new(alloc);
+    let mut at = 0;
+    let mut follows = follows_token;
+    while at < comments.len() {
+        let (group, size) = first_group(alloc, &comments[at..], follows)?;
+        groups.push(group)?;
+        at += size;
+        follows = false;
+    }
+    Ok(groups)
+}
+
+/// The text of the first group of comments, and how many comments that is.
+fn first_group(
+    alloc: Global,
+    comments: &[Comment<'_>],
+    follows_token: bool,
+) -> Result<(String, usize), AllocError>
+    requires { 1 ≤ length comments.now }
+    ensures group { IfOk result (λ found. IsFirstGroup follows_token (said_in comments.now) (string_bytes found.0) found.1) }
+    ensures size { IfOk result (λ found. (1 ≤ found.1) × (found.1 ≤ length comments.now)) }
+{
+    let mut group = String::new(alloc);
+    let Some((first, more)) = comments.split_first() else {
+        return Ok((group, 1));
+    };
+    let size = group_size(more, first.most_lines(follows_token));
+    append(alloc, &mut group, first.body)?;
+    append_all(alloc, &mut group, &more[..size])?;
+    Ok((group, 1 + size))
+}
+
+/// How many of these comments go on with the one before them, if at most `most` lines may end between them.
+fn group_size(comments: &[Comment<'_>], most: usize) -> usize
+    ensures value { result ≡ group_size most (said_in comments.now) }
+    ensures bound { result ≤ length comments.now }
+{
+    let mut size = 0;
+    for comment in comments {
+        if comment.lines_before() > most {
+            break;
+        }
+        size += 1;
+    }
+    size
+}
+
+/// Appends the texts of comments to their group.
+fn append_all(alloc: Global, group: &mut String, comments: &[Comment<'_>]) -> Result<(), AllocError>
+    ensures { OnOk result (string_bytes group.new ≡ string_bytes group.old ++ group_text (said_in comments.now)) }
+{
+    for comment in comments {
+        append(alloc, group, comment.body)?;
+    }
+    Ok(())
 }
 
 /// Appends the text of a comment to its group: its lines without the white space at their ends, each with its newline.
@@ -77,9 +142,28 @@ impl<'s> Comment<'s> {
         }
     }
 
-    /// How many lines end before it.
-    fn lines_before(self) -> usize {
-        self.before.bytes().filter(|byte| *byte == b'\n').count()
+    /// How many lines end in the white space before it.
+    fn lines_before(self) -> usize
+        ensures { result ≡ lines_before (self.entry.before.now, self.entry.body.now) }
+    {
+        let mut lines = 0;
+        for byte in self.before.as_bytes() {
+            if *byte == b'\n' {
+                lines += 1;
+            }
+        }
+        lines
+    }
+
+    /// How many lines may end between the comments of a group whose first one this is: none if it stands on the line of a token.
+    fn most_lines(self, follows_token: bool) -> usize
+        ensures { result ≡ most_lines follows_token (self.entry.before.now, self.entry.body.now) }
+    {
+        if follows_token && self.lines_before() == 0 {
+            0
+        } else {
+            1
+        }
     }
 }
 
