@@ -3,3 +3,4 @@ pub mod SortedLines
 pub mod Saying
 pub mod Commenting
 pub mod Grouping
+pub mod Around

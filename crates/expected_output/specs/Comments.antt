@@ -1,8 +1,10 @@
 -- The comments of a program.
-use Rattle.std.specs.Prelude.{◌≡◌, ◌+◌, ◌<◌, ◌==◌, ℕ, ◌∷◌, ◌++◌, List, [], length, map, take, drop, codes, not, nat_lt, ◌&&◌, Bool, false, if◌then◌else◌}
-use Rattle.std.specs.List.{before_first, after_first, count_by, flat_map, position_or_len, prefix_len, slice_split}
-use Rattle.std.specs.Str.{trim_end}
+use Rattle.std.specs.Prelude.{◌≡◌, ◌⊎◌, ◌+◌, ◌<◌, ◌≤◌, ◌==◌, ℕ, ◌∷◌, ◌++◌, List, [], length, map, take, drop, codes, not, nat_lt, ◌&&◌, Bool, false, Ok, if◌then◌else◌}
+use Rattle.std.specs.List.{before_first, after_first, count_by, flat_map, position_or_len, prefix_len, slice_range, slice_split}
+use Rattle.std.specs.Str.{IsCharBoundary, trim_end}
 use Rattle.expected_output.specs.declared.comments.Comment.{Comment}
+use Rattle.scanner.specs.Tokens.{tokens_of}
+use Rattle.scanner.specs.declared.token.Token.{Token}
 use Rattle.std.specs.Str.Pattern.{FindsText, SplitsAroundMatch}
 
 -- without a space at its front
@@ -60,3 +62,25 @@ pub data AreGroups : (follows_token : Bool) → List (List ℕ × List ℕ) → 
   NoGroup : (follows_token : Bool) → AreGroups follows_token [] []
   Group : (follows_token : Bool) (comments : List (List ℕ × List ℕ)) (text : List ℕ) (size : ℕ) (groups : List (List ℕ)) → IsFirstGroup follows_token comments text size
       → AreGroups false (drop size comments) groups → AreGroups follows_token comments (text ∷ groups)
+
+-- the bytes between two tokens; none if they would cut a character, which tokens don't
+abbrev pub CanCut : (text : List ℕ) → (from to : ℕ) → Type 0
+CanCut text from to = (from ≤ to) × IsCharBoundary text from × IsCharBoundary text to
+
+abbrev pub IsGap : (text : List ℕ) → (from to : ℕ) → (gap : List ℕ) → Type 0
+IsGap text from to gap = (gap ≡ slice_range text from to) ⊎ ((CanCut text from to → ⊥) × (gap ≡ []))
+
+-- the texts of the groups of comments there
+abbrev pub AreBetween : (text : List ℕ) → (from to : ℕ) → List (List ℕ) → Type 0
+AreBetween text from to groups =
+    (gap : List ℕ) × (comments : List (List ℕ × List ℕ)) × IsGap text from to gap × HasComments gap comments × AreGroups (nat_lt 0 from) comments groups
+
+-- the texts of the comments from the end of a token on, before these tokens and after them
+pub data AreComments (text : List ℕ) : (end : ℕ) → List Token → List (List ℕ) → Type 0 where
+  Rest : (end : ℕ) (groups : List (List ℕ)) → AreBetween text end (length text) groups → AreComments text end [] groups
+  Before : (end : ℕ) (token : Token) (tokens : List Token) (groups later : List (List ℕ)) → AreBetween text end token.span.from groups
+      → AreComments text token.span.to tokens later → AreComments text end (token ∷ tokens) (groups ++ later)
+
+-- the texts of the comments of a source that has tokens
+abbrev pub IsCommented : (text : List ℕ) → List (List ℕ) → Type 0
+IsCommented text comments = (tokens : List Token) × (tokens_of text ≡ Ok tokens) × AreComments text 0 tokens comments

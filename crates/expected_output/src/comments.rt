@@ -1,12 +1,14 @@
 //! The comments of a program.
 
-ghost use Rattle.std.specs.Prelude.{◌≡◌, ◌≤◌, ◌==◌, ◌++◌, ℕ, IfOk, List, MatchOption, OnOk, drop, length, map, string_bytes};
+ghost use Rattle.std.specs.Prelude.{◌≡◌, ◌⊎◌, ◌≤◌, ◌==◌, ◌++◌, ℕ, Err, IfErr, IfOk, List, MatchOption, OnOk, drop, length, map, string_bytes};
 ghost use Rattle.std.specs.List.{before_first, position_or_len};
-ghost use Rattle.expected_output.specs.Comments.{AreGroups, HasComments, IsComment, IsFirstComment, IsFirstGroup, comment_text, group_size, group_text, lines_before, most_lines, said_in, unspaced};
+ghost use Rattle.go_text.specs.Source.{bytes_of};
+ghost use Rattle.scanner.specs.Tokens.{tokens_of};
+ghost use Rattle.expected_output.specs.Comments.{AreBetween, AreComments, AreGroups, IsCommented, IsGap, HasComments, IsComment, IsFirstComment, IsFirstGroup, comment_text, group_size, group_text, lines_before, most_lines, said_in, unspaced};
 
 use crate::lines::lines_in;
 use go_text::{Fault, Source};
-use scanner::scan;
+use scanner::{Token, scan};
 use std::alloc::{AllocError, Global};
 
 /// The comments of a program in order, each without its marks and the white space at the ends of its lines, of which each ends in a
@@ -14,17 +16,56 @@ use std::alloc::{AllocError, Global};
 /// goes on on that line alone. (Go: `ast.CommentGroup`.)
 ///
 /// Errors: `Memory`; by the numbers 3 to 6 why the text has no tokens.
-pub(crate) fn comments_of(alloc: Global, source: &Source) -> Result<Vec<String>, Fault> {
+pub(crate) fn comments_of(alloc: Global, source: &Source) -> Result<Vec<String>, Fault>
+    ensures comments { IfOk result (λ comments. IsCommented (bytes_of source.now) (map string_bytes comments.items)) }
+    ensures fault { IfErr result (λ fault. (fault ≡ Fault.Memory) ⊎ (tokens_of (bytes_of source.now) ≡ Err fault)) }
+{
     let tokens = scan(alloc, source)?;
-    let mut found = Vec::new(alloc);
-    let mut group = String::new(alloc);
-    let comments = comments_in(alloc, source.as_str())?;
-    for comment in comments.iter() {
-        append(alloc, &mut group, comment.body)?;
-    }
-    found.push(group)?;
-    let _ = tokens.len();
+    let found = comments_around(alloc, source.as_str(), tokens.as_slice())?;
     Ok(found)
+}
+
+/// The comments of a text with these tokens.
+fn comments_around(
+    alloc: Global,
+    text: &str,
+    tokens: &[Token],
+) -> Result<Vec<String>, AllocError>
+    ensures { IfOk result (λ comments. AreComments text.now 0 tokens.now (map string_bytes comments.items)) }
+{
+    let mut found = Vec::new(alloc);
+    let mut end = 0;
+    for token in tokens {
+        let mut groups = comments_between(alloc, text, end, token.span.from as usize)?;
+        found.append(&mut groups)?;
+        end = token.span.to as usize;
+    }
+    let mut groups = comments_between(alloc, text, end, text.len())?;
+    found.append(&mut groups)?;
+    Ok(found)
+}
+
+/// The comments between two tokens, of which one ends at `from` and one begins at `to`.
+fn comments_between(
+    alloc: Global,
+    text: &str,
+    from: usize,
+    to: usize,
+) -> Result<Vec<String>, AllocError>
+    ensures { IfOk result (λ comments. AreBetween text.now from to (map string_bytes comments.items)) }
+{
+    let comments = comments_in(alloc, gap(text, from, to))?;
+    groups_of(alloc, comments.as_slice(), from > 0)
+}
+
+/// The bytes between two tokens; none if they would cut a character, which tokens don't.
+fn gap(text: &str, from: usize, to: usize) -> &str
+    ensures { IsGap text.entry.now from to result.now }
+{
+    match text.get(from..to) {
+        Some(gap) => gap,
+        None => "",
+    }
 }
 
 /// The comments of a gap, which has only comments and white space.
