@@ -1,8 +1,7 @@
 -- How comments are grouped.
-use Rattle.std.proofs.Common.{◌≡◌, ◌+◌, ◌-◌, ◌<◌, ◌≤◌, ℕ, zero, suc, Bool, true, false, not, nat_lt, List, [], ◌∷◌, ◌++◌, length, map, take, drop, get_or, refl, sym, ap, subst, ◌∙◌, arith}
-use Rattle.std.proofs.lemmas.List.{append-nil, append_assoc, drop-drop, drop-map, drop_all, get_or-map, get_or_default, length-drop, length-map, map-append, take-map, take_all, take_more}
+use Rattle.std.proofs.Common.{◌≡◌, ◌+◌, ◌-◌, ◌<◌, ◌≤◌, ℕ, zero, suc, Bool, true, false, not, nat_lt, List, [], ◌∷◌, ◌++◌, length, take, drop, get_or, refl, sym, ap, subst, ◌∙◌, arith}
+use Rattle.std.proofs.lemmas.List.{append-nil, append_assoc, drop-drop, drop-map, drop_all, get_or-map, get_or_default, length-drop, length-map, take-map, take_all, take_more}
 use Rattle.std.proofs.lemmas.List.Concat.{flat_map-append}
-use Rattle.std.specs.List.{prefix_len}
 use Rattle.expected_output.specs.Comments.{AreGroups, comment_text, Group, group_size, group_text, IsFirstGroup, lines_before, most_lines, NoGroup, said_in}
 use Rattle.expected_output.specs.declared.comments.Comment.{Comment}
 use denote.Ref.{Bor}

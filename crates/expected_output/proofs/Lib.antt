@@ -4,3 +4,4 @@ pub mod Saying
 pub mod Commenting
 pub mod Grouping
 pub mod Around
+pub mod Expecting

@@ -1,5 +1,5 @@
 -- What stands after words at the front of a text.
-use Rattle.std.proofs.Common.{◌≡◌, ◌≢◌, ◌<◌, [], slice_index, ◌↔◌, ℕ, ◌+◌, ◌-◌, ◌≤◌, Bool, true, false, List, length, map, take, drop, Option, Some, None, MatchOption, IsTrue, refl, sym, ap, ap₂, subst, ◌∙◌, arith, ◌++◌, ◌∷◌, get_or, codes}
+use Rattle.std.proofs.Common.{◌≡◌, ◌≢◌, ◌<◌, [], slice_index, ◌↔◌, ℕ, ◌+◌, ◌-◌, ◌≤◌, Bool, false, List, length, map, take, drop, Option, Some, None, MatchOption, IsTrue, sym, ap, ap₂, subst, ◌∙◌, arith, ◌++◌, ◌∷◌, get_or, codes}
 use Rattle.std.proofs.lemmas.List.{get_or-drop, length-append, length-drop, take-append-drop, take_all}
 use Rattle.std.proofs.lemmas.Str.Pattern.{drop_at_char, rfind_char}
 use Rattle.std.proofs.lemmas.Str.{IsCharBoundary-from_take, IsCharBoundary-start}
@@ -26,12 +26,11 @@ other_front text words front same is told other begins =
 pub after_front : (text words front : List ℕ) (result : Option (Bor (List ℕ))) → IsUtf8 text → IsUtf8 front → length words ≤ length text → front ≡ slice_range text 0 (length words)
     → map to_ascii_lowercase front ≡ map to_ascii_lowercase words
     → MatchOption result (length words ≤ length text → IsCharBoundary text (length words) → IsCharBoundary text (length text) → ⊥)
-        (λ x. (x.now ≡ slice_range text (length words) (length text)) × (length x.now + length words ≡ length text) × (length text ≤ length text))
+    (λ x. (x.now ≡ slice_range text (length words) (length text)) × (length x.now + length words ≡ length text) × (length text ≤ length text))
     → MatchOption result (Begins words text → ⊥) (λ x. IsAfter words text x.now)
 after_front text words front None utf8 front_utf8 short is same none = λ begins. none short begins.0 (omega arith, λ lt. absurd (omega (arith, lt)))
 after_front text words front (Some x) utf8 front_utf8 short is same some =
-    let front_is_taken = front_is text front (length words) is in
-    (
+    let front_is_taken = front_is text front (length words) is in (
       (IsCharBoundary-from_take text (length words) utf8 short (subst IsUtf8 front_is_taken front_utf8), ap (map to_ascii_lowercase) (sym front_is_taken) ∙ same),
       some.0 ∙ take_all (length text - length words) (drop (length words) text) (omega (arith, length-drop (length words) text)),
     )
@@ -52,8 +51,7 @@ last_line text None none = λ before line last.
 last_line text (Some x) (i, j, finds, front, back, le, short, long) =
     let at = finds.1 in
     let next : j ≡ i + 1 = at.ends in
-    let last = rfind_char 10 text (Some i) (j, finds, le, starts text i j at, subst (IsCharBoundary text) (sym at.ends) at.after) (omega arith) in
-    (
+    let last = rfind_char 10 text (Some i) (j, finds, le, starts text i j at, subst (IsCharBoundary text) (sym at.ends) at.after) (omega arith) in (
       sym (take-append-drop i text) ∙ ap₂ (λ (a b : List ℕ). a ++ b) (sym front) (drop_at_char 10 text i j at (omega arith) ∙ ap (λ (l : List ℕ). 10 ∷ l) (sym back)),
       λ k lt is. last.2 (j + k) (omega (arith, next)) (omega (arith, next, lt, ap length back, length-drop j text)) (sym (get_or-drop j text k 0) ∙ (ap (λ l. get_or l k 0) (sym back) ∙ is)),
     )

@@ -3,3 +3,4 @@ pub mod Printing
 pub mod Saying
 pub mod Ends
 pub mod Comments
+pub mod Expecting

@@ -26,11 +26,7 @@ pub(crate) fn comments_of(alloc: Global, source: &Source) -> Result<Vec<String>,
 }
 
 /// The comments of a text with these tokens.
-fn comments_around(
-    alloc: Global,
-    text: &str,
-    tokens: &[Token],
-) -> Result<Vec<String>, AllocError>
+fn comments_around(alloc: Global, text: &str, tokens: &[Token]) -> Result<Vec<String>, AllocError>
     ensures { IfOk result (λ comments. AreComments text.now 0 tokens.now (map string_bytes comments.items)) }
 {
     let mut found = Vec::new(alloc);

@@ -1,5 +1,5 @@
 use Rattle.std.proofs.Common.{rules}
-use Rattle.expected_output.proofs.Saying.{after_front, no_front, other_front}
+use Rattle.expected_output.proofs.Saying.{after_front, no_front}
 use Rattle.expected_output.proofs.said.after_words.Goals as goal
 
 pub returns-in_default : goal.returns-in_default
