@@ -11,4 +11,4 @@ mod said;
 
 pub use expectation::{Expectation, ExpectationError, ExpectedOutput};
 pub use lines::sorted_lines;
-pub use printed::Printed;
+pub use printed::{MOST_BYTES, Printed};

@@ -1,36 +1,41 @@
 //! What a run prints.
 
-ghost use Rattle.std.specs.Prelude.{◌≡◌, [], Some};
+ghost use Rattle.std.specs.Prelude.{◌≡◌, ◌≤◌, [], IsTrue, Some, length};
+ghost use Rattle.expected_output.specs.declared.printed.TheConstants.{MOST_BYTES};
 
 use std::alloc::Global;
 use word::{Write, WriteFault};
 
-/// Takes what a run prints, and refuses to take more than `most` bytes.
+/// The most bytes of an output that is compared.
+pub const MOST_BYTES: usize = 1 << 24;
+
+/// Takes what a run prints, up to `MOST_BYTES` bytes.
 #[derive(Drop)]
 pub struct Printed {
     bytes: Vec<u8>,
-    most: usize,
     is_full: bool,
     failed: bool,
+    ghost full: { IsTrue is_full → MOST_BYTES ≤ length bytes.items },
 }
 
 impl Printed {
     ghost use Rattle.expected_output.specs.Printing.{printed_in};
 
-    /// Nothing, of at most `most` bytes.
-    pub fn new(alloc: Global, most: usize) -> Printed
+    /// Nothing yet.
+    pub fn new(alloc: Global) -> Printed
         ensures { printed_in result ≡ [] }
     {
         Printed {
             bytes: Vec::new(alloc),
-            most,
             is_full: false,
             failed: false,
         }
     }
 
-    /// Whether it ever refused bytes because they were too many.
-    pub fn is_full(&self) -> bool {
+    /// Whether it ever refused bytes since it had taken as many as it takes.
+    pub fn is_full(&self) -> bool
+        ensures { IsTrue result → MOST_BYTES ≤ length (printed_in self.now) }
+    {
         self.is_full
     }
 
@@ -50,13 +55,14 @@ impl Write for Printed {
     ghost has_failed = { λ printed. failed_of printed };
 
     fn write(&mut self, piece: &[u8]) -> Result<usize, WriteFault> {
-        if piece.len() > self.most.saturating_sub(self.bytes.len()) {
+        let taken = piece.len().min(MOST_BYTES.saturating_sub(self.bytes.len()));
+        if taken == 0 && !piece.is_empty() {
             self.is_full = true;
             self.failed = true;
             return Err(WriteFault);
         }
-        match self.bytes.extend_from_slice(piece) {
-            Ok(()) => Ok(piece.len()),
+        match self.bytes.extend_from_slice(&piece[..taken]) {
+            Ok(()) => Ok(taken),
             Err(_) => {
                 self.failed = true;
                 Err(WriteFault)

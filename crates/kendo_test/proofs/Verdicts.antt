@@ -1,37 +1,82 @@
 -- Verdicts are right.
-use Rattle.std.proofs.Common.{◌≡◌, inr, ℕ, ◌<◌, All, List, [], ◌∷◌, Result, Ok, Err, IfOk, length, refl, sym, subst, arith}
+use Rattle.std.proofs.Common.{◌≡◌, ◌⊎◌, ◌∙◌, inl, inr, ℕ, ◌<◌, All, List, [], ◌∷◌, Result, Ok, Err, IfOk, length, refl, sym, subst, arith, string_bytes}
 use Rattle.kendo_explore.specs.Explored.{end_by, ends_by}
 use Rattle.kendo_explore.specs.declared.exploring.PlanFile.{PlanFile}
 use Rattle.expected_output.specs.declared.expectation.Expectation.{Expectation}
-use Rattle.kendo_test.specs.Passing.{Fails, FailsBy, IsRight, IsRightBy}
+use Rattle.expected_output.specs.Expecting.{IsSaidIn, IsUnknown, IsWhyNot}
+use Rattle.expected_output.specs.declared.expectation.ExpectationError.{ExpectationError}
+use Rattle.expected_output.specs.declared.expectation.ExpectationError.TheVariants as errors
+use Rattle.go_text.specs.declared.fault.Fault.{Fault}
+use Rattle.go_text.specs.declared.fault.Fault.TheVariants as faults
+use Rattle.kendo_reading.specs.Reading.{HasNoReading, IsOfText, IsRefusal, Reads}
+use Rattle.kendo_test.specs.Passing.{CannotBeTested, Fails, FailsBy, IsRight, IsRightBy, IsUntold, PrintsTooMuch}
+use Rattle.scanner.specs.Tokens.{tokens_of}
+use Rattle.syntax.specs.Tree.{File}
 use Rattle.kendo_test.specs.declared.testing.Tested.{Tested}
 use Rattle.kendo_test.specs.declared.testing.Verdict.{Verdict}
 use Rattle.kendo_test.specs.declared.testing.Verdict.TheVariants.{Failed, Passed, Untested}
 
-pub untested_is_right : {E : Type 0} (result : Result Tested E) (text : List ℕ) (limit : ℕ) → IfOk result (λ tested. tested.verdict ≡ Untested)
-    → IfOk result (λ tested. IsRight tested.verdict text limit)
-untested_is_right (Ok tested) text limit is = subst (λ (v : Verdict). IsRight v text limit) (sym is) tt
-untested_is_right (Err error) text limit is = tt
+-- why a test was left by this fault
+of_fault : (text : List ℕ) (limit : ℕ) (fault : Fault) → IsRefusal fault ⊎ ((fault ≡ faults.Memory) ⊎ (fault ≡ faults.Write)) → (fault ≡ faults.Memory → ⊥) → (IsRefusal fault → HasNoReading text)
+    → (fault ≡ faults.Write → PrintsTooMuch text limit) → CannotBeTested text limit
+of_fault text limit fault (inl is) other refused much = inl (refused is)
+of_fault text limit fault (inr (inl is)) other refused much = absurd (other is)
+of_fault text limit fault (inr (inr is)) other refused much = inr (inr (much is))
+
+-- a text that has no reading, or prints too much
+pub refused_is_right : {E : Type 0} (result : Result Tested E) (expectation : Expectation) (text : List ℕ) (limit : ℕ) (fault : Fault) → IfOk result (λ tested. tested.verdict ≡ Untested)
+    → IfOk result (λ _. fault ≡ faults.Memory → ⊥) → IsRefusal fault ⊎ ((fault ≡ faults.Memory) ⊎ (fault ≡ faults.Write)) → (IsRefusal fault → HasNoReading text)
+    → (fault ≡ faults.Write → PrintsTooMuch text limit) → IfOk result (λ tested. IsRightBy expectation tested.verdict text limit)
+refused_is_right (Ok tested) expectation text limit fault is other only refused much =
+    subst (λ (v : Verdict). IsRightBy expectation v text limit) (sym is) (of_fault text limit fault only other refused much)
+refused_is_right (Err error) expectation text limit fault is other only refused much = tt
+
+unread : (text : List ℕ) (limit : ℕ) (fault : Fault) → (fault ≡ faults.Memory → ⊥) → (fault ≡ faults.Memory) ⊎ HasNoReading text → CannotBeTested text limit
+unread text limit fault other (inl is) = absurd (other is)
+unread text limit fault other (inr none) = inl none
+
+-- a text whose comments can't be read
+pub unread_is_right : {E : Type 0} (result : Result Tested E) (text : List ℕ) (limit : ℕ) (fault : Fault) → IfOk result (λ tested. tested.verdict ≡ Untested)
+    → IfOk result (λ _. fault ≡ faults.Memory → ⊥) → (fault ≡ faults.Memory) ⊎ HasNoReading text → IfOk result (λ tested. IsRight tested.verdict text limit)
+unread_is_right (Ok tested) text limit fault is other why = subst (λ (v : Verdict). IsRight v text limit) (sym is) (unread text limit fault other why)
+unread_is_right (Err error) text limit fault is other why = tt
+
+-- a text whose comments say an unknown end
+pub unknown_is_right : {E : Type 0} (result : Result Tested E) (text : List ℕ) (limit : ℕ) (words : List ℕ) → IfOk result (λ tested. tested.verdict ≡ Untested)
+    → IsUnknown text words → IfOk result (λ tested. IsRight tested.verdict text limit)
+unknown_is_right (Ok tested) text limit words is unknown = subst (λ (v : Verdict). IsRight v text limit) (sym is) (inr (inl (words, unknown)))
+unknown_is_right (Err error) text limit words is unknown = tt
 
 pub failed_is_right : {E : Type 0} (result : Result Tested E) (expectation : Expectation) (text : List ℕ) (limit : ℕ)
     → IfOk result (λ tested. tested.verdict ≡ Failed expectation) → Fails expectation text limit → IfOk result (λ tested. IsRightBy expectation tested.verdict text limit)
 failed_is_right (Ok tested) expectation text limit is fails = subst (λ (v : Verdict). IsRightBy expectation v text limit) (sym is) (refl, fails)
 failed_is_right (Err error) expectation text limit is fails = tt
 
-pub untested_is_right_by : {E : Type 0} (result : Result Tested E) (expectation : Expectation) (text : List ℕ) (limit : ℕ) → IfOk result (λ tested. tested.verdict ≡ Untested)
-    → IfOk result (λ tested. IsRightBy expectation tested.verdict text limit)
-untested_is_right_by (Ok tested) expectation text limit is = subst (λ (v : Verdict). IsRightBy expectation v text limit) (sym is) tt
-untested_is_right_by (Err error) expectation text limit is = tt
+of_verdict : (verdict : Verdict) (expectation : Expectation) (text : List ℕ) (limit : ℕ) → IsSaidIn text expectation → IsRightBy expectation verdict text limit
+    → IsRight verdict text limit
+of_verdict (Passed by) expectation text limit said (is, passes) = subst (λ (e : Expectation). IsRight (Passed e) text limit) (sym is) (said, passes)
+of_verdict (Failed by) expectation text limit said (is, fails) = subst (λ (e : Expectation). IsRight (Failed e) text limit) (sym is) (said, fails)
+of_verdict Untested expectation text limit said right = right
 
-of_verdict : (verdict : Verdict) (expectation : Expectation) (text : List ℕ) (limit : ℕ) → IsRightBy expectation verdict text limit → IsRight verdict text limit
-of_verdict (Passed by) expectation text limit (is, passes) = subst (λ (e : Expectation). IsRight (Passed e) text limit) (sym is) passes
-of_verdict (Failed by) expectation text limit (is, fails) = subst (λ (e : Expectation). IsRight (Failed e) text limit) (sym is) fails
-of_verdict Untested expectation text limit right = tt
+pub right_by_any : {E : Type 0} (result : Result Tested E) (expectation : Expectation) (text : List ℕ) (limit : ℕ) → IsSaidIn text expectation
+    → IfOk result (λ tested. IsRightBy expectation tested.verdict text limit) → IfOk result (λ tested. IsRight tested.verdict text limit)
+right_by_any (Ok tested) expectation text limit said right = of_verdict tested.verdict expectation text limit said right
+right_by_any (Err error) expectation text limit said right = tt
 
-pub right_by_any : {E : Type 0} (result : Result Tested E) (expectation : Expectation) (text : List ℕ) (limit : ℕ) → IfOk result (λ tested. IsRightBy expectation tested.verdict text limit)
-    → IfOk result (λ tested. IsRight tested.verdict text limit)
-right_by_any (Ok tested) expectation text limit right = of_verdict tested.verdict expectation text limit right
-right_by_any (Err error) expectation text limit right = tt
+-- ---- what the comments say
+
+-- the fault of the comments of a text that has a reading
+pub of_comments : (text : List ℕ) (fault : Fault) (file : File) → Reads text file → (fault ≡ faults.Memory) ⊎ (tokens_of text ≡ Err fault) → (fault ≡ faults.Memory) ⊎ HasNoReading text
+of_comments text fault file reads (inl is) = inl is
+of_comments text fault file reads (inr none) = let both : Ok reads.tokens ≡ Err fault = sym reads.scanned ∙ none in absurd cc
+
+pub untold_of : (text seen : List ℕ) (error : ExpectationError) (file : File) → seen ≡ text → Reads text file → IsWhyNot seen error → IsUntold text error
+untold_of text seen (errors.Fault fault) file is reads why = of_comments text fault file reads (subst (λ t. (fault ≡ faults.Memory) ⊎ (tokens_of t ≡ Err fault)) is why)
+untold_of text seen (errors.UnknownEnd words) file is reads why = subst (λ t. IsUnknown t (string_bytes words)) is why
+
+pub unread_of : (text : List ℕ) (fault : Fault) → IsOfText fault → (IsRefusal fault → HasNoReading text) → IsUntold text (errors.Fault fault)
+unread_of text fault (inl is) refused = inr (refused is)
+unread_of text fault (inr is) refused = inl is
 
 -- the first of these plans shows that a program fails
 pub first_fails : (expectation : Expectation) (text : List ℕ) (limit : ℕ) (plans : List PlanFile) → 0 < length plans → All (FailsBy expectation text limit) (ends_by plans)

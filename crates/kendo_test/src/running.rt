@@ -1,7 +1,9 @@
 //! The run of a program that is tested.
 
-ghost use Rattle.std.specs.Prelude.{◌≡◌, IfOk, IsTrue, List, false, ℕ};
-ghost use Rattle.kendo_test.specs.Passing.{FailsAlone, Passes, Prints};
+ghost use Rattle.std.specs.Prelude.{◌≡◌, ◌⊎◌, IfErr, IfOk, IsErrOf, IsTrue, List, false, ℕ};
+ghost use Rattle.kendo_reading.specs.Reading.{HasNoReading, IsRefusal};
+ghost use Rattle.kendo_test.specs.Passing.{FailsAlone, Passes, Prints, PrintsTooMuch};
+ghost use Rattle.whole_run.specs.Runs.{IsLimit};
 
 use expected_output::{Expectation, Printed};
 use go_text::Fault;
@@ -15,9 +17,6 @@ use word::end::End;
 /// How many workers run a program.
 const WORKERS: u64 = 4;
 
-/// The most bytes that a program may print whose output is compared.
-pub(crate) const MOST_BYTES: usize = 1 << 24;
-
 /// The outcome of a run.
 #[derive(Drop)]
 pub(crate) struct Ran {
@@ -30,7 +29,7 @@ pub(crate) struct Ran {
 
 /// Runs the program that a text is, up to the clock limit, and compares its run with what is expected.
 ///
-/// Errors: by the numbers 1 to 10 why it is no program; `BadLimit`; `Write` if it prints too much to be compared; `Memory`.
+/// Errors: by the numbers 1 to 10 why it is no program; `Write` if it prints too much to be compared; `Memory`.
 pub(crate) fn run_expected<R: Threads + Wait + Sync>(
     rt: &R,
     alloc: Global,
@@ -38,8 +37,12 @@ pub(crate) fn run_expected<R: Threads + Wait + Sync>(
     limit: u64,
     expectation: &Expectation,
 ) -> Result<Ran, Fault>
+    requires { IsLimit limit }
     ensures met { IfOk result (λ ran. IsTrue ran.is_met → Passes expectation.now bytes.items limit) }
     ensures differs { IfOk result (λ ran. ran.is_met ≡ false → FailsAlone expectation.now bytes.items limit) }
+    ensures refused { IfErr result (λ fault. IsRefusal fault → HasNoReading bytes.items) }
+    ensures much { IsErrOf result Fault.Write → PrintsTooMuch bytes.items limit }
+    ensures only { IfErr result (λ fault. IsRefusal fault ⊎ ((fault ≡ Fault.Memory) ⊎ (fault ≡ Fault.Write))) }
 {
     match &expectation.output {
         None => {
@@ -69,11 +72,14 @@ fn run_silently<R: Threads + Wait + Sync>(
     bytes: Vec<u8>,
     limit: u64,
 ) -> Result<End, Fault>
-    ensures { IfOk result (λ end. (output : List ℕ) × Prints bytes.items limit output end) }
+    requires { IsLimit limit }
+    ensures ran { IfOk result (λ end. (output : List ℕ) × Prints bytes.items limit output end) }
+    ensures refused { IfErr result (λ fault. IsRefusal fault → HasNoReading bytes.items) }
+    ensures only { IfErr result (λ fault. IsRefusal fault ⊎ (fault ≡ Fault.Memory)) }
 {
     let mut output = Trace::Dropped;
     let mut trace = Trace::Dropped;
-    run_bytes(
+    match run_bytes(
         rt,
         alloc,
         bytes,
@@ -82,7 +88,11 @@ fn run_silently<R: Threads + Wait + Sync>(
         &Open,
         &mut output,
         &mut trace,
-    )
+    ) {
+        // A writer that drops what it takes never fails.
+        Err(Fault::Write) => Err(Fault::Memory),
+        ended => ended,
+    }
 }
 
 /// Runs a program, and returns how it ended and what it printed.
@@ -92,9 +102,13 @@ fn run_printing<R: Threads + Wait + Sync>(
     bytes: Vec<u8>,
     limit: u64,
 ) -> Result<(End, Vec<u8>), Fault>
-    ensures { IfOk result (λ ran. Prints bytes.items limit ran.1.items ran.0) }
+    requires { IsLimit limit }
+    ensures ran { IfOk result (λ ran. Prints bytes.items limit ran.1.items ran.0) }
+    ensures refused { IfErr result (λ fault. IsRefusal fault → HasNoReading bytes.items) }
+    ensures much { IsErrOf result Fault.Write → PrintsTooMuch bytes.items limit }
+    ensures only { IfErr result (λ fault. IsRefusal fault ⊎ ((fault ≡ Fault.Memory) ⊎ (fault ≡ Fault.Write))) }
 {
-    let mut output = Printed::new(alloc, MOST_BYTES);
+    let mut output = Printed::new(alloc);
     let mut trace = Trace::Dropped;
     match run_bytes(
         rt,

@@ -1,15 +1,19 @@
 //! The test of a program.
 
 ghost use Rattle.std.specs.Prelude.{◌≡◌, ◌⊎◌, ◌↔◌, IfErr, IfOk, IsErrOf};
-ghost use Rattle.kendo_test.specs.Passing.{IsRight, IsRightBy, Passes};
+ghost use Rattle.expected_output.specs.Expecting.{IsSaidIn};
+ghost use Rattle.go_text.specs.Source.{bytes_of};
+ghost use Rattle.kendo_reading.specs.Reading.{HasNoReading, IsOfText, IsRefusal, Reads};
+ghost use Rattle.kendo_test.specs.Passing.{IsRight, IsRightBy, IsUntold, Passes};
+ghost use Rattle.syntax.specs.Tree.{File};
 ghost use Rattle.whole_run.specs.Runs.{IsLimit};
 
 use crate::differences::push_differences;
 use crate::lines::Failure;
 use crate::ordering::{Found, OrderSearch, push_failing};
-use crate::running::{MOST_BYTES, Ran, run_expected};
+use crate::running::{Ran, run_expected};
 use diagnostic_words::words::Words;
-use expected_output::{Expectation, ExpectationError};
+use expected_output::{Expectation, ExpectationError, MOST_BYTES};
 use go_text::{Fault, Memory, Source};
 use kendo_explore::{PlanFile, Progress};
 use kendo_reading::read;
@@ -74,7 +78,7 @@ pub fn test_bytes<R: Threads + Wait + Sync, P: Progress>(
 }
 
 /// Like `test_bytes`, up to a limit within its bounds.
-#[tactic(auto, using(crate::proofs::Verdicts::right_by_any))]
+#[tactic(auto, using(crate::proofs::Verdicts::right_by_any, crate::proofs::Verdicts::unread_is_right, crate::proofs::Verdicts::unknown_is_right))]
 fn test<R: Threads + Wait + Sync, P: Progress>(
     rt: &R,
     alloc: Global,
@@ -83,6 +87,7 @@ fn test<R: Threads + Wait + Sync, P: Progress>(
     options: TestOptions,
     progress: &mut P,
 ) -> Result<Tested, Memory>
+    requires { IsLimit options.limit }
     ensures { IfOk result (λ tested. IsRight tested.verdict bytes.now options.limit) }
 {
     match expectation_in(alloc, bytes) {
@@ -93,19 +98,29 @@ fn test<R: Threads + Wait + Sync, P: Progress>(
 }
 
 /// What the comments of a program say.
-fn expectation_in(alloc: Global, bytes: &[u8]) -> Result<Expectation, ExpectationError> {
-    let source = source_of(alloc, bytes)?;
-    Expectation::of(alloc, &source)
+fn expectation_in(alloc: Global, bytes: &[u8]) -> Result<Expectation, ExpectationError>
+    ensures said { IfOk result (IsSaidIn bytes.now) }
+    ensures untold { IfErr result (IsUntold bytes.now) }
+{
+    match source_of(alloc, bytes) {
+        Ok(source) => Expectation::of(alloc, &source),
+        Err(fault) => Err(ExpectationError::Fault(fault)),
+    }
 }
 
 /// The source that a program is.
-fn source_of(alloc: Global, bytes: &[u8]) -> Result<Source, Fault> {
+fn source_of(alloc: Global, bytes: &[u8]) -> Result<Source, Fault>
+    ensures text { IfOk result (λ source. bytes_of source ≡ bytes.now) }
+    ensures reads { IfOk result (λ _. (file : File) × Reads bytes.now file) }
+    ensures refused { IfErr result (λ fault. IsRefusal fault → HasNoReading bytes.now) }
+    ensures only { IfErr result IsOfText }
+{
     let (source, _typed) = read(alloc, Vec::from_slice(alloc, bytes)?)?;
     Ok(source)
 }
 
 /// Compares the run of a program with what is expected, and then, if this is requested, searches its other orders.
-#[tactic(auto, using(crate::proofs::Verdicts::failed_is_right, crate::proofs::Verdicts::untested_is_right_by))]
+#[tactic(auto, using(crate::proofs::Verdicts::failed_is_right, crate::proofs::Verdicts::refused_is_right))]
 fn compare<R: Threads + Wait + Sync, P: Progress>(
     rt: &R,
     alloc: Global,
@@ -115,6 +130,7 @@ fn compare<R: Threads + Wait + Sync, P: Progress>(
     expectation: Expectation,
     progress: &mut P,
 ) -> Result<Tested, Memory>
+    requires { IsLimit options.limit }
     ensures { IfOk result (λ tested. IsRightBy expectation tested.verdict bytes.now options.limit) }
 {
     let text = Vec::from_slice(alloc, bytes)?;
@@ -210,7 +226,8 @@ fn differs(alloc: Global, path: &str, expectation: Expectation, ran: &Ran) -> Re
 
 /// The text is no program, or its run can't be compared.
 fn refused(alloc: Global, path: &str, fault: Fault) -> Result<Tested, Memory>
-    ensures { IfOk result (λ tested. tested.verdict ≡ Verdict.Untested) }
+    ensures untested { IfOk result (λ tested. tested.verdict ≡ Verdict.Untested) }
+    ensures memory { IfOk result (λ _. fault ≡ Fault.Memory → ⊥) }
 {
     let mut failure = Failure::new(alloc, path);
     match fault {
