@@ -1,26 +1,32 @@
 -- The comments of a program.
 use Rattle.std.specs.Prelude.{◌≡◌, ◌⊎◌, ◌+◌, ◌<◌, ◌≤◌, ◌==◌, ℕ, ◌∷◌, ◌++◌, List, [], length, map, take, drop, codes, not, nat_lt, ◌&&◌, Bool, false, Ok, if◌then◌else◌}
 use Rattle.std.specs.List.{before_first, after_first, count_by, flat_map, position_or_len, prefix_len, slice_range, slice_split}
-use Rattle.std.specs.Str.{IsCharBoundary, trim_end}
+use Rattle.std.specs.Str.{byte, IsCharBoundary, trim_end}
 use Rattle.expected_output.specs.declared.comments.Comment.{Comment}
 use Rattle.scanner.specs.Tokens.{tokens_of}
 use Rattle.scanner.specs.declared.token.Token.{Token}
 use Rattle.std.specs.Str.Pattern.{FindsText, SplitsAroundMatch}
 
+abbrev pub is_slash : ℕ → Bool
+is_slash b = b == byte "/"
+
+abbrev pub is_newline : ℕ → Bool
+is_newline b = b == 10
+
 -- without a space at its front
 abbrev pub unspaced : List ℕ → List ℕ
 unspaced [] = []
-unspaced (b ∷ rest) = if b == 32 then rest else b ∷ rest
+unspaced (b ∷ rest) = if b == byte " " then rest else b ∷ rest
 
 -- after a slash, the rest of a comment: what it says, and what follows it. A line comment ends before the end of its line, a general one with its first `*/`
 pub data IsComment (text body rest : List ℕ) : Type 0 where
-  Line : (line : List ℕ) → text ≡ 47 ∷ line → body ≡ unspaced (before_first (λ b. b == 10) line) → rest ≡ drop (position_or_len (λ b. b == 10) line) line → IsComment text body rest
-  General : (inner : List ℕ) → text ≡ 42 ∷ inner → SplitsAroundMatch (FindsText (codes "*/")) inner body rest → IsComment text body rest
+  Line : (line : List ℕ) → text ≡ byte "/" ∷ line → body ≡ unspaced (before_first is_newline line) → rest ≡ drop (position_or_len is_newline line) line → IsComment text body rest
+  General : (inner : List ℕ) → text ≡ byte "*" ∷ inner → SplitsAroundMatch (FindsText (codes "*/")) inner body rest → IsComment text body rest
 
 -- the first comment of a gap, which has only comments and white space: the white space before it, what it says, and what follows it
 abbrev pub IsFirstComment : (gap before body rest : List ℕ) → Type 0
 IsFirstComment gap before body rest =
-    (position_or_len (λ b. b == 47) gap < length gap) × (before ≡ before_first (λ b. b == 47) gap) × IsComment (after_first (λ b. b == 47) gap) body rest
+    (position_or_len is_slash gap < length gap) × (before ≡ before_first is_slash gap) × IsComment (after_first is_slash gap) body rest
 
 -- the comments of a gap, in order, each with the white space before it and what it says
 pub data HasComments : (gap : List ℕ) → List (List ℕ × List ℕ) → Type 0 where
@@ -32,11 +38,11 @@ said_in comments = map (λ (comment : Comment). (comment.before.now, comment.bod
 
 -- the text of a comment: its lines without the white space at their ends, each with its newline
 abbrev pub comment_text : List ℕ → List ℕ
-comment_text body = flat_map (λ line. trim_end line ++ 10 ∷ []) (slice_split (λ b. b == 10) body)
+comment_text body = flat_map (λ line. trim_end line ++ 10 ∷ []) (slice_split is_newline body)
 
 -- how many lines end in the white space before a comment
 abbrev pub lines_before : List ℕ × List ℕ → ℕ
-lines_before comment = count_by (λ b. b == 10) comment.0
+lines_before comment = count_by is_newline comment.0
 
 -- how many lines may end between the comments of a group whose first comment this is: none if it stands on the line of a token
 abbrev pub most_lines : (follows_token : Bool) → List ℕ × List ℕ → ℕ

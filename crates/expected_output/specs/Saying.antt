@@ -1,8 +1,9 @@
 -- What a comment says of a run.
-use Rattle.std.specs.Prelude.{◌≡◌, ◌≢◌, ℕ, ◌<◌, ◌==◌, ◌∷◌, ◌++◌, Bool, true, false, List, Option, Some, None, length, map, option_map, take, drop, slice_index, codes}
+use Rattle.std.specs.Prelude.{◌≡◌, ◌≢◌, ℕ, ◌<◌, ◌∷◌, ◌++◌, Bool, true, false, List, Option, Some, None, length, map, option_map, take, drop, slice_index, codes}
 use Rattle.std.specs.Str.{trim, trim_start, IsCharBoundary}
 use Rattle.std.specs.Char.{to_ascii_lowercase}
 use Rattle.std.specs.List.{before_first, after_first}
+use Rattle.expected_output.specs.Comments.{is_newline}
 use Rattle.expected_output.specs.declared.said.SaidOutput.{SaidOutput}
 use denote.Ref.{Bor}
 
@@ -22,10 +23,10 @@ pub data SaysOutput (comment : List ℕ) : Option (List ℕ × Bool) → Type 0 
 
 -- the first line of a text, and the lines after it
 abbrev pub first_line : List ℕ → List ℕ
-first_line text = before_first (λ b. b == 10) text
+first_line text = before_first is_newline text
 
 abbrev pub later_lines : List ℕ → List ℕ
-later_lines text = after_first (λ b. b == 10) text
+later_lines text = after_first is_newline text
 
 -- `line` is the last line of a text, after `before`
 abbrev pub IsLastLine : (text before line : List ℕ) → Type 0
