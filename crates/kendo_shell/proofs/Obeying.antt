@@ -33,12 +33,12 @@ nothing_done app words m is f has a = WasNothing (fails app words (Ok m) is f) (
 untrue : {A : Type 0} → false ≡ true → A
 untrue e = absurd cc
 
-pub shown : {E : Type 0} {Reports : Invocation → ℕ → Type 0} (app : App) (words : List Text) (e : Error) (result : Result ℕ E) → app ≡ kendo
+pub shown : {E : Type 0} (Reports : Invocation → ℕ → Type 0) (app : App) (words : List Text) (e : Error) (result : Result ℕ E) → app ≡ kendo
     → (is_simple_and_free app ≡ true → FailsBy {T = ArgMatches} (fault_of app words) (Err e)) → IsErr result ↔ (kind_of e ≡ kinds.OutOfMemory)
     → IfOk result (λ status. ShowsAs (kind_of e) status) → IfOk result (λ status. Obeys Reports words status)
-shown app words e (Ok status) is f memory shows =
+shown Reports app words e (Ok status) is f memory shows =
     elim (fails app words (Err e) is f) [ inl full ↦ untrue (memory.1 full) | inr among ↦ WasShown (kind_of e) among shows ]
-shown app words e (Err x) is f memory shows = shows
+shown Reports app words e (Err x) is f memory shows = shows
 
 shown_status : (kind : ErrorKind) (status : ℕ) → ShowsAs kind status → IsStatus status
 shown_status kinds.DisplayHelp status (inl is) = inl (omega (arith, is))

@@ -16,4 +16,4 @@ returns-in-Ok g c =
 
 pub returns : goal.returns
 returns g c =
-    shown {Reports = Judges} (app_of c.in_ok-command.field-0) (map string_bytes c.args.words.now) c.in-Err.error c.show.result c.in_ok-command.ensures c.in-Err.ensures.kinds c.show.ensures.memory c.show.ensures.shown
+    shown Judges (app_of c.in_ok-command.field-0) (map string_bytes c.args.words.now) c.in-Err.error c.show.result c.in_ok-command.ensures c.in-Err.ensures.kinds c.show.ensures.memory c.show.ensures.shown
