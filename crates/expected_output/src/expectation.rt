@@ -3,7 +3,9 @@
 ghost use Rattle.std.specs.Prelude.{◌≡◌, IfErr, IfOk, map, option_map, string_bytes};
 ghost use Rattle.expected_output.specs.Expecting.{AreSaid, IsEndOf, IsOfSaid, IsSaidIn, IsUnknownEnd, IsWhyNot, MatchUnknown, output_bytes};
 ghost use Rattle.expected_output.specs.Saying.{said_end, said_output};
+ghost use Rattle.expected_output.specs.declared.expectation.ExpectationError.TheVariants as errors;
 ghost use Rattle.go_text.specs.Source.{bytes_of};
+ghost use Rattle.go_text.specs.declared.fault.Fault.TheVariants as faults;
 
 use crate::comments::comments_of;
 use crate::ends::end_named;
@@ -42,8 +44,18 @@ pub enum ExpectationError {
 }
 
 impl From<Fault> for ExpectationError {
+    ghost from_gives = { λ fault error. error ≡ errors.Fault fault };
+
     fn from(fault: Fault) -> ExpectationError {
         ExpectationError::Fault(fault)
+    }
+}
+
+impl From<AllocError> for ExpectationError {
+    ghost from_gives = { λ _ error. error ≡ errors.Fault faults.Memory };
+
+    fn from(_error: AllocError) -> ExpectationError {
+        ExpectationError::Fault(Fault::Memory)
     }
 }
 
@@ -54,10 +66,8 @@ impl Expectation {
         ensures said { IfOk result (IsSaidIn (bytes_of source.now)) }
         ensures why { IfErr result (IsWhyNot (bytes_of source.now)) }
     {
-        match comments_of(alloc, source) {
-            Ok(comments) => expectation_of(alloc, all_said(comments.as_slice())),
-            Err(fault) => Err(ExpectationError::Fault(fault)),
-        }
+        let comments = comments_of(alloc, source)?;
+        expectation_of(alloc, all_said(comments.as_slice()))
     }
 }
 
@@ -67,18 +77,13 @@ fn expectation_of(alloc: Global, said: Said<'_>) -> Result<Expectation, Expectat
     ensures unknown { IfErr result (IsUnknownEnd (said_end said.entry.end)) }
 {
     let is_said = said.output.is_some() || said.end.is_some();
-    let end = match expected_end(alloc, said.end) {
-        Ok(end) => end,
-        Err(error) => return Err(error),
-    };
-    match expected_output(alloc, said.output) {
-        Ok(output) => Ok(Expectation {
-            output,
-            end,
-            is_said,
-        }),
-        Err(_) => Err(ExpectationError::Fault(Fault::Memory)),
-    }
+    let end = expected_end(alloc, said.end)?;
+    let output = expected_output(alloc, said.output)?;
+    Ok(Expectation {
+        output,
+        end,
+        is_said,
+    })
 }
 
 /// What comments say, each as the last one that does.

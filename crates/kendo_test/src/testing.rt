@@ -102,10 +102,8 @@ fn expectation_in(alloc: Global, bytes: &[u8]) -> Result<Expectation, Expectatio
     ensures said { IfOk result (IsSaidIn bytes.now) }
     ensures untold { IfErr result (IsUntold bytes.now) }
 {
-    match source_of(alloc, bytes) {
-        Ok(source) => Expectation::of(alloc, &source),
-        Err(fault) => Err(ExpectationError::Fault(fault)),
-    }
+    let source = source_of(alloc, bytes)?;
+    Expectation::of(alloc, &source)
 }
 
 /// The source that a program is.
