@@ -89,9 +89,10 @@ fn run_silently<R: Threads + Wait + Sync>(
         &mut output,
         &mut trace,
     ) {
+        Ok(end) => Ok(end),
         // A writer that drops what it takes never fails.
         Err(Fault::Write) => Err(Fault::Memory),
-        ended => ended,
+        Err(fault) => Err(fault),
     }
 }
 

@@ -113,7 +113,8 @@ fn source_of(alloc: Global, bytes: &[u8]) -> Result<Source, Fault>
     ensures refused { IfErr result (λ fault. IsRefusal fault → HasNoReading bytes.now) }
     ensures only { IfErr result IsOfText }
 {
-    let (source, _typed) = read(alloc, Vec::from_slice(alloc, bytes)?)?;
+    let text = Vec::from_slice(alloc, bytes)?;
+    let (source, _typed) = read(alloc, text)?;
     Ok(source)
 }
 

@@ -1,6 +1,7 @@
 use Rattle.std.proofs.Common.{refl}
-use Rattle.std.proofs.lemmas.Result.{IfOk-weaker}
 use Rattle.kendo_test.proofs.running.run_silently.Goals as goal
 
-pub returns : goal.returns
-returns g c = IfOk-weaker c.run_bytes.result _ _ (λ end whole. (_, (whole.0, whole.2.0, whole.1, refl, whole.2.2))) c.run_bytes.ensures.whole
+pub returns-in-Ok-clause-ran : goal.returns-in-Ok-clause-ran
+returns-in-Ok-clause-ran g c =
+    let whole = c.in-Ok.ensures.whole in
+    (_, (whole.0, whole.2.0, whole.1, refl, whole.2.2))
