@@ -105,11 +105,13 @@ pub compared : (invocation : Invocation) (pauses : List Pause) (text lines recor
 compared invocation pauses text lines recorded outcome end strict is_same report status is is_strict finds traced same_or_not reported status_is = (
   Ok end,
   subst (Finds invocation.subcommand text) is finds,
-  lines,
-  is_same,
-  subst (λ (o : Result End Fault). IfOk o (IsTracedAs invocation.subcommand pauses text lines)) is traced,
-  subst (λ b. IsCompared b recorded lines is_same) is_strict same_or_not,
-  status_is ∙ ap (compared_status is_same) (reported ∙ ap report_status is),
+  (
+    lines,
+    is_same,
+    subst (λ (o : Result End Fault). IfOk o (IsTracedAs invocation.subcommand pauses text lines)) is traced,
+    subst (λ b. IsCompared b recorded lines is_same) is_strict same_or_not,
+    status_is ∙ ap (compared_status is_same) (reported ∙ ap report_status is),
+  ),
 )
 
 -- one that did not was not
@@ -210,19 +212,19 @@ verdict_in (subcommands.Timeline limit) None strict whole text end status finds 
 verdict_in (subcommands.Inspect limit) None strict whole text end status finds is = told (subcommands.Inspect limit) text (Ok end) status finds is
 verdict_in (subcommands.Paused limit) None strict whole text end status finds is = told (subcommands.Paused limit) text (Ok end) status finds is
 verdict_in (subcommands.Run workers limit) None strict whole text end status finds is = told (subcommands.Run workers limit) text (Ok end) status finds is
-verdict_in (subcommands.Paused limit) (Some path) strict whole text end status finds (pauses, recorded, lines, true, traced, as_said, is) =
+verdict_in (subcommands.Paused limit) (Some path) strict whole text end status finds (pauses, recorded, (lines, true, traced, as_said, is)) =
     told (subcommands.Paused limit) text (Ok end) status finds is
-verdict_in (subcommands.Paused limit) (Some path) strict whole text end status finds (pauses, recorded, lines, false, traced, as_said, is) =
+verdict_in (subcommands.Paused limit) (Some path) strict whole text end status finds (pauses, recorded, (lines, false, traced, as_said, is)) =
     of_verdict (subcommands.Paused limit) text (Ok end) _ status finds refl (inr is)
-verdict_in (subcommands.Run workers limit) (Some path) strict whole text end status finds (pauses, recorded, lines, true, traced, as_said, is) =
+verdict_in (subcommands.Run workers limit) (Some path) strict whole text end status finds (pauses, recorded, (lines, true, traced, as_said, is)) =
     told (subcommands.Run workers limit) text (Ok end) status finds is
-verdict_in (subcommands.Run workers limit) (Some path) strict whole text end status finds (pauses, recorded, lines, false, traced, as_said, is) =
+verdict_in (subcommands.Run workers limit) (Some path) strict whole text end status finds (pauses, recorded, (lines, false, traced, as_said, is)) =
     of_verdict (subcommands.Run workers limit) text (Ok end) _ status finds refl (inr is)
-verdict_in subcommands.Check (Some path) strict whole text end status finds (pauses, recorded, lines, same, traced, as_said, told_so) = absurd traced
-verdict_in subcommands.List (Some path) strict whole text end status finds (pauses, recorded, lines, same, traced, as_said, told_so) = absurd traced
-verdict_in (subcommands.Reference limit) (Some path) strict whole text end status finds (pauses, recorded, lines, same, traced, as_said, told_so) = absurd traced
-verdict_in (subcommands.Timeline limit) (Some path) strict whole text end status finds (pauses, recorded, lines, same, traced, as_said, told_so) = absurd traced
-verdict_in (subcommands.Inspect limit) (Some path) strict whole text end status finds (pauses, recorded, lines, same, traced, as_said, told_so) = absurd traced
+verdict_in subcommands.Check (Some path) strict whole text end status finds (pauses, recorded, (lines, same, traced, as_said, told_so)) = absurd traced
+verdict_in subcommands.List (Some path) strict whole text end status finds (pauses, recorded, (lines, same, traced, as_said, told_so)) = absurd traced
+verdict_in (subcommands.Reference limit) (Some path) strict whole text end status finds (pauses, recorded, (lines, same, traced, as_said, told_so)) = absurd traced
+verdict_in (subcommands.Timeline limit) (Some path) strict whole text end status finds (pauses, recorded, (lines, same, traced, as_said, told_so)) = absurd traced
+verdict_in (subcommands.Inspect limit) (Some path) strict whole text end status finds (pauses, recorded, (lines, same, traced, as_said, told_so)) = absurd traced
 
 status_in : (invocation : Invocation) (text : List ℕ) (outcome : Result End Fault) (status : ℕ) → Finds invocation.subcommand text outcome → IsSaid invocation text outcome status
     → IsStatusOf invocation.subcommand text status
