@@ -29,7 +29,7 @@ pub record SharedValue : Type 0 where
 abbrev pub opened : SharedValue
 opened = record { meeting = record { asleep = []; channels = no_channel ∷ [] }; live = 1; made = 1; events = 0; ending = None }
 
--- at most 1,024 are alive, each goroutine but the first was made by an event, and a run that goes on had less than 2^62
+-- at most 16,384 are alive, each goroutine but the first was made by an event, and a run that goes on had less than 2^62
 pub record IsCounted (live made events : ℕ) (ending : Option Ending) : Type 0 where
   pub alive : live ≤ MAX_GOROUTINES
   pub each : made ≤ events + 1

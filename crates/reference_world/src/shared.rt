@@ -159,7 +159,7 @@ impl Shared {
         }
     }
 
-    /// A new goroutine (Go: Go statements). It panics if 1,024 are awake or asleep.
+    /// A new goroutine (Go: Go statements). It panics if 16,384 are awake or asleep.
     fn start(&mut self, function: u32, arguments: Vec<Word>) -> Deed
         requires made { self.old.made ≤ self.old.events }
         requires events { self.old.events < 2 ^ 62 }

@@ -17,7 +17,7 @@ pub enum Panic {
     ChannelSize,
     /// P7: over 1,000 functions deep.
     CallDepth,
-    /// P8: over 1,024 goroutines alive.
+    /// P8: over 16,384 goroutines alive.
     TooManyGoroutines,
     /// P9: over 65,536 channels made.
     TooManyChannels,

@@ -1,4 +1,4 @@
--- What a request leaves of numbers and counts: each goroutine sleeps once and is woken once, and at most 1,024 are alive.
+-- What a request leaves of numbers and counts: each goroutine sleeps once and is woken once, and at most 16,384 are alive.
 use Rattle.logical_clock.specs.declared.limits.TheConstants.{MAX_GOROUTINES}
 use Rattle.std.proofs.Common.{◌≡◌, ◌≢◌, ℕ, ◌+◌, ◌≤◌, ℤ, pos, negsuc, Bool, true, false, cond, List, [], ◌∷◌, ◌++◌, map, length, Option, Some, None, refl, sym, ◌∙◌, arith}
 use Rattle.std.specs.Prelude.{◌==◌, nat_lt}

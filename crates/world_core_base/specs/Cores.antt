@@ -69,7 +69,7 @@ Once (n ∷ ns) = Misses n ns × Once ns
 abbrev pub numbers : List Sleeper → List ℕ
 numbers ss = map (λ (s : Sleeper). s.number) ss
 
--- its goroutines are of this code and limit, at most 1,024 are alive, each of those asleep sleeps once, a run that goes on
+-- its goroutines are of this code and limit, at most 16,384 are alive, each of those asleep sleeps once, a run that goes on
 -- has had less than 2^62 events
 pub record FitsCore (code : Code) (limit : ℕ) (core : CoreValue) : Type 0 where
   pub rows : FitsAll code limit core.rows
