@@ -72,14 +72,14 @@ module _ (count : ℕ) (slots : Numbered) (items : Items) (orders : Orders) (all
   abbrev beds : Beds
   beds = (living_in count slots items).beds
 
-  -- nothing changes where nobody lives
+  -- nothing changes if no goroutine has the number n
   pub none_changes : (f : Row State → Row State) → slot_of slots n ≡ None → living_in count slots items ≡ record { rows = slice_set rows n (option_map f (slice_index_or rows n None)); beds = beds }
   none_changes f e =
       let none = row_none count slots items orders all n e in
       let same : slice_set rows n (option_map f (slice_index_or rows n None)) ≡ rows = ap (λ (o : Option (Row State)). slice_set rows n (option_map f o)) none ∙ ap (λ (o : Option (Row State)). slice_set rows n o) (sym none) ∙ set-get_or rows n None in
       λ i. record { rows = sym same i; beds = beds }
 
-  -- what is set to nothing where nothing is
+  -- setting `None` at an index that has `None`
   pub none_set : slice_index_or rows n None ≡ None → slice_set rows n None ≡ rows
   none_set none = ap (λ (o : Option (Row State)). slice_set rows n o) (sym none) ∙ set-get_or rows n None
 
@@ -94,7 +94,7 @@ module _ (count : ℕ) (slots : Numbered) (items : Items) (orders : Orders) (all
     pub bed_given : slice_index_or beds n None ≡ asleep_of (slice_index_or given s None)
     bed_given = bed_some count slots items orders all n s has ∙ ap (λ (xs : Items). asleep_of (slice_index_or xs s None)) (sym same)
 
-    -- one that is awake has no bed
+    -- a goroutine that is awake has `None` in `beds`
     pub bed_of_awake : IsSome (slice_index_or rows n None) → slice_index_or beds n None ≡ None
     bed_of_awake h = bed_given ∙ awake_not_asleep (slice_index_or given s None) (subst (λ (o : Option (Row State)). IsSome o) row_given h)
 
@@ -170,7 +170,7 @@ module _ (count : ℕ) (slots : Numbered) (items : Items) (orders : Orders) (all
           let b = none_lies (bed_of_awake awake) in
           living_ended count slots items orders all n s has None (take len (changed ++ drop (length changed) items)) c slots' inverse' frees refl ∙ (λ i. record { rows = slice_set rows n None; beds = b i })
 
-    -- one is lent, or nobody is
+    -- one is lent, or none is
     module _ (len : ℕ) (size : len ≡ length items) (changed : Items) where
       pub lent_none : (r : Option State) → IfNone r ((free_clock (row_in given s) ≡ None) × (changed ≡ given)) → IfNone r ((free_clock (slice_index_or rows n None) ≡ None) × (living_in count slots (take len (changed ++ drop (length changed) items)) ≡ living_in count slots items))
       lent_none None h = (ap free_clock row_given ∙ h.0, same_set len size (slice_index_or given s None) changed (h.1 ∙ sym (set-get_or given s None)) refl)
@@ -183,7 +183,7 @@ module _ (count : ℕ) (slots : Numbered) (items : Items) (orders : Orders) (all
           let free : slice_index_or rows n None ≡ Some (free_row t) = row_given ∙ h.0 in
           (free, row_put len size (Some (Awake (lent_row t))) changed h.1 (lent_row t) refl (bed_of_awake (ap is_some free)))
 
-      -- one works where it stands
+      -- one makes local steps in its slot
       pub works : (code : Code) (limit quantum : ℕ) (answer : Option Bool) → WorksAt code limit quantum given s answer changed
           → WorksIn code limit quantum rows n answer (living_in count slots (take len (changed ++ drop (length changed) items))).rows
           × (living_in count slots (take len (changed ++ drop (length changed) items)) ≡ record { rows = (living_in count slots (take len (changed ++ drop (length changed) items))).rows; beds = beds })
@@ -254,9 +254,9 @@ gets_up f items taken put s state row t p is e =
     let here : Some (Awake row) ≡ woken_up f (slice_index_or items s None) = ap (λ (x : Row State). Some (Awake x)) e ∙ ap (woken_up f) is in
     p ∙ ap (λ (xs : Items). slice_set xs s (Some (Awake row))) t ∙ set-set items s None (Some (Awake row)) ∙ ap (λ (o : Option Goroutine). slice_set items s o) here
 
--- ---- where one is lent, or works
+-- ---- if one is lent, or works
 
--- one that is lent, or nobody is
+-- one that is lent, or none is
 pub lent_at : (o : Option State) (given changed : Items) (s : ℕ) (C : Type 0) → IfNone o (C × (changed ≡ given)) → IfSome o (λ t. (row_in given s ≡ Some (free_row t)) × (changed ≡ slice_set given s (Some (Awake (lent_row t))))) → (item : Option Goroutine) × (changed ≡ slice_set given s item)
 lent_at None given changed s C none some = (slice_index_or given s None, none.1 ∙ sym (set-get_or given s None))
 lent_at (Some t) given changed s C none some = (Some (Awake (lent_row t)), some.1)

@@ -128,7 +128,7 @@ module _ (count : ℕ) (slots : Numbered) (items : Items) (orders : Orders) (all
   pub waits_lent : (r : Option Key) (n : ℕ) → IsFirst (IsOther orders.late lent_clock slots items) r → IsNotClear k r n → n ≢ k.number → (has_turn k 0 rows ≡ false) × IsBefore rows k n
   waits_lent r n first h ne = waits_of rows k (IsOther orders.late lent_clock slots items) r n first (λ j p. floor_there j.number p.0 j.clock p.2 (among_floor (row_in items p.0) j.clock (all.ordered.floors p.0) (inr p.3))) h ne
 
-  -- one that stands before the key is found in its slot
+  -- one that comes before the key is found in its slot
   pub waits_found : (n : ℕ) → IsNotAbove slots items k n → (has_turn k 0 rows ≡ false) × IsBefore rows k n
   waits_found n h =
       let is = not_above k n (row_in items h.0) h.2 in

@@ -54,7 +54,7 @@ numbered_same give other count same = same_lists (numbered other 0 count) (numbe
   | inr l ↦ numbered_past other count i l ∙ sym (numbered_past give count i l)
 ])
 
--- one number's place changes
+-- what is at one number's index changes
 numbered_set : {A : Type 0} (give other : ℕ → Option A) (count n : ℕ) → n < count → ((i : ℕ) → i ≢ n → other i ≡ give i) → numbered other 0 count ≡ slice_set (numbered give 0 count) n (other n)
 numbered_set give other count n l same =
     let all : List (Option _) = numbered give 0 count in
@@ -103,7 +103,7 @@ item_apart items new s (Some t) same apart = same t (apart t refl)
 pub item_other : (slots : Numbered) (items new : Items) → IsInverse slots → (n s : ℕ) → slot_of slots n ≡ Some s → ((t : ℕ) → t ≢ s → slice_index_or new t None ≡ slice_index_or items t None) → (m : ℕ) → m ≢ n → item_in new (slot_of slots m) ≡ item_in items (slot_of slots m)
 item_other slots items new inverse n s e same m ne = item_apart items new s (slot_of slots m) same (λ t f. other_slot slots inverse n m s t e f ne)
 
--- a slot that is free is nobody's
+-- a slot that is free belongs to no goroutine
 nobodys : (slots : Numbered) → IsInverse slots → (s m t : ℕ) → number_at slots s ≡ None → slot_of slots m ≡ Some t → t ≢ s
 nobodys slots inverse s m t free e q =
     let its : number_at slots s ≡ Some m = ap (number_at slots) (sym q) ∙ inverse.number m t e in
@@ -127,7 +127,7 @@ row_of_number count slots items below n = number_item awake_of refl count slots 
 pub bed_of_number : (count : ℕ) (slots : Numbered) (items : Items) → ((n s : ℕ) → slot_of slots n ≡ Some s → n < count) → (n : ℕ) → slice_index_or (living_in count slots items).beds n None ≡ asleep_of (item_in items (slot_of slots n))
 bed_of_number count slots items below n = number_item asleep_of refl count slots items below n
 
--- what stands at a number's place, by its slot
+-- what is at a number's index, by its slot
 module _ (count : ℕ) (slots : Numbered) (items : Items) (orders : Orders) (all : AreLiving count slots items orders) (n : ℕ) where
   pub row_none : slot_of slots n ≡ None → slice_index_or (living_in count slots items).rows n None ≡ None
   row_none e = row_of_number count slots items all.below n ∙ ap (λ (o : Option ℕ). awake_of (item_in items o)) e
@@ -229,7 +229,7 @@ orders_noted orders after before slots old items s o room numbers rows noted =
 pub orders_room : (orders : Orders) (slots : Numbered) (items : Items) → AreOrders orders slots items → HaveRoom orders (length items)
 orders_room orders slots items o = record { parked = o.parked.room; free = o.free.room; lent = o.lent.room }
 
--- ---- places more
+-- ---- more indexes
 
 none_more : {A : Type 0} (xs : List (Option A)) (i : ℕ) → slice_index_or (xs ++ None ∷ []) i None ≡ slice_index_or xs i None
 none_more [] zero = refl
@@ -411,7 +411,7 @@ module _ (count : ℕ) (slots : Numbered) (items : Items) (orders : Orders) (all
       let beds = started_lists asleep_of in
       λ i. record { rows = rows i; beds = beds i }
 
--- a number that nobody has
+-- a number that no goroutine has
 module _ (count : ℕ) (slots : Numbered) (items : Items) (orders : Orders) (all : AreLiving count slots items orders) where
   pub kept_skipped : AreLiving (count + 1) slots items orders
   kept_skipped = record { inverse = all.inverse; below = λ m t e. omega (arith, all.below m t e); within = all.within; ordered = all.ordered }

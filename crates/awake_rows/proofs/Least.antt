@@ -1,4 +1,4 @@
--- The least key, of orders in which all stand but the late goroutine.
+-- The least key, of orders that have all goroutines but the late one.
 use Rattle.std.proofs.Common.{◌≡◌, ◌≢◌, ◌∙◌, ℕ, Bool, true, false, cond, ◌⊎◌, List, Option, Some, None, refl, ap, sym, subst, arith, inl, inr}
 use Rattle.std.specs.Prelude.{IfNone, IfSome, slice_index_or}
 use Rattle.std.proofs.lemmas.Bool.{cases_eq}

@@ -49,7 +49,7 @@ woken_up change (Some (Asleep state)) = Some (Awake (free_row (change state)))
 abbrev pub row_in : Items → ℕ → Option (Row State)
 row_in items s = awake_of (slice_index_or items s None)
 
--- the goroutine in a slot, which may be lent, has made local steps where it stands
+-- the goroutine in a slot, which may be lent, has made local steps in that slot
 abbrev pub WorksAt : Code → ℕ → ℕ → Items → ℕ → Option Bool → Items → Type 0
 WorksAt code limit quantum old s answer new =
     (base : State) × (row : Row State) × (row_in old s ≡ Some (free_row base)) × IsWorked code limit quantum base answer row × (new ≡ slice_set old s (Some (Awake row)))
@@ -69,14 +69,14 @@ pub record Living : Type 0 where
   pub rows : Rows
   pub beds : Beds
 
--- the rows and beds of the numbers below `count`: a number has what stands in its slot
+-- the `rows` and `beds` of the numbers below `count`: each number has what is in its slot
 abbrev pub living_in : ℕ → Numbered → Items → Living
 living_in count slots items = record {
   rows = numbered (λ n. awake_of (item_in items (slot_of slots n))) 0 count;
   beds = numbered (λ n. asleep_of (item_in items (slot_of slots n))) 0 count;
 }
 
--- ---- the orders in which they stand
+-- ---- their orders
 
 -- the key of goroutine n at this clock
 abbrev pub key_of : ℕ → Option ℕ → Option Key
@@ -132,7 +132,7 @@ with_place orders = record orders {
   lent = orders.lent ++ None ∷ [];
 }
 
--- the old list, with more indexes at which nothing stands
+-- the old list, with more indexes at which there is nothing
 pub record Grows {A : Type 0} (old new : List (Option A)) : Type 0 where
   pub size : length old ≤ length new
   pub same : (s : ℕ) → slice_index_or new s None ≡ slice_index_or old s None

@@ -22,11 +22,11 @@ use Rattle.awake_rows.specs.declared.turns.Among.TheVariants as among
 abbrev pub State : Type 0
 State = Clocked Frames
 
--- goroutine n, if it is awake, is at place n
+-- goroutine n, if it is awake, is at index n
 abbrev pub Rows : Type 0
 Rows = List (Option (Row State))
 
--- goroutine n, if it is asleep, fell asleep in the state at place n
+-- goroutine n, if it is asleep, fell asleep in the state at index n
 abbrev pub Beds : Type 0
 Beds = List (Option State)
 
@@ -36,7 +36,7 @@ held_state (Here state) = state
 held_state (Lent kept) = kept.value
 held_state (Ahead ahead) = ahead.value.base
 
--- of one that was moved out the base stands for the state in which it is
+-- the loan of a state that was moved out
 abbrev pub lease_of : Held → Option (Loan State)
 lease_of (Here state) = None
 lease_of (Lent kept) = Some (record { present = kept.value; published = kept.value.clock })
@@ -48,7 +48,7 @@ IsFloor (Here state) floor parked = floor ≡ state.clock
 IsFloor (Lent kept) floor parked = parked ≡ false
 IsFloor (Ahead ahead) floor parked = parked ≡ false
 
--- if a goroutine stands here, it is not lent
+-- if there is a goroutine here, it is not lent
 abbrev pub IsUnlent : Option (Row State) → Type 0
 IsUnlent row = IfSome row (λ row. row.lease ≡ None)
 
@@ -82,7 +82,7 @@ abbrev pub lent_clock : Option (Row State) → Option ℕ
 lent_clock None = None
 lent_clock (Some row) = cond (is_some row.lease) (Some row.floor) None
 
--- its clock, where those that are parked count, or those that may be lent, or its floor, where all do
+-- its clock, if it is among those that are parked, or that may be lent; among all, its floor
 abbrev pub clock_among : Among → Option (Row State) → Option ℕ
 clock_among among.Parked row = waiting_clock row
 clock_among among.Free row = free_clock row
@@ -142,7 +142,7 @@ IsWorked code limit quantum base answer row =
     Goes code limit quantum base row.state × IsStateOf code limit row.state × (row ≡ back_row row.state (is_some (asks (code_kind code) limit row.state)))
     × MatchOption answer (row.parked ≡ false) (λ asking. (asking ≡ row.parked) × (asking ≡ false → steps code limit quantum base ≡ row.state))
 
--- goroutine n, which may be lent, has made local steps where it stands
+-- goroutine n, which may be lent, has made local steps at its index
 abbrev pub WorksIn : Code → ℕ → ℕ → Rows → ℕ → Option Bool → Rows → Type 0
 WorksIn code limit quantum old n answer new =
     (base : State) × (row : Row State) × IsFreeIn old n base × IsWorked code limit quantum base answer row × (new ≡ slice_set old n (Some row))

@@ -1,4 +1,4 @@
-//! Goroutines that are awake or asleep, of which the first by their clocks stand in heaps.
+//! Goroutines that are awake or asleep. Heaps give the first of them by their clocks.
 
 ghost use Rattle.std.specs.Prelude.{◌≡◌, ◌≢◌, ◌++◌, ◌∷◌, [], IfNone, IfOk, IfSome, IsSome, MatchOption, None, OnErr, OnOk, Some, false, length, option_map, slice_index_or, slice_set, true};
 ghost use Rattle.std.specs.Option.{is_some};
@@ -246,7 +246,7 @@ impl Goroutines {
         state
     }
 
-    /// Goroutine `number`, which may be lent, makes at most `quantum` local steps where it stands, up to a request, and is parked if
+    /// Goroutine `number`, which may be lent, makes at most `quantum` local steps in its slot, up to a request, and is parked if
     /// it then makes one. Returns whether it does.
     ///
     /// Errors: out of memory, when some of the steps may be made.
@@ -318,7 +318,7 @@ impl Goroutines {
         soonest(own, self.orders.others(among))
     }
 
-    /// A goroutine that stands before the key: an awake one whose floor the key is not below. `None` if the key has the turn.
+    /// A goroutine that comes before the key: an awake one whose floor the key is not below. `None` if the key has the turn.
     #[inline(always)]
     pub fn blocker(&self, key: Key) -> Option<u64>
         ensures { MatchOption result (has_turn key 0 self.now.rows ≡ true) (λ n. (has_turn key 0 self.now.rows ≡ false) × IsBefore self.now.rows key n) }
@@ -332,7 +332,7 @@ impl Goroutines {
         Some(number)
     }
 
-    /// A goroutine that is not above the key: one that stands before it, or its own at an earlier floor. If there is none, the key
+    /// A goroutine that is not above the key: one that comes before it, or its own at an earlier floor. If there is none, the key
     /// has the turn.
     #[inline(always)]
     fn not_above(&self, key: &Key) -> Option<u64>

@@ -1,5 +1,5 @@
-//! The orders in which awake goroutines stand: by the clocks at which they are parked, by those at which they may be lent,
-//! and, those that are lent, by their floors.
+//! The orders of awake goroutines: by the clocks at which they are parked, by those at which they may be lent,
+//! and, of those that are lent, by their floors.
 
 ghost use Rattle.std.specs.Prelude.{◌≡◌, ◌≢◌, [], IfSome, None, OnErr, OnOk};
 ghost use Rattle.awake_rows.specs.Living.{AreOrders, HaveGrown, IsFirst, IsOther, Items, clocks_of, keyed, noted, now_late, row_in, soonest, with_place};
@@ -20,7 +20,7 @@ use steps::Steps;
 /// The keys of goroutines, by their slots. The keys of a slot are set only once the row in another slot changes, so a row that changes
 /// several times in a row sets its keys once.
 pub(crate) struct Orders {
-    /// Of those that stand at their requests.
+    /// Of those that are at their requests.
     pub parked: KeyIndex,
     /// Of those that may be lent.
     pub free: KeyIndex,
@@ -87,7 +87,7 @@ impl Orders {
     }
 }
 
-/// The clocks by which a goroutine stands in the orders, where it stands in them.
+/// The clock of a goroutine in each of the orders, if it is in that order.
 #[derive(Clone, Copy)]
 pub(crate) struct Clocks {
     pub parked: Option<Clock>,

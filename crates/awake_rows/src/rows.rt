@@ -115,7 +115,7 @@ pub(crate) fn lend_row(items: &mut [Option<Goroutine>], slot: usize) -> Option<G
     None
 }
 
-/// A goroutine that may be lent makes local steps where it stands. Returns whether it then makes a request.
+/// A goroutine that may be lent makes local steps in its slot. Returns whether it then makes a request.
 #[inline(always)]
 pub(crate) fn work_row(
     alloc: Global,
@@ -210,7 +210,7 @@ pub(crate) fn wake_at(
     put_at(items, slot, Goroutine::Awake(Slot::free(state)));
 }
 
-/// Adds indexes to `items` and `orders` until they have `slot`. Nothing stands there.
+/// Adds empty indexes to `items` and `orders` until they have `slot`.
 ///
 /// Errors: out of memory. Some of the indexes may be added then.
 pub(crate) fn make_room(

@@ -50,7 +50,7 @@ pub struct Slot {
     held: Held,
     /// A clock that its next request is not below.
     floor: Clock,
-    /// Whether it stands at its request, and waits for its turn.
+    /// Whether it is at its request, and waits for its turn.
     parked: bool,
 }
 
@@ -74,7 +74,7 @@ impl Slot {
         Slot::back(state, false)
     }
 
-    /// A goroutine that stands at its request, or may be lent.
+    /// A goroutine that is at its request, or may be lent.
     #[inline(always)]
     pub fn back(state: GoState, parked: bool) -> Slot
         ensures { result ≡ back_row state parked }
@@ -211,8 +211,8 @@ impl Slot {
         }
     }
 
-    /// One that may be lent makes at most `quantum` local steps where it stands, up to a request, and is parked if it then makes
-    /// one. Returns whether it does.
+    /// A goroutine that may be lent makes at most `quantum` local steps in its slot, up to a request, and is parked if it then
+    /// makes one. Returns whether it does.
     ///
     /// Errors: out of memory, when some of the steps may be made.
     pub(crate) fn work(
@@ -380,7 +380,7 @@ impl Slot {
         }
     }
 
-    /// One that is lent comes back in its present state, and is parked if it stands at a request.
+    /// A goroutine that is lent comes back in its present state, and is parked if it is at a request.
     fn give_back(&mut self, alloc: Global, code: &Verified, limit: u64) -> Result<(), Memory>
         requires { IsRowOf code.now limit self.old }
         ensures ok { OnOk result (self.new ≡ give_back (rules (code_kind code.now) limit) self.old self.old.lease) }

@@ -14,7 +14,7 @@ use slot_index::SlotIndex;
 /// Whose clocks count.
 #[derive(Clone, Copy)]
 pub enum Among {
-    /// Those that stand at their requests.
+    /// Those that are at their requests.
     Parked,
     /// Those that may be lent.
     Free,

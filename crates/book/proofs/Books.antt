@@ -1,4 +1,4 @@
--- Each call of the book leaves it where the one-thread run stands.
+-- Each call of the book leaves it in a state of the one-thread run.
 use Rattle.std.proofs.Common.{◌≡◌, ◌≢◌, ℕ, zero, suc, ◌+◌, ◌*◌, ◌<◌, ◌≤◌, ◌^◌, Bool, true, false, cond, List, [], ◌∷◌, ◌++◌, map, length, take, drop, Option, Some, None, refl, sym, ap, ◌∙◌, subst, inl, inr, arith, length-append, get_or-set_same}
 use Rattle.std.specs.Prelude.{slice_index_or, slice_set, slice_get, option_map}
 use Rattle.std.specs.Option.{is_some, MatchOption}

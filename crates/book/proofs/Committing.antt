@@ -47,7 +47,7 @@ settled_keeps_run code limit traces old new event (Err x) h e is = looks_keep_ru
 pub leases_stay : (a b c : Desk) → KeepsLeases a b → KeepsLeases b c → KeepsLeases a c
 leases_stay a b c h k = λ l out. k l (h l out)
 
--- whether an event is committed, by what is answered of its place
+-- whether an event is committed, by what was reached
 pub settled_one : (old new : Desk) (event : Recorded) (r : Reached) (committed : Bool) → Settles old (settled_by r event) new → is_committed (settled_by r event) ≡ committed → SettlesOne old committed new
 settled_one old new event r committed h is = (settled_by r event, h, is)
 

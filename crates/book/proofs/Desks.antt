@@ -1,4 +1,4 @@
--- The book stands where the one-thread run does.
+-- The book is in a state of the one-thread run.
 use Rattle.std.proofs.Common.{◌≡◌, ℕ, ◌≢◌, Bool, true, false, cond, Option, Some, None, refl, sym, ap, ◌∙◌, arith, get_or, length-set}
 use Rattle.std.specs.Prelude.{slice_index_or, slice_set}
 use Rattle.std.proofs.lemmas.Bool.{true≢false}
@@ -14,7 +14,7 @@ use Rattle.turn_rule.specs.Schedule.{Machine, RowOk, RowStands, Stands, Laws, at
 use Rattle.turn_rule.proofs.Stable.{Meets_trans, at_row_keeps, lend_step, set_both, settle_by, parked_row}
 
 module _ {S W : Type 0} (r : Rules S W) (laws : Laws r) where
-  -- a lent row keeps the machine where it stands
+  -- lending a row keeps the machine where the run is
   pub lend_keeps : (m : Machine S W) (w : World S W) (n : ℕ) → Stands r m w → Stands r (at_row r (lend r) m n) w
   lend_keeps m w n h = at_row_keeps r laws (lend r) (record { by = lend_step r laws }) m w n h
 
@@ -30,7 +30,7 @@ module _ {S W : Type 0} (r : Rules S W) (laws : Laws r) where
       let all = set_both r laws w.awake m.rows h.size h.rows n (get_or w.awake n None) p (returned (get_or w.awake n None) row s floor f (rw at at (h.rows n)) leads) in
       record { shared = h.shared; size = length-set m.rows n p ∙ h.size; rows = rw (set-get_or w.awake n None) at all }
 
-  -- what settling makes of the machine is where the run stands after some more moves
+  -- what settling makes of the machine is where the run is after some more moves
   pub settle_keeps : (m : Machine S W) (w : World S W) → Stands r m w → r.is_over m.shared ≡ false → (n : ℕ) × Stands r (settle_key r m (least (keys (parked_clock r) 0 m.rows))) (run r n w)
   settle_keeps m w h e = settle_by r laws m w h e (least (keys (parked_clock r) 0 m.rows)) (next_is (parked_clock r) None refl m.rows)
 

@@ -1,4 +1,4 @@
--- A look keeps the machine where the one-thread run stands.
+-- A look keeps the machine where the one-thread run is.
 use Rattle.std.proofs.Common.{◌≡◌, ℕ, zero, suc, ◌+◌, ◌≤◌, ◌==◌, Bool, true, false, cond, List, [], ◌∷◌, Option, Some, None, length, ap, refl, sym, ◌∙◌, subst, inl, inr, arith, get_or, length-set, get_or-set_same, get_or-set_other}
 use Rattle.std.specs.Prelude.{slice_index_or, slice_set, option_map, unwrap_or}
 use Rattle.std.specs.Option.{is_some}
@@ -109,7 +109,7 @@ seen_is_desk d x h s =
 
 -- ---- what a look leaves of rows and words
 
--- the goroutine that stands in a row after a look
+-- the goroutine that is in a row after a look
 pub record IsRaised (row new : Row State) : Type 0 where
   pub state : new.state ≡ row.state
   pub lease : new.lease ≡ row.lease
@@ -127,7 +127,7 @@ within_rows rows n row e = elim (cases_lt n (length rows)) [
   | inr l ↦ absurd (some_not_none row (sym e ∙ get_or_past rows n None l))
 ]
 
--- a goroutine that stood in a row still does
+-- a goroutine that was in a row still is
 pub still_there : (rows : Rows) (n p k : ℕ) (row : Row State) → slice_index_or rows k None ≡ Some row → (new : Row State) × (slice_index_or (raised_rows rows n p) k None ≡ Some new) × IsRaised row new
 still_there rows n p k row here = elim (cases_eq k n) [
   | inl same ↦

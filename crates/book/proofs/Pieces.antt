@@ -80,7 +80,7 @@ module _ (run : Run) where
   bytes_longer : (n m : ℕ) → n ≤ m → IsPrefixOf (bytes_after run n) (bytes_after run m)
   bytes_longer n m le = kind_longer run.kind (code_kind run.program) run.limit n m le
 
-  -- a piece stands there later too
+  -- a piece is there later too
   piece_later : (from : ℕ) (bytes : List ℕ) (p : IsPieceOf run from bytes) (m : ℕ) → p.0 ≤ m → (from + length bytes ≤ length (bytes_after run m)) × (take (length bytes) (drop from (bytes_after run m)) ≡ bytes)
   piece_later from bytes p m le =
       let q = longer_piece (bytes_after run p.0) (bytes_after run m) from (length bytes) (bytes_longer p.0 m le) p.1 in
@@ -105,7 +105,7 @@ module _ (run : Run) where
       let t = length-take-le k bytes le in
       (w.0 ++ take k bytes, appends_more known old new w.0 (take k bytes) w.1 a, pieces_join w.0 bytes k le w.2 q, omega (arith, e, l, t))
 
-  -- the bytes of the next piece are written, up to a place
+  -- the bytes of the next piece are written, up to an offset
   pub written_to : (known old new : Option (List ℕ)) (place to from : ℕ) (bytes : List ℕ) → from ≡ place → place ≤ to → to ≤ place + length bytes → IsPieceOf run from bytes → Appends old new (take (to - place) bytes) → Written run known old place → Written run known new to
   written_to known old new place to from bytes at le most p a w =
       subst (λ n. Written run known new n) (omega (arith, le)) (written_more known old new place from (to - place) bytes at p (omega (arith, le, most)) a w)
@@ -199,7 +199,7 @@ wrote_on r s known old new a b is writes w = subst (λ (x : Run). Written x know
 pub hands_next : (p : Progress) (piece : Piece) (run : Run) → run_of p ≡ run → IsHanded run piece → IsHanded (run_of p) piece
 hands_next p piece run is h = subst (λ (x : Run). IsHanded x piece) (sym is) h
 
--- where a piece was written up to
+-- the offset up to which a piece was written
 pub reached : (place amount old : ℕ) (piece out : Piece) → piece ≡ out → place ≡ piece.from + length piece.bytes.items → out.from ≡ old → amount ≡ old + length out.bytes.items → place ≡ amount
 reached place amount old piece out same up from more = up ∙ ap (λ (p : Piece). p.from + length p.bytes.items) same ∙ ap (λ n. n + length out.bytes.items) from ∙ sym more
 

@@ -109,7 +109,7 @@ module _ (code : Code) (limit : ℕ) where
   pub book_takes_trace : (d : Desk) (places : Numbered) (count : ℕ) (left : List ℕ) → IsBook code limit d places → count ≡ length d.lines → left ≡ [] → IsBook code limit (record d { traced = d.traced + count; lines = left }) places
   book_takes_trace d places count left h whole none = record { desk = trace_taken d count left h.desk whole none; tied = taken_tied d places d.taken (d.traced + count) d.pending left h.tied; code_is = h.code_is; limit_is = h.limit_is }
 
-  -- the word at a lent goroutine's place
+  -- the word of a lent goroutine's slot
   pub book_words : (d : Desk) (places : Numbered) (n : ℕ) → IsBook code limit d places → d.core.ending ≡ None → (lent : HasLease d.core.rows n) → IsLentOn (loan_for d.code d.limit n lent.0.state) (word_at d.words (place_of places n))
   book_words d places n h going lent = h.tied.lent (ap is_some going) n lent.0 lent.1 lent.2
 

@@ -33,13 +33,13 @@ abbrev pub IsEvent : Code → ℕ → ℕ → Event → Type 0
 IsEvent code limit before event =
     (n : ℕ) × (slice_get (moment (code_kind code) limit n).shared.shared.events before ≡ Some event)
 
--- the bytes stand at offset `from` of the output
+-- the bytes are at offset `from` of the output
 abbrev pub IsPiece : Code → ℕ → ℕ → List ℕ → Type 0
 IsPiece code limit from bytes =
     (n : ℕ) × (from + length bytes ≤ length (moment (code_kind code) limit n).shared.shared.output)
     × (take (length bytes) (drop from (moment (code_kind code) limit n).shared.shared.output) ≡ bytes)
 
--- the bytes stand at offset `from` of the trace
+-- the bytes are at offset `from` of the trace
 abbrev pub IsTracePiece : Code → ℕ → ℕ → List ℕ → Type 0
 IsTracePiece code limit from bytes =
     (n : ℕ) × (from + length bytes ≤ length (trace (moment (code_kind code) limit n).shared.shared.events))
@@ -80,7 +80,7 @@ pub record Desk : Type 0 where
   pub words : List Word
   pub looks : ℕ
 
--- the machine m is this desk's, and stands where the one-thread run does after n moves
+-- the machine m is this desk's, and is where the one-thread run is after n moves
 pub record IsAt (d : Desk) (n : ℕ) (m : CodeMachine) : Type 0 where
   pub stands : Stands (rules (code_kind d.code) d.limit) m (moment (code_kind d.code) d.limit n)
   pub core : IsCoreOf m d.core
@@ -126,7 +126,7 @@ pub record Held : Type 0 where
   pub slot : ℕ
   pub published : ℕ
 
--- the goroutine is lent in this state, and its clock stands in the slot's word
+-- the goroutine is lent in this state, and its clock is in the slot's word
 abbrev pub lent_desk : Desk → Held → Desk
 lent_desk d l = record d {
   core = record d.core { rows = slice_set d.core.rows l.number (Some (lent_row l.base)) };

@@ -27,7 +27,7 @@ bytes_of Trace w = trace w.events
 abbrev pub bytes_after : Run → ℕ → List ℕ
 bytes_after run n = bytes_of run.kind (moment (code_kind run.program) run.limit n).shared.shared
 
--- the bytes stand at offset `from` of the run's bytes
+-- the bytes are at offset `from` of the run's bytes
 abbrev pub IsPieceOf : Run → ℕ → List ℕ → Type 0
 IsPieceOf run from bytes =
     (n : ℕ) × (from + length bytes ≤ length (bytes_after run n)) × (take (length bytes) (drop from (bytes_after run n)) ≡ bytes)

@@ -55,7 +55,7 @@ pub record IsTied (d : Desk) (places : Numbered) : Type 0 where
   pub back : (s : ℕ) (loan : Loan) → IsLentOn loan (word_at d.words s) → IsOut d places s loan
   pub placed : (n s : ℕ) → slot_of places n ≡ Some s → (loan : Loan) × IsLentOn loan (word_at d.words s) × (loan.number ≡ n)
 
--- the desk stands where the one-thread run does, its words are tied to its rows, and it is of this code and limit
+-- the desk is in a state of the one-thread run, its words are tied to its rows, and it is of this code and limit
 pub record IsBook (code : Code) (limit : ℕ) (d : Desk) (places : Numbered) : Type 0 where
   pub desk : IsDesk d
   pub tied : IsTied d places

@@ -215,8 +215,8 @@ impl<B: BookName> Book<B> {
         }
     }
 
-    /// The goroutine that would be lent makes at most `quantum` local steps where it stands, up to a request, and is parked if it then
-    /// makes one. Returns whether it does; none if no goroutine can be lent. It has no lease, so its clock is not published: the caller
+    /// The goroutine that would be lent makes at most `quantum` local steps without a lease, up to a request, and is parked if it then
+    /// makes one. Returns whether it does; none if no goroutine can be lent. Without a lease its clock is not published: the caller
     /// sees it in the book.
     ///
     /// Errors: out of memory, when some of the steps may be made.

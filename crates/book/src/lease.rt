@@ -31,7 +31,7 @@ pub struct Lease<B: BookName> {
     number: u64,
     base: Snapshot<GoState>,
     present: GoState,
-    /// Whether it is known that the goroutine stands at a request.
+    /// Whether it is known that the goroutine is at a request.
     stands: bool,
     seat: LeaseSeat,
     of: PhantomData<B>,
@@ -76,7 +76,7 @@ impl<B: BookName> Model for Lease<B> {
 }
 
 impl<B: BookName> Lease<B> {
-    /// Makes at most `quantum` local steps, up to a request; returns whether the goroutine then stands at one. Its clock is
+    /// Makes at most `quantum` local steps, up to a request; returns whether the goroutine is then at one. Its clock is
     /// published then.
     pub fn work(&mut self, quantum: u32) -> Result<bool, Memory>
         ensures asks { IfOk result (λ asking. asking ≡ is_some (asks (code_kind self.old.code) self.old.limit self.new.present)) }
@@ -99,7 +99,7 @@ impl<B: BookName> Lease<B> {
         self.number
     }
 
-    /// Whether the goroutine stands at a request.
+    /// Whether the goroutine is at a request.
     pub fn is_asking(&self) -> bool
         ensures { result ≡ is_some (asks (code_kind self.now.code) self.now.limit self.now.present) }
     {
@@ -166,7 +166,7 @@ impl<B: BookName> Lease<B> {
     }
 }
 
-/// Whether this is the answer that a goroutine stands at a request.
+/// Whether `answer` says that a goroutine is at a request.
 fn is_yes(answer: &Result<bool, Memory>) -> bool
     ensures { result ≡ true → answer.now ≡ Ok true }
 {

@@ -1,4 +1,4 @@
-//! The book of a run, which stands where the one-thread run does, the leases of goroutines that run ahead, and what is handed out
+//! The book of a run, which is in a state of the one-thread run, the leases of goroutines that run ahead, and what is handed out
 //! of the book of a run that has a name.
 #![tactic(auto)]
 

@@ -69,8 +69,8 @@ impl<B: RunName> RunBook<B> {
         self.book.lend()
     }
 
-    /// The goroutine that would be lent makes at most `quantum` local steps where it stands, up to a request. Returns whether it then
-    /// makes one; none if no goroutine can be lent.
+    /// The goroutine that would be lent makes at most `quantum` local steps without a lease, up to a request. Returns whether it
+    /// then makes one; none if no goroutine can be lent.
     #[inline(always)]
     pub fn work(&mut self, quantum: u32) -> Result<Option<bool>, Memory>
         ensures none { IfOk result (λ found. IfNone found ((to_lend self.old.book.core ≡ None) × (self.new.book.core ≡ self.old.book.core))) }

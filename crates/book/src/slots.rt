@@ -71,7 +71,7 @@ impl<B: BookName> Slots<B> {
         })
     }
 
-    /// Gives goroutine `number`, which is lent in `state`, a free slot: the state's clock stands in its word. Returns the
+    /// Gives goroutine `number`, which is lent in `state`, a free slot: the slot's word is the state's clock. Returns the
     /// program for the lease, and its seat.
     pub fn lend(
         &mut self,

@@ -1,4 +1,4 @@
--- Verified code never meets a word of another kind, a word too few, or a place that is not there.
+-- Verified code never meets a word of another kind, a word too few, or a pc that is not there.
 use Rattle.std.proofs.Common.{◌≡◌, ℕ, ℤ, pos, negsuc, zero, suc, ◌+◌, ◌-◌, ◌<◌, ◌≤◌, List, [], ◌∷◌, ◌++◌, length, take, drop, map, Option, Some, None, Ok, Err, refl, sym, ap, ◌∙◌, subst, arith, Bool, true, false, cond, nat_lt, slice_get, slice_range, take-append-drop, append_assoc}
 use Rattle.std.proofs.lemmas.List.{length-take}
 use Rattle.std.proofs.Math.Seq.{drop-append_seam, take-append_seam}
@@ -317,7 +317,7 @@ module _ (code : Code) where
         let more = cases_there xs (drop n ws) (λ k y e. s (suc k) y e) (subst (AllHave (drop n ws)) (drop-append_seam ks rest) (all_drop n ws (ks ++ rest) h)) in
         (one.0 ∷ more.0, ap (λ o. also o (cases_of code xs (drop n ws))) one.1 ∙ ap (also (Some one.0)) more.1)
 
-    -- what stands at a place to which a path leads
+    -- the instruction at a pc to which a path leads
     pub record There (g place : ℕ) (ks : List WordKind) : Type 0 where
       pub function : Function
       pub instr : Instr

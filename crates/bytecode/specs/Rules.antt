@@ -26,7 +26,7 @@ rule_number Locals = 6
 rule_number Tables = 7
 rule_number Main = 8
 
--- the places to which an instruction may lead
+-- the pcs to which the instruction at pc `place` may lead
 abbrev pub ways : Code → Instr → ℕ → List ℕ
 ways code (instrs.Jump to) place = to ∷ []
 ways code (instrs.Unless to) place = (place + 1) ∷ (to ∷ [])
@@ -35,7 +35,7 @@ ways code instrs.Return place = []
 ways code (instrs.Select q) place = targets_in (slice_get code.selects q)
 ways code i place = (place + 1) ∷ []
 
--- a path of n instructions that fit, from a function's start to a place, and the kinds on the stack there
+-- a path of n instructions that fit, from a function's start to pc `place`, and the kinds on the stack there
 abbrev pub Path : Code → Function → ℕ → ℕ → List WordKind → Type 0
 Path code f zero place ks = (place ≡ 0) × (ks ≡ [])
 Path code f (suc n) place ks =
@@ -50,7 +50,7 @@ IsThere code (kinds.Chan s) = s < length code.shapes
 abbrev pub AreThere : Code → List WordKind → Type 0
 AreThere code ks = (n : ℕ) (k : WordKind) → slice_get ks n ≡ Some k → IsThere code k
 
--- places are within a function of `n` instructions (`AreWithin`), and lie after a place (`AreBehind`)
+-- pcs are within a function of `n` instructions (`AreWithin`), and are after pc `place` (`AreBehind`)
 abbrev pub AreWithin : List ℕ → ℕ → Type 0
 AreWithin places n = (k to : ℕ) → slice_get places k ≡ Some to → to < n
 
@@ -72,7 +72,7 @@ Named code f (instrs.Print q) = q < length code.prints
 Named code f (instrs.Select q) = (q < length code.selects) × AreWithin (targets_in (slice_get code.selects q)) (length f.instrs)
 Named code f i = Unit {0}
 
--- its ways lead to places of the function
+-- its ways lead to pcs of the function
 abbrev pub Inside : Function → ℕ → Instr → Type 0
 Inside f place (instrs.Jump to) = to < length f.instrs
 Inside f place (instrs.Unless to) = (to < length f.instrs) × (place + 1 < length f.instrs)
@@ -163,7 +163,7 @@ abbrev pub Parting : Code → Function → ℕ → Type 0
 Parting code f place =
     (n : ℕ) × (m : ℕ) × (ks : List WordKind) × (js : List WordKind) × Path code f n place ks × Path code f m place js × (ks ≡ js → ⊥)
 
--- a rule that a function breaks at a place; its heading stands at place 0
+-- a rule that a function violates at pc `place`; its heading counts as pc 0
 abbrev pub BrokenIn : Code → Function → Rule → ℕ → Type 0
 BrokenIn code f Names place = ((i : Instr) × (slice_get f.instrs place ≡ Some i) × (Named code f i × Inside f place i → ⊥)) ⊎ ((place ≡ 0) × (IsHeaded code f → ⊥))
 BrokenIn code f Targets place = (i : Instr) × (slice_get f.instrs place ≡ Some i) × (Directed code place i → ⊥)
@@ -174,7 +174,7 @@ BrokenIn code f Locals place = Misfit code f Locals place
 BrokenIn code f Tables place = ⊥
 BrokenIn code f Main place = ⊥
 
--- a rule that code violates outside its functions; a shape's or a table's number stands as the place
+-- a rule that code violates outside its functions; `place` is the number of the shape or table
 abbrev pub BrokenBeside : Code → Rule → ℕ → Type 0
 BrokenBeside code Names place =
     ((ks : List WordKind) × (slice_get code.shapes place ≡ Some ks) × (AreThere code ks → ⊥))
@@ -186,7 +186,7 @@ BrokenBeside code Tables place =
 BrokenBeside code Main place = (place ≡ 0) × (HasMain code → ⊥)
 BrokenBeside code rule place = ⊥
 
--- a rule that is violated at a place of a function, or outside the functions, in which case the function's number is 0
+-- a rule that is violated at a pc of a function, or outside the functions, in which case the function's number is 0
 abbrev pub Breaks : Code → Rule → ℕ → ℕ → Type 0
 Breaks code rule function place =
     ((f : Function) × (slice_get code.functions function ≡ Some f) × BrokenIn code f rule place) ⊎ ((function ≡ 0) × BrokenBeside code rule place)
@@ -211,7 +211,7 @@ AllHave ws ks = ⊥
 abbrev pub Stands : Code → Frame → List WordKind → Type 0
 Stands code c results = (f : Function) × (slice_get code.functions c.function ≡ Some f) × (f.results ≡ results) × AllHave c.locals f.locals
 
--- each caller waits for results of these kinds, which its place expects on its stack
+-- each caller waits for results of these kinds, which the code at its pc expects on its stack
 abbrev pub Await : Code → List WordKind → Frames → Type 0
 Await code results [] = Unit {0}
 Await code results (c ∷ cs) =

@@ -13,7 +13,7 @@ pub enum WordKind {
     Chan(u32),
 }
 
-/// An instruction. Places of instructions, functions, locals, shapes and tables are counted from 0. Words are taken from
+/// An instruction. Instructions (by pc), functions, locals, shapes and tables are counted from 0. Words are taken from
 /// the top of the operand stack, the last one named being on its top, and left there.
 #[derive(Clone, Copy, PartialEq, Eq)]
 pub enum Instr {
@@ -35,11 +35,11 @@ pub enum Instr {
     Apply(Op),
     /// One assignment is completed: the clock grows by 1.
     Tick,
-    /// Goes on at this index, which lies ahead.
+    /// Goes on at this pc, which is ahead.
     Jump(u32),
-    /// Pops a truth value and, if it is false, goes on at this index, which lies ahead.
+    /// Pops a truth value and, if it is false, goes on at this pc, which is ahead.
     Unless(u32),
-    /// Goes back to this index; the clock grows by 1.
+    /// Goes back to this pc; the clock grows by 1.
     Loop(u32),
     /// Pops its arguments and enters the function of this number; the clock grows by 1. Panics at 1,000 functions.
     Call(u32),
@@ -61,7 +61,7 @@ pub enum Instr {
     Cap,
     /// Pops the values of the print table of this number, and requests to print them.
     Print(u32),
-    /// Pops the operands of the select table of this number, and requests one of its clauses; goes on where the clause
-    /// that was done does, or where the default does. Of a receive the item and a truth value are pushed.
+    /// Pops the operands of the select table of this number, and requests one of its clauses; goes on at the pc of the
+    /// clause that was done, or of the default. Of a receive the item and a truth value are pushed.
     Select(u32),
 }

@@ -214,10 +214,10 @@ fn same_parts(left: &[Part], right: &[Part]) -> bool
 /// A clause of a select.
 #[derive(Clone, Copy, PartialEq, Eq)]
 pub enum Clause {
-    /// Sends an item of the first number's shape, and goes on at the second number's place.
+    /// Sends an item of the first number's shape, and goes on at the pc that is the second number.
     Send(u32, u32),
-    /// Receives an item of the first number's shape, and goes on at the second number's place with the item and a truth
-    /// value.
+    /// Receives an item of the first number's shape, and goes on at the pc that is the second number, with the item and a
+    /// truth value.
     Receive(u32, u32),
 }
 
@@ -243,7 +243,7 @@ impl Clause {
     }
 }
 
-/// The clauses of a select, in source order, and where its default goes on, if it has one.
+/// The clauses of a select, in source order, and the pc of its default, if it has one.
 pub struct SelectTable {
     clauses: Vec<Clause>,
     default: Option<u32>,
@@ -282,7 +282,7 @@ impl SelectTable {
         self.clauses.as_slice()
     }
 
-    /// Where the default goes on; none if there is no default.
+    /// The pc at which the default goes on; `None` if there is no default.
     pub fn default(&self) -> Option<u32>
         ensures { result ≡ self.now.default }
     {

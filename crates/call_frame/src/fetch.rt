@@ -24,7 +24,7 @@ pub fn instr_of<'a>(code: &'a Code, frame: &Frame) -> Option<&'a Instr>
     f.instrs().get(frame.place)
 }
 
-/// The instruction at a frame's place.
+/// The instruction at a frame's pc.
 #[inline(always)]
 pub fn instr_at<'a>(frame: &Frame, instrs: &'a [Instr]) -> Option<&'a Instr>
     ensures instr { IfSome result (λ i. slice_get instrs.now frame.now.place ≡ Some i.now) }
@@ -74,7 +74,7 @@ fn is_request(i: &Instr) -> bool
     }
 }
 
-/// Whether a frame stands at such an instruction, which in verified code makes a request whatever its operands are.
+/// Whether a frame is at such an instruction, which in verified code makes a request whatever its operands are.
 pub fn stands_at_request(code: &Code, frame: &Frame) -> bool
     ensures stands { IsTrue result ↔ StandsAtRequest code.now frame.now }
     ensures asks { IsTrue result → (callers : Frames) → AsksOrFails (code_next code.now (frame.now ∷ callers)) }

@@ -11,7 +11,7 @@ use std::alloc::{AllocError, Global};
 use std::marker::Model;
 use word::value::Word;
 
-/// A function that runs: its number, the place of its next instruction, its locals and its operand stack.
+/// A function that runs: its number, the pc of its next instruction, its locals and its operand stack.
 pub struct Frame {
     pub(crate) function: usize,
     pub(crate) place: usize,
@@ -162,7 +162,7 @@ impl Frame {
         self.function
     }
 
-    /// The place of its next instruction.
+    /// The pc of its next instruction.
     #[inline(always)]
     pub fn place(&self) -> usize
         ensures { result ≡ self.now.place }

@@ -73,7 +73,7 @@ pub fn pick(
     Ok(())
 }
 
-/// Pops the word on the top, which stands at `at`, into local `to`, and goes on.
+/// Pops the word on the top, which is at index `at`, into local `to`, and goes on.
 #[inline(always)]
 pub(crate) fn store_top(frame: &mut Frame, to: usize, at: usize)
     requires place { frame.old.place + 1 < 2 ^ 64 }
@@ -87,7 +87,7 @@ pub(crate) fn store_top(frame: &mut Frame, to: usize, at: usize)
     frame.place += 1;
 }
 
-/// Goes on to the next place.
+/// Goes on to the next pc.
 #[inline(always)]
 pub(crate) fn go_on(frame: &mut Frame)
     requires { frame.old.place + 1 < 2 ^ 64 }

@@ -136,8 +136,8 @@ pub(crate) fn loop_to(may: bool, frame: &mut Frame, to: u32) -> Stepped
     tick_to(may, frame, to as usize, have)
 }
 
-/// An instruction that most functions are made of, if it is a local step; `Asking` or `Stuck` stands for any other, which is
-/// not done. A tick is made if it may be.
+/// Does one of the most frequent instructions, if it is a local step; returns `Asking` or `Stuck` for any other, which is
+/// not done. Makes a tick if `may` is true.
 #[inline(never)]
 pub fn quick(f: &Function, may: bool, frame: &mut Frame, i: &Instr) -> Stepped
     requires { frame.old.place + 1 < 2 ^ 64 }

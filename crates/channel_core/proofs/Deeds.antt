@@ -71,7 +71,7 @@ module _ (old : ChannelsValue) (k clause : ℕ) (front : Item) (o : Others) (n c
 done_inj : (a b : Reply) → Done a ≡ Done b → a ≡ b
 done_inj a b e = cc
 
--- a request of which this stands in an event is done, and these are woken
+-- a request that has this fate in its event is done, and these are woken
 pub done_is : (o : Others) (n c : ℕ) (q : Request) (fate : Fate) (w : Vec (ℕ × Reply)) (r : Reply) (new : ChannelsValue) → outcome_of fate ≡ Done r → deed o n c q r w.items new.channels new.asleep ≡ deed_of o n c q (came fate w) new
 done_is o n c q (fates.Done reply) w r new e = ap (λ (a : Reply). deed o n c q a w.items new.channels new.asleep) (sym (done_inj (reply_of reply) r e))
 done_is o n c q fates.Sleeps w r new e = cc

@@ -39,7 +39,7 @@ module _ (slot : ℕ → Option Sleeper) (key_of : ℕ → Option ℕ) (ks : Lis
   pub vacant : (k : ℕ) → slot k ≡ None → has k ks ≡ false
   vacant k e = sym (a.kept k) ∙ ap is_some e
 
-  -- nothing stands anywhere for a key that is not in use
+  -- no row has anything for a key that is not in use
   pub nothing_of : (k : ℕ) → slot k ≡ None → filter (is_not_of k) ps ≡ ps
   nothing_of k e =
       ap (filter (is_not_of k)) a.rows ∙ filter-placed_by slot k ks ∙ ap (placed_by slot) (absent k ks (vacant k e)) ∙ sym a.rows

@@ -1,4 +1,4 @@
--- Lists of keys, and what stands for them in rows.
+-- Lists of keys, and what rows have for them.
 use Rattle.std.proofs.Common.{◌≡◌, ◌≢◌, ℕ, suc, ◌+◌, Bool, true, false, not, ◌||◌, List, [], ◌∷◌, ◌++◌, length, append_assoc, Option, refl, sym, ap, ◌∙◌, subst, arith, inl, inr}
 use Rattle.std.specs.Prelude.{◌==◌, map}
 use Rattle.std.specs.List.{filter}
@@ -97,7 +97,7 @@ distinct_more k (j ∷ ks) d h =
     let p = or_parts (j == k) (has k ks) h in
     (has_more_other j k (λ (e : j ≡ k). both_ways (j == k) p.0 (same_key j k e)) ks ∙ d.0, distinct_more k ks d.1 p.1)
 
--- ---- what stands in rows for several keys
+-- ---- what is in rows for several keys
 
 module _ (slot : ℕ → Option Sleeper) where
   pub placed_by-append : (ks js : List ℕ) → placed_by slot (ks ++ js) ≡ placed_by slot ks ++ placed_by slot js

@@ -12,7 +12,7 @@ use Rattle.channel_core.specs.Asleep.{IsAsleep, Placed, asleep_of, held, placed,
 use Rattle.channel_core.specs.Channels.{offers_at, offers_on}
 use Rattle.channel_core.proofs.Meeting.{on_channel, on_its_channel}
 
--- how many of these stand in the rows of channel c
+-- how many of these are in the rows of channel c
 abbrev placed_on : ℕ → List Placed → ℕ
 placed_on c [] = 0
 placed_on c (p ∷ ps) = cond (on_channel c p.row) (suc (placed_on c ps)) (placed_on c ps)

@@ -51,7 +51,7 @@ abbrev pub AreDistinct : List ℕ → Type 0
 AreDistinct [] = Unit {0}
 AreDistinct (k ∷ ks) = (has k ks ≡ false) × AreDistinct ks
 
--- the sleepers of these keys, in the order in which they fell asleep: each stands where its request offers something, and can
+-- the sleepers of these keys, in the order in which they fell asleep: each is in the rows of what its request offers, and can
 -- be found by its number
 pub record IsAsleep (slot : ℕ → Option Sleeper) (key_of : ℕ → Option ℕ) (ks : List ℕ) (ps : List Placed) (count : ℕ) : Type 0 where
   pub rows : ps ≡ placed_by slot ks

@@ -14,7 +14,7 @@ use Rattle.channel_core.specs.declared.outcome.Outcome.{Outcome}
 use Rattle.channel_core.specs.declared.outcome.Outcome.TheVariants as outcomes
 use Rattle.channel_core.specs.declared.sleepers.PartnerView.{PartnerView}
 
--- channel c stands at place c, and place 0 is no channel's; sleepers stand in the order in which they fell asleep
+-- channel c is at index c, and index 0 is no channel's; sleepers are in the order in which they fell asleep
 pub record ChannelsValue : Type 0 where
   pub channels : List Channel
   pub asleep : List Sleeper
@@ -51,7 +51,7 @@ met v = record { number = v.number; case = v.case; item = option_copied v.item }
 abbrev pub partner_of : Sleeper × Offer → Partner
 partner_of p = record { number = p.0.number; case = p.1.case; item = p.1.item }
 
--- the outcome of which this stands in an event, and these were woken
+-- the outcome that has this fate in its event, and woke these goroutines
 abbrev pub came : Fate → Vec (ℕ × Reply) → Outcome
 came (fates.Done reply) woken = outcomes.Done reply woken
 came fates.Sleeps woken = outcomes.Sleeps
@@ -111,7 +111,7 @@ Receives old n k clause outcome new = (o : Others) (c : ℕ) (q : Request) → d
 abbrev pub Serves : ChannelsValue → ℕ → Case → ℕ → Outcome → ChannelsValue → Type 0
 Serves old n x clause outcome new = (o : Others) (c : ℕ) (q : Request) → do_clause (shared_with o old) n c q clause x.chan x.item ≡ deed_of o n c q outcome new
 
--- the clause at place i of a select, counted from 0
+-- the clause at index i of a select, counted from 0
 abbrev pub clause_at : List Case → ℕ → Case
 clause_at cases i = slice_index_or cases i (record { chan = None; item = None })
 

@@ -22,7 +22,7 @@ use word::value::{Item, Word};
 /// The channels of a world, and the goroutines that sleep at them, in the order in which they fell asleep.
 pub struct Channels {
     alloc: Global,
-    /// Channel c is at place c; place 0 is no channel's.
+    /// Channel c is at index c; index 0 is no channel's.
     channels: Vec<Channel>,
     asleep: Sleepers,
 }
@@ -176,8 +176,8 @@ impl Channels {
         self.send_now(number, chan, item, 0, outcome, woken)
     }
 
-    /// A receive by goroutine `number` (Go: Receive operator): of the buffer's front item, whose place the first sleeping sender's
-    /// item takes, else of that item, else of the zero item if the channel is closed, else it sleeps. On `nil` it sleeps for good.
+    /// A receive by goroutine `number` (Go: Receive operator): of the buffer's front item, and the first sleeping sender's item then
+    /// enters the buffer; else of that item; else of the zero item if the channel is closed; else it sleeps. On `nil` it sleeps for good.
     pub fn receive(&mut self, number: u64, chan: Option<u32>) -> Result<Outcome, Memory>
         ensures does { IfOk result (λ outcome. Does self.old number (Receive chan) outcome self.new) }
         ensures memory { OnErr result (self.new ≡ self.old) }

@@ -294,7 +294,7 @@ fn wake_anew(
     Ok(())
 }
 
-/// Wakes a receiver with this item, outside of a select, in place of the first that was woken; false if that one's
+/// Wakes a receiver with this item, outside of a select, instead of the first that was woken; false if that one's
 /// reply was of another form.
 #[inline(always)]
 fn wake_first(woken: &mut [Woken], number: u64, item: &Item) -> bool

@@ -1,4 +1,4 @@
-//! Where the offers of sleepers stand.
+//! The rows of the offers of sleepers.
 
 ghost use Rattle.std.specs.Prelude.{◌≡◌, ◌<◌, ◌++◌, ◌∷◌, [], map, option_copied, OnErr, OnOk};
 ghost use Rattle.std.specs.List.{filter};
@@ -114,7 +114,7 @@ fn add_rows(queues: &mut SleepQueues, row: usize) -> Result<(), Memory>
     Ok(())
 }
 
-/// All that stands for a key leaves.
+/// Removes all that is there for a key.
 pub(crate) fn leave_all(queues: &mut SleepQueues, key: u64)
     ensures { placed queues.new ≡ filter (is_not_of key) (placed queues.old) }
 {

@@ -22,7 +22,7 @@ use std::snapshot::Snapshot;
 use word::request::{Reply, Request};
 use word::value::Item;
 
-/// A goroutine that sleeps. Only contracts still see its request: what it offers stands in rows.
+/// A goroutine that sleeps. Only contracts still see its request: what it offers is in rows.
 #[derive(Drop)]
 pub(crate) struct Sleeper {
     number: u64,
@@ -152,7 +152,7 @@ impl Sleepers {
         self.queues.has_offers(row_on(chan, sends))
     }
 
-    /// Puts goroutine `number` at the back, in place of any of its number.
+    /// Removes any sleeper with this number, and puts goroutine `number` at the back.
     pub(crate) fn enter(&mut self, number: u64, request: &Request) -> Result<(), Memory>
         ensures ok { OnOk result (self.new ≡ without self.old number ++ record { number = number; request = request_of request.now } ∷ []) }
         ensures memory { OnErr result (self.new ≡ self.old) }

@@ -1,4 +1,4 @@
--- Where nothing is wrong with the parts of a file, nothing is wrong with it.
+-- If nothing is wrong with the parts of a file, nothing is wrong with it.
 use Rattle.std.proofs.Common.{◌≡◌, ℕ, ◌+◌, ◌⊎◌, true, false, inl, inr, List, [], ◌∷◌, sum_by, subst, sym, ap, ◌∙◌, arith}
 use Rattle.std.proofs.lemmas.Bool.{false≢true}
 use Rattle.go_text.specs.declared.rule.Rule.{Rule}

@@ -64,7 +64,7 @@ main_is_there : has_main (globals_of tops).functions ≡ true
 unfolding tops int group
 main_is_there = refl
 
--- a name of a parameter stands twice, that of a field too
+-- a name of a parameter occurs twice, that of a field too
 repeated_parameter : broken_by roles.Parameter (codes "x" ∷ []) (codes "x") ≡ Some rules.Declared
 repeated_parameter = refl
 

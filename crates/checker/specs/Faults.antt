@@ -9,7 +9,7 @@ use Rattle.typing_rules.specs.declared.flaw.Flaw.TheVariants.{Broken, Exceeded}
 use Rattle.typing_rules.specs.Files.{Breaks, Exceeds}
 use Rattle.checker.specs.Firsts.{ComesFirst}
 
--- the place is that of the node, still without line and column
+-- the location is that of the node, still without line and column
 pub record IsPlaceOf (tree : Tree) (node : ℕ) (place : Place) : Type 0 where
   pub span : slice_get (spans_of tree) node ≡ Some place.span
   pub position : place.position ≡ None

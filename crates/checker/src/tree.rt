@@ -40,7 +40,7 @@ fn fault_of(tree: &Tree, flaw: Flaw) -> Fault
 
 /// Checks a tree against the typing rules and the limits: first its struct types in order, of each the name, the fields, that it
 /// does not contain itself and that it is at most 16 words wide; then the heads of its functions, then that it has a `main`,
-/// then the bodies of the functions, where statements come in order, and operands before their operators.
+/// then the bodies of the functions: statements in order, and operands before their operators.
 ///
 /// Errors: `Typing` with a rule that is violated, or `Limit` with a limit that is exceeded, each at the node named; of
 /// several the first one in this order; `Memory`.

@@ -43,7 +43,7 @@ pub no_type : (w : Option Worth) (nodes : Nodes) (flaw : Flaw) → ValueHas w No
 no_type None nodes flaw has = has
 no_type (Some w) nodes flaw has = has
 
--- what is left of the places begins with the next one, or none is left
+-- the types that are left begin with the next one, or none is left
 abbrev pub Begins : List (Option ValueType) → Option ValueType → List (Option ValueType) → Type 0
 Begins kinds kind more = (kinds ≡ kind ∷ more) ⊎ ((kinds ≡ []) × (more ≡ []) × (kind ≡ None))
 
@@ -93,7 +93,7 @@ fits_next globals scope P first value rest kinds more kind None told (inr is) na
     narrows-next P (ValueHas (worth globals scope value) kind (nodes_of first value)) (ValuesFail globals scope (first + expression_size value) rest more) told
     (λ flaw. (λ p. absurd ((none flaw).0 p), λ has. elim has [ inl v ↦ absurd (no_value flaw v) | inr m ↦ absurd (no_more flaw m) ])) (new refl)
 
--- ---- as many values as places
+-- ---- as many values as types
 
 pub passed_agree : (globals : Globals) (scope : Scope) (first : ℕ) (values : List Expression) (kinds : List (Option ValueType)) (end : ℕ) (flaw : Flaw) → length values ≡ length kinds
     → (ValuesFail globals scope first values kinds flaw → ⊥) → PassedHave globals scope first values kinds end flaw → ⊥

@@ -7,7 +7,7 @@ use go_text::{LimitKind, Rule};
 use syntax::NodeId;
 use typing_rules::flaw::{Flaw, Misuse};
 
-/// Where an operator and its operands lie: the first node and the own node of each operand, and the operator's own node.
+/// The nodes of an operator and its operands: the first node and the own node of each operand, and the operator's own node.
 #[derive(Clone, Copy)]
 pub struct Operator {
     pub left_first: NodeId,

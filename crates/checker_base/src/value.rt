@@ -1,4 +1,4 @@
-//! Values in places of types, and operands of operations.
+//! Values that must have a type, and operands of operations.
 
 ghost use Rattle.std.specs.Prelude.{◌≡◌, ℕ, ◌+◌, List, Option, Some, IfOk, IfErr};
 ghost use Rattle.type_table.specs.Types.{ChannelType};
@@ -18,7 +18,7 @@ use type_table::table::TypeTable;
 use type_table::value_type::{ValueType, assignable, element_in};
 use typing_rules::flaw::Flaw;
 
-/// Checks a value that is put into a place of this type.
+/// Checks a value that is used as this type.
 pub fn value(table: &TypeTable<'_>, operand: Operand<'_>, kind: ValueType<'_>) -> Result<(), Flaw>
     ensures none { IfOk result (λ _. (w : Option OneWorth) → w ≡ Some (worth_of (types_of table.now) operand.entry.worth) → (nodes : Nodes) → nodes.first ≡ operand.entry.first → nodes.end ≡ operand.entry.node + 1 → (flaw : OneFlaw) → ¬ (ValueHas w (Some (kind_of (types_of table.now) kind.entry)) nodes flaw)) }
     ensures one { IfErr result (λ flaw. (w : Option OneWorth) → w ≡ Some (worth_of (types_of table.now) operand.entry.worth) → (nodes : Nodes) → nodes.first ≡ operand.entry.first → nodes.end ≡ operand.entry.node + 1 → ValueHas w (Some (kind_of (types_of table.now) kind.entry)) nodes flaw) }

@@ -63,7 +63,7 @@ impl<'w> Wanted<'w> {
     }
 }
 
-/// What is wrong with a value in a place of this type, if there is such a place.
+/// What is wrong with a value that is used as this type, if a type is given.
 fn misfit_in(
     table: &TypeTable<'_>,
     operand: Operand<'_>,
@@ -80,7 +80,7 @@ fn misfit_in(
     }
 }
 
-/// What is known to be wrong already, else what is wrong with a value in a place of this type.
+/// What is known to be wrong already, else what is wrong with a value that is used as this type.
 pub(crate) fn first_misfit(
     table: &TypeTable<'_>,
     known: Option<Flaw>,

@@ -1,4 +1,4 @@
--- Where nothing is wrong with single declarations, nothing is wrong with all.
+-- If nothing is wrong with single declarations, nothing is wrong with all.
 use Rattle.std.proofs.Common.{◌≡◌, ℕ, ◌+◌, ◌≤◌, false, inl, inr, List, subst, sym, ◌∙◌}
 use Rattle.std.proofs.lemmas.Bool.{false≢true}
 use Rattle.syntax.specs.Tree.{Struct, Function, Top, StructTop, FunctionTop}

@@ -56,7 +56,7 @@ fn optional_size(written: &Option<TypeNode>) -> NodeId
     }
 }
 
-/// What stands after a function's name: its parameters, the type of its result if it has one, and the first node of its
+/// What comes after a function's name: its parameters, the type of its result if it has one, and the first node of its
 /// body.
 #[derive(Drop)]
 pub struct Head<'a> {
@@ -65,7 +65,7 @@ pub struct Head<'a> {
     pub end: NodeId,
 }
 
-/// Checks what stands after a function's name, whose nodes have numbers from `first` on.
+/// Checks what comes after a function's name, whose nodes have numbers from `first` on.
 pub fn function_head<'a>(
     alloc: Global,
     types: &NameList<'_>,
@@ -100,7 +100,7 @@ fn kinds<'a>(alloc: Global, parameters: &[FieldEntry<'a>]) -> Result<Vec<ValueTy
     Ok(all)
 }
 
-/// Checks what stands after a function's name, and returns the function.
+/// Checks what comes after a function's name, and returns the function.
 fn entry<'a>(
     alloc: Global,
     types: &NameList<'_>,

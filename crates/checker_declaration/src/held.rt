@@ -53,7 +53,7 @@ fn note_fields(
     Ok(())
 }
 
-/// The struct type that was found at this place.
+/// The struct type at index `place` of those that were found.
 pub(crate) fn found_at(found: &[usize], place: usize) -> Option<usize>
     ensures { result ≡ slice_get found.now place }
 {
@@ -78,7 +78,7 @@ fn note_struct(
     }
 }
 
-/// So many times `false`.
+/// `count` times `false`.
 fn unseen(alloc: Global, count: usize) -> Result<Vec<bool>, AllocError>
     ensures { IfOk result (λ seen. length seen.items ≡ count) }
 {

@@ -1,4 +1,4 @@
-//! The fields of all struct types, also where something is wrong with them.
+//! The fields of all struct types, even if something is wrong with them.
 
 ghost use Rattle.std.specs.Prelude.{◌≡◌, ◌++◌, map, option_copied, slice_get, OnOk, IfOk};
 ghost use Rattle.syntax.specs.View.{declared_of, struct_of, top_of};

@@ -8,7 +8,7 @@ use type_table::value_type::ValueType;
 #[derive(Clone, Copy)]
 enum Mark {
     New,
-    /// Its place among those that are open.
+    /// Its index among those that are open.
     Open(usize),
     Done,
 }
@@ -19,9 +19,9 @@ struct Frame {
     number: usize,
     /// How many of its fields were looked at.
     seen: usize,
-    /// Its place among those that are open.
+    /// Its index among those that are open.
     place: usize,
-    /// The first place of an open one that it was found to reach.
+    /// The lowest index of an open one that it was found to reach.
     lowest: usize,
 }
 
@@ -87,7 +87,7 @@ impl Search {
         }
     }
 
-    /// Notes that the last one reaches the open one at this place.
+    /// Notes that the last one reaches the open one at index `place`.
     fn lower(&mut self, place: usize) {
         if let Some(last) = self.frames.len().checked_sub(1) {
             self.frames[last].lowest = self.frames[last].lowest.min(place);

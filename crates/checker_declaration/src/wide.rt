@@ -1,4 +1,4 @@
-//! The widths of struct types, also where something is wrong with others.
+//! The widths of struct types, even if something is wrong with others.
 
 ghost use Rattle.std.specs.Prelude.{◌≡◌, ℕ, suc, ◌+◌, ◌<◌, ◌≤◌, min, Some, List, Option, option_map, slice_get, length, IfSome, IfOk};
 ghost use Rattle.type_table.specs.Containment.{Structs};
@@ -15,7 +15,7 @@ use type_table::value_type::ValueType;
 /// How many words a value may take.
 const MOST_WORDS: usize = 16;
 
-/// The words of both together; 17 where they are more.
+/// The words of both together; 17 if they are more.
 fn together(one: usize, other: usize) -> usize
     ensures { (m n : ℕ) → one ≡ min m 17 → other ≡ min n 17 → result ≡ min (m + n) 17 }
 {
@@ -60,7 +60,7 @@ fn fields_words(known: &[Option<usize>], fields: &[Part<'_>]) -> Option<usize>
     }
 }
 
-/// So many widths, of which none is known.
+/// `count` widths, of which none is known.
 fn unknown(alloc: Global, count: usize) -> Result<Vec<Option<usize>>, AllocError>
     ensures { IfOk result (λ known. (s w : ℕ) → slice_get known.items s ≡ Some (Some w) → ⊥) }
 {
@@ -72,7 +72,7 @@ fn unknown(alloc: Global, count: usize) -> Result<Vec<Option<usize>>, AllocError
     Ok(known)
 }
 
-/// Writes the words of the struct type with this number, if they are known where these are.
+/// Writes the words of struct type `number`, if the words of its fields are known.
 fn note_words(all: &[Parts<'_>], known: &mut Vec<Option<usize>>, number: usize)
     ensures { (types : List (List ℕ)) (depth : ℕ) → AreKnown (structs_in types all.now) depth known.old.items → AreKnown (structs_in types all.now) (suc depth) known.new.items }
 {

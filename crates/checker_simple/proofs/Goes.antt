@@ -1,4 +1,4 @@
--- A value goes to a place or a variable of a type, or to one that takes its type.
+-- A value goes to an lvalue or a variable of a type, or to one that takes its type.
 use Rattle.std.proofs.Common.{◌≡◌, ℕ, suc, Bool, true, false, inl, inr, List, ◌∷◌, Option, Some, None}
 use Rattle.std.specs.Option.{is_none}
 use Rattle.typing_rules.specs.declared.flaw.Flaw.{Flaw}
@@ -8,7 +8,7 @@ use Rattle.typing_rules.specs.Worths.{kind_of}
 use Rattle.typing_rules.specs.Operations.{Given, GoesHas}
 use Rattle.typing_rules.specs.Simples.{AllFail}
 
--- what is wrong where a value goes to a place depends on the place alone
+-- what is wrong if a value goes to an lvalue depends on the lvalue alone
 pub goes-same : (free same : Bool) → free ≡ same → (k l : Option ValueType) → k ≡ l → (g : Given) (f : Flaw) → GoesHas free g k f → GoesHas same g l f
 goes-same free same e k l d g f h = rw (e, d) at h
 

@@ -6,7 +6,7 @@ use Rattle.typing_rules.specs.Worths.{type_of_field}
 use Rattle.typing_rules.specs.Operations.{followed}
 use Rattle.checker_simple.specs.Paths.{path_type}
 
--- a path leads nowhere from where there is nothing
+-- a path from nothing leads to nothing
 pub path_type-none : (structs : Structs) (fields : List (List ℕ)) → path_type structs None fields ≡ None
 path_type-none structs [] = refl
 path_type-none structs (field ∷ rest) = refl

@@ -107,7 +107,7 @@ typed-none g s first middle count end names these kind right k f t e n m d a b (
 typed-none g s first middle count end names these kind right k f t e n m d a b (inr (inl x)) = a (rw (n, m, ← t) x)
 typed-none g s first middle count end names these kind right k f t e n m d a b (inr (inr x)) = b (rw (e, d) x)
 
--- ---- names and places that lie apart are as many as they are
+-- ---- names and lvalues that lie apart are as many as they are
 
 pub names-count : (refs : List (Bor Name)) (names : List (List ℕ)) (n : ℕ) → names_at refs ≡ names → n ≡ length refs → n ≡ length names
 names-count refs names n e d = rw (← e, length-map) d

@@ -23,7 +23,7 @@ abbrev pub is_one_receive : List Expression → Bool
 is_one_receive (value ∷ []) = is_receive value
 is_one_receive values = false
 
--- places that lie apart in the tree
+-- lvalues that lie apart in the tree
 abbrev pub places_at : List (Bor PlaceNode) → List Place
 places_at places = map (λ (place : Bor PlaceNode). place_of place.now) places
 
@@ -32,7 +32,7 @@ abbrev pub places_in : Targets → List Place
 places_in (targets.All places) = map place_of places.now
 places_in (targets.OneOrTwo one other) = and_also (place_of one.now) (option_map place_of other.now)
 
--- what stands on the right of a statement
+-- the right side of a statement
 abbrev pub source_of : Source → List Expression
 source_of (sources.Right values) = map expression_of values.now
 source_of (sources.Receive channel) = Receive (expression_of channel.now) ∷ []

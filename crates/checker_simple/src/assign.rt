@@ -19,7 +19,7 @@ use type_table::scope::Visible;
 use type_table::table::TypeTable;
 use typing_rules::flaw::Flaw;
 
-/// Checks what places are given by a statement whose own node is the one after that.
+/// Checks what lvalues are given by a statement whose own node is `given.end`.
 fn assign_given<'a>(
     table: &TypeTable<'a>,
     visible: &Visible<'a>,

@@ -1,4 +1,4 @@
-//! What places are given.
+//! What lvalues are given.
 
 ghost use Rattle.std.specs.Prelude.{◌≡◌, ℕ, ◌+◌, ◌^◌, ◌<◌, ◌==◌, ◌&&◌, List, [], ◌∷◌, Option, Some, option_map, map, sum_by, true, false, IfOk, IfErr};
 ghost use Rattle.syntax.specs.Tree.{expressions, Receive};
@@ -25,7 +25,7 @@ use type_table::table::TypeTable;
 use type_table::value_type::ValueType;
 use typing_rules::flaw::Flaw;
 
-/// What gives places or names their values.
+/// What gives values to lvalues or names.
 #[derive(Clone, Copy)]
 pub enum Source<'a> {
     /// The right side of an assignment.

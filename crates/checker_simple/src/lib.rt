@@ -1,4 +1,4 @@
-//! The check of simple statements and of declarations of variables: of places, and of the values that go to them.
+//! The check of simple statements and of declarations of variables: of lvalues, and of the values that go to them.
 #![tactic(auto)]
 
 pub mod assign;

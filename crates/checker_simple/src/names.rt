@@ -63,7 +63,7 @@ fn has_name(names: &[&Name], name: &[u8]) -> bool
     name == one.bytes.as_slice() || has_name(rest, name)
 }
 
-/// Whether a name other than `_` stands among these twice.
+/// Whether two of these names are equal and not `_`.
 fn has_twice(names: &[&Name]) -> bool
     ensures { result ≡ has_twice (names_at names.now) }
 {

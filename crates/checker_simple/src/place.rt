@@ -22,7 +22,7 @@ use type_table::table::TypeTable;
 use type_table::value_type::ValueType;
 use typing_rules::flaw::Flaw;
 
-/// The type of the field to which a path leads from a value of a type; the place's node is `node`.
+/// The type of the field to which a path leads from a value of a type; the lvalue's node is `node`.
 #[tactic(auto, using(crate::proofs::Paths::path_types))]
 fn path<'a>(
     table: &TypeTable<'a>,
@@ -94,7 +94,7 @@ pub fn read_place<'a>(
     }
 }
 
-/// The places to which a statement assigns.
+/// The lvalues to which a statement assigns.
 #[derive(Clone, Copy)]
 pub enum Targets<'a> {
     All(&'a [PlaceNode]),
@@ -122,7 +122,7 @@ pub fn references<'a>(alloc: Global, places: Targets<'a>) -> Result<Vec<&'a Plac
     Ok(all)
 }
 
-/// Checks places, the first of which is the node `first`, and returns the number after them.
+/// Checks lvalues, the first of which is the node `first`, and returns the number after them.
 pub fn places<'a>(
     table: &TypeTable<'a>,
     visible: &Visible<'a>,
@@ -174,7 +174,7 @@ pub fn place_takes<'a>(
     }
 }
 
-/// Checks that values go to places.
+/// Checks that values are assignable to lvalues.
 pub fn places_take<'a>(
     table: &TypeTable<'a>,
     visible: &Visible<'a>,

@@ -40,7 +40,7 @@ pub refuses_more : (P Q : Flaw → Type 0) (e : Refusal) → ((flaw : Flaw) → 
 refuses_more P Q Memory more r = tt
 refuses_more P Q (Flawed flaw) more r = more flaw r
 
--- where a block has ended, the variables from before it are visible, and what it took of the frame stays taken
+-- after a block, the variables from before it are visible, and what it took of the frame stays taken
 pub block_left : (table : TypeTable) (old begun inner new : Visible) (count : ℕ) (scope : Scope)
     → count ≡ length old.entries.items → begun.entries.items ≡ old.entries.items → Keeps begun inner → scope_of table inner ≡ scope
     → new.entries.items ≡ take count inner.entries.items → new.outer ≡ old.outer → new.words ≡ inner.words
@@ -85,7 +85,7 @@ passed_clause setting P before scope first end comm body rest is ends passed goo
 pub few_defaults : (n : ℕ) → n < 2 → nat_le 2 n ≡ true → ⊥
 few_defaults n below many = grind (arith, nat_tests, below, many)
 
--- where two things hold, the third decides
+-- if two things hold, the third decides
 pub both_hold : (one other rest all : Bool) → (one && other) ≡ true → (one && other && rest) ≡ all → rest ≡ all
 both_hold true true rest all holds whole = whole
 both_hold true false rest all holds whole = absurd cc

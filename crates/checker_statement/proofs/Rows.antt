@@ -165,7 +165,7 @@ more = refl
 
 -- ---- what is wrong
 
--- { x := 1 }; x = 1 breaks rule 3 at the place, the fifth node
+-- { x := 1 }; x = 1 violates rule 3 at the lvalue, the fifth node
 hidden : StatementsHave plain nothing_declared 0 (Then (Block (alone new_x)) (alone to_x)) (Broken rules.Visible 4)
 hidden = inr (inl (inl (inl (inl (refl, (refl, refl))))))
 
@@ -173,7 +173,7 @@ hidden = inr (inl (inl (inl (inl (refl, (refl, refl))))))
 again : StatementsHave plain nothing_declared 0 (Then new_x (alone new_x)) (Broken rules.NewName 3)
 again = inr (inl (inr (inr (inl (inr (refl, (refl, refl)))))))
 
--- if 1 {} breaks rule 14 at the condition
+-- if 1 {} violates rule 14 at the condition
 number : StatementHas plain nothing_declared 0 (If (Conditional Bare one NoStatement NoElse)) (Broken rules.Condition 0)
 number = inl (inr (inr (refl, refl)))
 
@@ -181,11 +181,11 @@ number = inl (inr (inr (refl, refl)))
 counted : StatementHas plain nothing_declared 0 (For (ForClauses (Some set_x) (Some x) None) NoStatement) (Broken rules.Condition 2)
 counted = inl (inr (inl (inr (refl, (refl, refl)))))
 
--- for range 1 {} breaks rule 12 at the operand
+-- for range 1 {} violates rule 12 at the operand
 no_channel : StatementHas plain nothing_declared 0 (For (Range NoTarget one) NoStatement) (Broken rules.Channel 0)
 no_channel = inl (inr (inl (inr (inl (refl, (refl, refl))))))
 
--- for range c {} breaks rule 11 at the `for`, where c is there to send on
+-- for range c {} violates rule 11 at the `for`, if c is a send-only channel
 sender : StatementHas plain with_sender 0 (For (Range NoTarget c) NoStatement) (Broken rules.Direction 2)
 sender = inl (inr (inl (inr (inr (refl, (refl, refl))))))
 
@@ -206,7 +206,7 @@ may_break flaw h = let e = h.0 in cc
 may_continue : (flaw : Flaw) → StatementHas (in_select (in_for plain)) nothing_declared 0 Continue flaw → ⊥
 may_continue flaw h = let e = h.0 in cc
 
--- select { default: default: } breaks rule 20 at the select
+-- select { default: default: } violates rule 20 at the select
 defaults : StatementHas plain nothing_declared 0 (Select (Clause None NoStatement (Clause None NoStatement NoClause))) (Broken rules.OneDefault 2)
 defaults = inr (refl, (refl, refl))
 
@@ -224,13 +224,13 @@ other_type = inr (refl, (refl, refl))
 in_parentheses : StatementHas plain with_c 0 (Alone (Define pair (Parenthesized (Receive c) ∷ []))) (Broken rules.Numbers 3)
 in_parentheses = inr (inl (refl, (refl, refl)))
 
--- x := <-c + 1 breaks rule 11 at the receive, where c is there to send on, and x := len(1) + 1 breaks rule 12 at the operand
+-- x := <-c + 1 violates rule 11 at the receive, if c is send-only, and x := len(1) + 1 violates rule 12 at the operand
 inner_sender : StatementHas plain with_sender 0 (Alone (Define (codes "x" ∷ []) (Binary ops.Add (Receive c) one ∷ []))) (Broken rules.Direction 1)
 inner_sender = inl (inl (inl (inr (inr (refl, (refl, refl))))))
 
 inner_length : StatementHas plain nothing_declared 0 (Alone (Define (codes "x" ∷ []) (Binary ops.Add (Length one) one ∷ []))) (Broken rules.Channel 0)
 inner_length = inl (inl (inl (inr (refl, (refl, refl)))))
 
--- if <-c {} breaks rule 14 at the receive, of an int
+-- if <-c {} violates rule 14 at the receive, of an int
 tested_item : StatementHas plain with_c 0 (If (Conditional Bare (Receive c) NoStatement NoElse)) (Broken rules.Condition 1)
 tested_item = inl (inr (inr (refl, (refl, refl))))

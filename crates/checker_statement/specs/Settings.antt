@@ -1,4 +1,4 @@
--- What a statement in memory stands in.
+-- The context of a statement in memory.
 use Rattle.type_table.specs.declared.table.TypeTable.{TypeTable}
 use Rattle.type_table.specs.Views.{yield_of}
 use Rattle.type_table.specs.Visible.{types_of, globals_in}

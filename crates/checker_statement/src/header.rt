@@ -1,4 +1,4 @@
-//! What stands before the block of an `if` or a `for`.
+//! The header of an `if` or a `for`: all before its block.
 
 ghost use Rattle.std.specs.Prelude.{◌≡◌, ℕ, ◌+◌, ◌^◌, ◌<◌, [], ◌∷◌, Some, option_map, false, IfOk, IfErr};
 ghost use Rattle.syntax.specs.Tree.{Range};
@@ -126,7 +126,7 @@ fn post_statement<'a>(
     Ok(end)
 }
 
-/// Checks what stands before the condition of an `if`. What it declares is then visible.
+/// Checks the statement before the condition of an `if`. What it declares is then visible.
 fn if_header<'a>(
     alloc: Global,
     table: &TypeTable<'a>,
@@ -147,7 +147,7 @@ fn if_header<'a>(
     }
 }
 
-/// Checks what stands before the block of an `if`, whose nodes have numbers from `first` on, and returns the number after
+/// Checks the header of an `if`, whose nodes have numbers from `first` on, and returns the number after
 /// them. What it declares is then visible.
 pub(crate) fn guard<'a>(
     alloc: Global,
@@ -290,7 +290,7 @@ fn taken<'a>(
     }
 }
 
-/// Checks what stands between `for` and the block of a range, whose nodes have numbers from `first` on, as those of the
+/// Checks the header of a `for` with a range, whose nodes have numbers from `first` on, as those of the
 /// whole `for` do, and returns the number after them. What it declares is then visible.
 fn range<'a>(
     table: &TypeTable<'a>,
@@ -315,7 +315,7 @@ fn range<'a>(
     Ok(item.operand.node + 1)
 }
 
-/// What stands between a `for` and its block, where it is no range: what is done first, the condition, and what is done
+/// The header of a `for` that is no range: what is done first, the condition, and what is done
 /// after each turn, each of which may be missing.
 #[derive(Clone, Copy)]
 struct ClausesHeader<'a> {
@@ -345,7 +345,7 @@ fn for_clauses<'a>(
     post_statement(alloc, table, visible, behind, header.post)
 }
 
-/// Checks what stands between a `for` and its block, whose nodes have numbers from `first` on, as those of the whole `for`
+/// Checks the header of a `for`, whose nodes have numbers from `first` on, as those of the whole `for`
 /// do, and returns the number after them. What it declares is then visible.
 pub(crate) fn for_header<'a>(
     alloc: Global,

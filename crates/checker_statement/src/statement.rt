@@ -32,12 +32,12 @@ use type_table::table::TypeTable;
 use type_table::value_type::ValueType;
 use typing_rules::flaw::Flaw;
 
-/// What a statement stands in.
+/// The context of a statement.
 #[derive(Clone, Copy)]
 pub struct Inside<'a> {
     /// The type of the result of its function: `None` if it has no result.
     pub result: Option<ValueType<'a>>,
-    /// Whether it is within a `for` or a `select`, so that a `break` may stand there ("Break statements" of the Go
+    /// Whether it is within a `for` or a `select`, so that a `break` is allowed ("Break statements" of the Go
     /// specification).
     pub breaks: bool,
     /// Whether it is within a `for`, so that a `continue` may ("Continue statements").
@@ -90,8 +90,8 @@ fn return_statement<'a>(
     }
 }
 
-/// Checks a `break` or a `continue`, which is the node `first`, and returns the number after it; `may` says whether it may
-/// stand there.
+/// Checks a `break` or a `continue`, which is the node `first`, and returns the number after it; `may` says whether it is
+/// allowed there.
 fn jump(may: bool, first: NodeId) -> Result<NodeId, Refusal>
     requires small { first + 1 < 2 ^ 32 }
     ensures end { IfOk result (λ end. end ≡ first + 1) }
@@ -299,7 +299,7 @@ fn if_parts<'a>(
     otherwise(alloc, table, inside, visible, behind + 1, &branch.otherwise)
 }
 
-/// Checks what stands after the block of an `if`, and returns the number after its nodes.
+/// Checks what comes after the block of an `if`, and returns the number after its nodes.
 #[cycle(statement)]
 fn otherwise<'a>(
     alloc: Global,

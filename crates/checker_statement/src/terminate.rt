@@ -6,7 +6,7 @@ ghost use Rattle.typing_rules.specs.Terminating.{breaks_out, some_breaks_out, br
 
 use syntax::{ClauseNode, ElseNode, ForHeader, IfNode, StatementNode};
 
-/// Whether a break in it refers to the statement that it stands in.
+/// Whether a break in it refers to the statement around it.
 #[cycle(breaks_out)]
 fn breaks_out(statement: &StatementNode) -> bool
     ensures { result ≡ breaks_out (statement_of statement.now) }
@@ -19,7 +19,7 @@ fn breaks_out(statement: &StatementNode) -> bool
     }
 }
 
-/// Whether a break in one of them refers to the statement that they stand in.
+/// Whether a break in one of them refers to the statement around them.
 #[cycle(breaks_out)]
 fn some_breaks_out(body: &[StatementNode]) -> bool
     ensures { result ≡ some_breaks_out (body_of body.now) }
@@ -32,7 +32,7 @@ fn some_breaks_out(body: &[StatementNode]) -> bool
     false
 }
 
-/// Whether a break in an `if` refers to the statement that it stands in.
+/// Whether a break in an `if` refers to the statement around it.
 #[cycle(breaks_out)]
 fn branch_breaks_out(branch: &IfNode) -> bool
     ensures { result ≡ branch_breaks_out (branch_of branch.now) }
@@ -103,7 +103,7 @@ fn branch_terminates(branch: &IfNode) -> bool
     last_terminates(branch.body.as_slice()) && otherwise_terminates(&branch.otherwise)
 }
 
-/// Whether what stands after the block of an `if` is terminating.
+/// Whether what comes after the block of an `if` is terminating.
 #[cycle(terminates)]
 fn otherwise_terminates(otherwise: &ElseNode) -> bool
     ensures { result ≡ otherwise_terminates (otherwise_of otherwise.now) }

@@ -68,6 +68,6 @@ pub appended : (old head lines line text : List ℕ) → text ≡ old ++ (head +
 appended old head lines line text e =
     e ∙ append_assoc old (head ++ lines) line ∙ ap (λ (xs : List ℕ). old ++ xs) (append_assoc head lines line)
 
--- the instruction at a place
+-- the instruction at a pc
 abbrev pub read : List Instr → ℕ → Instr
 read is n = slice_index_or is n (instrs.Int (pos 0))

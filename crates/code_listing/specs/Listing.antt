@@ -76,15 +76,15 @@ operands_text (operands.One a) = codes " " ++ decimal a
 operands_text (operands.Two a b) = codes " " ++ decimal a ++ codes " " ++ decimal b
 operands_text (operands.Three a b c) = codes " " ++ decimal a ++ codes " " ++ decimal b ++ codes " " ++ decimal c
 
--- on the right of six places, or of more if it is longer
+-- right-aligned to six columns, or to more if it is longer
 abbrev pub right_aligned : List ℕ → List ℕ
 right_aligned text = replicate (6 - length text) 32 ++ text
 
--- the line of an instruction at a place
+-- the line of the instruction at the pc `place`
 abbrev pub instr_line : ℕ → Instr → List ℕ
 instr_line place i = right_aligned (decimal place) ++ (codes " " ++ (instr_text i ++ codes "\n"))
 
--- the lines of instructions, the first of which stands at a place
+-- the lines of instructions, the first of which is at the pc `place`
 abbrev pub instr_lines : ℕ → List Instr → List ℕ
 instr_lines place [] = []
 instr_lines place (i ∷ is) = instr_line place i ++ instr_lines (place + 1) is

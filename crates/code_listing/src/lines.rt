@@ -118,7 +118,7 @@ impl fmt::Display for InstrText {
 }
 
 /// The text of a code: for each function, in order, a line with its name and how many words its parameters, its locals and
-/// its results take, and a line for each instruction, after its place.
+/// its results take, and a line for each instruction, after its pc.
 pub fn listing(alloc: Global, code: &Code) -> Result<Vec<u8>, Memory>
     ensures { IfOk result (λ text. text.items ≡ listing_of code.now) }
 {

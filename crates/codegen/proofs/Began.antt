@@ -91,7 +91,7 @@ module _ (file : File) (program : Compiled (globals file)) (grounds : Grounds (g
     abbrev locals : List Value → Words
     locals vs = fitted f.locals (all_words_of vs)
 
-    -- what is so where the function begins
+    -- what holds when the function begins
     record Ready (vs : List Value) : Type 0 where
       place : ℕ
       leads : LeadsOn coded (Some 0) (Some place)
@@ -136,7 +136,7 @@ module _ (file : File) (program : Compiled (globals file)) (grounds : Grounds (g
         } in
         soon_ready vs arrived.seen_is arrived.holding (sits_all coded (fine_behind coded) function.body view nowhere (Some 0) p.mid [] live tt (λ last t. end_sits p.mid p.others last))
 
-    -- whoever waits for it, it sits where its code begins
+    -- whoever waits for it, it sits at the beginning of its code
     pub begins_sits : (vs : List Value) → AreLike (globals file).structs types vs → (callers : CodeFrames) → SitsBehind file program n (entered_with (globals file) function vs) callers (begun f.locals n (all_words_of vs) ∷ callers)
     begins_sits vs like callers =
         let r = ready vs like in

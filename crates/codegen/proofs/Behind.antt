@@ -50,7 +50,7 @@ module _ (elements : List Element) (globals : Globals) (all : AllWide globals.st
 
   -- ---- layouts and scopes that belong together
 
-  -- the variables lie where the layout says, and are those that the typing rules see; the elements of their types are noted
+  -- the variables are laid out as the layout says, and are those that the typing rules see; the elements of their types are noted
   pub record Good (s scope : Scope) (begins : List ℕ) : Type 0 where
     pub placed : IsPlaced globals.structs scope begins
     pub alike : Alike s scope

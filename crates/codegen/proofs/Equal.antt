@@ -77,6 +77,6 @@ module _ (file : File) (free : Free (FileHas file)) (still : FormedTops file.top
       (subst (λ k. R (begun file (slice_get (functions file) k) []) (code_begin (code_of file) (unwrap_or (main_of (code_of file).functions) 0) [])) (sym source)
       (subst (λ k. R (begun file (slice_get (functions file) n) []) (code_begin (code_of file) k [])) (sym target) (starts_near file free still (codes "main") n main.first main.plain)))
 
--- the code of a file that the checker takes, where no post statement declares anything, is the same kind of goroutine
+-- the code of a file that the checker takes, if no post statement declares anything, is the same kind of goroutine
 pub is_equal : (file : File) → FormedTops file.tops → IsTyped file → Equal (source_kind file) (code_kind (code_of file))
 is_equal file still typed = free_equal file (free_of file typed) still

@@ -25,7 +25,7 @@ use Rattle.codegen_fine.proofs.Heads.{all_fine}
 use Rattle.codegen_fine.proofs.Structs.{grounds_of}
 
 module _ (globals : Globals) (elements : List Element) (code : Code) (grounds : Grounds globals elements code) where
-  -- a function of the source with which nothing is wrong, its code, and where its tables stand
+  -- a function of the source with which nothing is wrong, its code, and the numbers of its tables
   pub record Located (source : Option Function) (made : Option CodeFunction) (head : Option Signature) : Type 0 where
     pub function : Function
     pub prints : ℕ

@@ -34,7 +34,7 @@ like_both [] zs (v ∷ vs) ws e = absurd cc
 like_both (y ∷ ys) zs [] ws e = absurd cc
 like_both (y ∷ ys) zs (v ∷ vs) ws e = let left : suc (length vs) ≡ suc (length ys) = e in ap (λ (l : Words). word_like y v ∷ l) (like_both ys zs vs ws (omega (arith, left)))
 
--- words that are there are put where they are
+-- words that are put where they already are change nothing
 put_same : (a : ℕ) (done v rest ls : Words) → ls ≡ done ++ (v ++ rest) → a ≡ length done → put_at a v ls ≡ ls
 put_same a done v rest ls is e =
     let front : take a ls ≡ done = ap (λ (l : Words). take a l) is ∙ ap (λ n. take n (done ++ (v ++ rest))) e ∙ take-append_seam done (v ++ rest) in

@@ -81,7 +81,7 @@ module _ (file : File) (free : Free (FileHas file)) (still : FormedTops file.top
   abbrev Sat : ℕ → Frame → CodeFrames → CodeFrames → Type 0
   Sat = SitsBehind file program
 
-  -- the code of a function that is entered, or that a goroutine begins with, begins where the function sits
+  -- the code of a function that is entered, or that a goroutine begins with, begins at a pc where the function sits
   enters : (n : ℕ) (L : At n) (vs : List Value) (callee : CodeFunction) → AreLike (globals file).structs (map known (parameters_of (globals file) n)) vs → slice_get code.functions n ≡ Some callee → (callers : CodeFrames)
       → Sat n (entered_with (globals file) L.function vs) callers (code_begun callee.locals n (all_words_of vs) ∷ callers)
   enters n L vs callee like has callers =

@@ -1,4 +1,4 @@
--- Where a value goes in the locals is where it goes among the variables.
+-- A value goes to the same variable whether it is stored in the locals or in the variables.
 use Rattle.std.proofs.Common.{◌≡◌, ℕ, zero, suc, ◌+◌, ◌≤◌, Bool, true, false, List, [], ◌∷◌, ◌++◌, length, take, drop, Option, Some, None, option_map, refl, sym, ap, ◌∙◌, subst, arith, length-append, bytes_eq}
 use Rattle.std.specs.Prelude.{if◌then◌else◌}
 use Rattle.std.specs.Option.{is_some}
@@ -198,7 +198,7 @@ module _ (structs : Structs) where
 
     -- ---- several values
 
-    -- spots for destinations that take values of these types, each where the ones before have declared theirs
+    -- spots for destinations that take values of these types, each in the scope in which the ones before have declared theirs
     abbrev pub AreSpots : Scope → List Destination → List ValueType → List Spot → Type 0
     AreSpots scope [] [] [] = Unit {0}
     AreSpots scope (d ∷ ds) (kind ∷ types) (spot ∷ spots) = IsSpot scope d kind spot × AreSpots (behind_destination d scope) ds types spots

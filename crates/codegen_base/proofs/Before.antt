@@ -1,4 +1,4 @@
--- Code that stands before other code and has no selects: what pushes operands.
+-- Code that comes before other code and has no selects: what pushes operands.
 use Rattle.std.proofs.Common.{◌≡◌, ℕ, ◌+◌, true, false, cond, ◌&&◌, ◌||◌, List, [], ◌∷◌, Option, Some, None, refl, ap, ◌∙◌, subst, arith}
 use Rattle.std.proofs.lemmas.Bool.{OnTrue_from, OnTrue_at}
 use Rattle.syntax.specs.declared.node.UnaryOperator.{UnaryOperator}
@@ -22,7 +22,7 @@ use Rattle.codegen_base.specs.Generated.{pushes_comm, pushes_clauses}
 use Rattle.plan.specs.Plan.{Plan, Skip, Do, Seq, IfElse, reaches_end, size, table_count}
 use Rattle.plan.proofs.Tables.{Numbered, Tabled}
 
--- the second plan stands after instructions and choices without selects
+-- the second plan comes after instructions and choices without selects
 pub data Before : Plan → Plan → Type 0 where
   Here : (rest : Plan) → Before rest rest
   Step : (i : Instr) (rest p : Plan) → Before rest p → Before rest (Do i p)

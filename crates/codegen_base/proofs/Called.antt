@@ -16,7 +16,7 @@ use Rattle.codegen_base.proofs.Typing.{Free, TypesKnown, VariablesKnown, Fits, f
 use Rattle.syntax.proofs.Lists.{expressions_in-expressions}
 use Rattle.typing_rules.specs.Expressions.{nodes_of, ValueHas, NumbersHave, ValuesFail, PassedHave, CalleeHas, ExpressionsHave}
 
--- the types of places are known
+-- all these types are known
 abbrev pub KindsKnown : List (Option ValueType) → Type 0
 KindsKnown [] = Unit {0}
 KindsKnown (kind ∷ kinds) = (kind ≡ Some (known kind)) × KindsKnown kinds
@@ -37,14 +37,14 @@ function_is (Some m) false n e = ap number_in e where
   number_in NoFunction = None
   number_in (IsFunction k) = Some k
 
--- each of these expressions may stand where its type is wanted
+-- each of these expressions may be used as its type
 abbrev pub AllFit : Globals → Scope → Expressions → List ValueType → Type 0
 AllFit globals s NoMore [] = Unit {0}
 AllFit globals s (Behind e es) (kind ∷ types) = ((w : Worth) × (worth globals s e ≡ Some w) × Fits w kind) × AllFit globals s es types
 AllFit globals s es types = ⊥
 
 module _ (globals : Globals) (s : Scope) (types-known : TypesKnown globals) (variables-known : VariablesKnown s) where
-  -- values that fit places of types which are known
+  -- values fit types that are all known
   pub all_fit : (es : Expressions) (kinds : List (Option ValueType)) (first : ℕ) → KindsKnown kinds → length (expressions_in es) ≡ length kinds → Free (ExpressionsHave globals s first es) → Free (ValuesFail globals s first (expressions_in es) kinds) → AllFit globals s es (map known kinds)
   all_fit NoMore [] first k many free fail = tt
   all_fit NoMore (kind ∷ kinds) first k many free fail = absurd cc

@@ -26,7 +26,7 @@ made_type (Some IntType) k e = absurd cc
 made_type (Some BoolType) k e = absurd cc
 made_type (Some (StructType n)) k e = absurd cc
 
--- a size may stand where an int is wanted
+-- a size may be used as an int
 pub size_fits : (e : Expression) (first : ℕ) (w : Worth) → Free (SizeHas (Some w) (nodes_of first e)) → Fits w IntType
 size_fits e first (Typed kind) free =
     let b = broken rules.Made (nodes_of first e).end (nodes_end first e) in

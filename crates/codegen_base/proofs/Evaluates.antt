@@ -30,7 +30,7 @@ use Rattle.codegen_base.proofs.Running.{Compiled, Coded, Running, Standing}
 pub range_part : (a n : ℕ) (ls : Words) → slice_range ls a (a + n) ≡ part a n ls
 range_part a n ls = let e : a + n - a ≡ n = omega arith in ap (λ m. take m (drop a ls)) e
 
--- the code of a file: where it is that of its expressions, it works out what they do
+-- the code of a file: if it is that of its expressions, it works out what they do
 module _ {globals : Globals} {program : Compiled globals} {coded : Coded program} {running : Running coded} (standing : Standing running) where
   open program use {code}
   open coded use {number as g, function as f, there}
@@ -49,11 +49,11 @@ module _ {globals : Globals} {program : Compiled globals} {coded : Coded program
   abbrev pub Stands : Plan → ℕ → Option ℕ → Type 0
   Stands plan place out = On code.selects f.instrs leave again plan place out
 
-  -- the words of a value lie on the stack `base`, and what follows stands where the code is
+  -- the words of a value lie on the stack `base`, and what follows is at the code's pc
   abbrev pub Lies : List Word → Plan → Option ℕ → List Word → Value → Frames → Type 0
   Lies zeros rest out base v d = (to : ℕ) × (words_like zeros v ≡ v) × (d ≡ at to (base ++ v)) × Stands rest to out
 
-  -- the code leads from a place and a stack to where the words of the value lie on the stack `base`, or to where it panics, asks or
+  -- the code leads from a pc and a stack to where the words of the value lie on the stack `base`, or to where it panics, asks or
   -- calls as the source does
   abbrev pub EvalsLike : Worked Value → List Word → Plan → Option ℕ → ℕ → List Word → List Word → Type 0
   EvalsLike o zeros rest out place stack base = Follows context o (Lies zeros rest out base) (at place stack)
@@ -129,7 +129,7 @@ module _ {globals : Globals} {program : Compiled globals} {coded : Coded program
 
   -- ---- `&&` and `||`
 
-  -- a truth value settles where the code goes on
+  -- a truth value decides at which pc the code goes on
   tested : (b : Bool) (next place : ℕ) (stack : List Word) → At f.instrs place (instrs.Unless next) → Slip place (stack ++ Truth b ∷ []) (cond b (place + 1) next) stack
   tested b next place stack is = chooses code g f there callers place next ls stack b is
 

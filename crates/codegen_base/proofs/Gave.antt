@@ -1,4 +1,4 @@
--- What the source was given within a task, the code was given: where it stands then.
+-- What the source was given within a task, the code was given: where it is then.
 use Rattle.std.proofs.Common.{◌≡◌, ℕ, Bool, true, false, cond, List, [], ◌∷◌, ◌++◌, length, refl, sym, ap, ◌∙◌, subst}
 use Rattle.std.specs.Prelude.{nat_lt}
 use Rattle.bytecode.specs.Code.{Function as CodeFunction, Code}
@@ -36,12 +36,12 @@ asked other (Asks q) = q
 asked other x = other
 
 module _ {A : Type 0} (next : A → Next A) where
-  -- from where it stops it goes nowhere
+  -- a state that halts leads only to itself
   pub stops : (c e : A) → Halts (next c) → Slips next c e → e ≡ c
   stops c _ halts here = refl
   stops c e halts (more is s) = absurd (subst Halts is halts)
 
-  -- of two ways from one place the longer one leads through the end of the other
+  -- of two ways from the same state the longer one leads through the end of the other
   pub through : (c d e : A) → Halts (next e) → Slips next c d → Slips next c e → Slips next d e
   through c _ e halts here s = s
   through c d _ halts (more is t) here = absurd (subst Halts is halts)
@@ -64,7 +64,7 @@ module _ (globals : Globals) (code : Code) where
   gave_on c c' (Told reply ∷ left) d s (e, q, t, is, suits, g) = (e, q, through (code_next code) c c' e (subst Halts (sym is) tt) s t, is, suits, g)
   gave_on c c' (Yielded v ∷ left) d s (e, callee, b, bs, t, is, g) = (e, callee, b, bs, through (code_next code) c c' e (subst Halts (sym is) tt) s t, is, g)
 
--- what a task stands in: the functions that wait, and how what the source needs begins alike in the code
+-- the context of a task: the functions that wait, and how what the source needs begins alike in the code
 pub record Context (globals : Globals) (code : Code) : Type 1 where
   pub Begins : Need → Frames → Type 0
   pub callers : Frames
@@ -72,12 +72,12 @@ pub record Context (globals : Globals) (code : Code) : Type 1 where
 module _ {globals : Globals} {code : Code} (context : Context globals code) where
   open context use {Begins, callers}
 
-  -- the code stands where the source needs this
+  -- the code needs what the source needs
   abbrev pub Wants : Need → Frames → Type 0
   Wants (Asking q) e = (code_next code e ≡ Asks q) × Begins (Asking q) e
   Wants (Calling n vs) e = (args : List Word) × (b : Frame) × (callee : CodeFunction) × (code_next code e ≡ entered n args (b ∷ callers) callee) × Begins (Calling n vs) e
 
-  -- where the code stands if the source came so far: where L holds of what it came to, where it panics, or where it needs the same
+  -- where the code is if the source came so far: L holds of what it came to, it panics, or it needs what the source needs
   abbrev pub Ends : {A : Type 0} → (A → Frames → Type 0) → Reached A → Frames → Type 0
   Ends L (Came a left) d = (c : Frames) × L a c × Gave globals code c left d
   Ends L (Fails cause) d = (e : Frames) × Slips (code_next code) d e × (code_next code e ≡ Asks (Panic cause))

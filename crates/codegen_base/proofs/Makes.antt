@@ -25,7 +25,7 @@ nothing_named name = go (is_blank name) None refl where
   go true o e = refl
   go false o e = ap is_some e
 
--- a type is the same where no variable hides it
+-- a type that a scope has is the same without any variables
 pub type_anywhere : (types : List (List ℕ)) (scope : Scope) (kind : TypeExpression) (t : ValueType) → type_in types scope kind ≡ Some t → type_in types nothing_declared kind ≡ Some t
 type_anywhere types scope (NamedType name) t e = hidden (is_some (variable_named scope name)) (is_some (variable_named nothing_declared name)) _ t (nothing_named name) e
 type_anywhere types scope (ParenthesizedType inner) t e = type_anywhere types scope inner t e

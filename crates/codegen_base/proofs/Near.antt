@@ -62,7 +62,7 @@ module _ (file : File) (program : Compiled (globals file)) (Sat : ℕ → Frame 
 
   -- ---- near states
 
-  -- a function within its task, given so much; the code of its callers is this
+  -- a function within its task, which was given `top.given`; `ds` are the frames of its callers
   pub record Within (n : ℕ) (top : Frame) (ds d : CodeFrames) : Type 0 where
     pub from : CodeFrames
     pub sat : Sat n (fresh top) ds from

@@ -35,7 +35,7 @@ element_itself elements.Bool = refl
 element_itself (elements.Struct n) = grind (arith, nat_tests)
 element_itself (elements.Channel n) = grind (arith, nat_tests)
 
--- ---- places
+-- ---- indexes
 
 -- an element is there
 abbrev pub Has : List Element → Element → Type 0
@@ -45,7 +45,7 @@ suc_of : (o : Option ℕ) (n : ℕ) → option_map suc o ≡ Some n → (m : ℕ
 suc_of None n e = absurd cc
 suc_of (Some m) n e = (m, refl, same_Some (suc m) n e)
 
--- what stands there is the element
+-- the element at the index that is found is the element
 there_is : (all : List Element) (e : Element) (n : ℕ) → found_at all e ≡ Some n → slice_get all n ≡ Some e
 there_is [] e n is = absurd cc
 there_is (x ∷ all) e n is = go (same_element e x) refl is (λ m h. there_is all e m h) where
@@ -53,7 +53,7 @@ there_is (x ∷ all) e n is = go (same_element e x) refl is (λ m h. there_is al
   go true same is more = subst (λ k. slice_get (x ∷ all) k ≡ Some e) (same_Some 0 n is) (ap Some (sym (element_same e x same)))
   go false same is more = let s = suc_of (found_at all e) n is in subst (λ k. slice_get (x ∷ all) k ≡ Some e) s.2 (more s.0 s.1)
 
--- elements added at the end change no place
+-- elements added at the end change no index
 place_stays : (all more : List Element) (e : Element) (n : ℕ) → found_at all e ≡ Some n → found_at (all ++ more) e ≡ Some n
 place_stays [] more e n is = absurd cc
 place_stays (x ∷ all) more e n is = go (same_element e x) is (λ m h. place_stays all more e m h) where

@@ -1,4 +1,4 @@
--- What is the same for all that the code of a function does: the program, the function while it runs, and where it stands.
+-- The context of all that the code of a function does: the program, the function while it runs, and where it is.
 use Rattle.std.proofs.Common.{◌≡◌, ℕ, ◌≤◌, List, length, take, map, Option, Some, slice_get, ◌∷◌}
 use Rattle.bytecode.specs.Code.{Function as CodeFunction, Code}
 use Rattle.bytecode.specs.Machine.{Frames, Frame, entered, code_next}
@@ -53,7 +53,7 @@ abbrev pub IsCalm : Request → Type 0
 IsCalm (requests.Go function arguments) = ⊥
 IsCalm request = Unit {0}
 
--- a function while it runs: what it stands in. Calm requests begin nothing; functions that are called, and those that are started, begin
+-- a function while it runs: its context. Calm requests begin nothing; functions that are called, and those that are started, begin
 -- alike
 pub record Running {globals : Globals} {program : Compiled globals} (coded : Coded program) : Type 1 where
   pub context : Context globals program.code
@@ -63,7 +63,7 @@ pub record Running {globals : Globals} {program : Compiled globals} (coded : Cod
   pub starts : (n : ℕ) (vs : List Value) (d : Frames) (callee : CodeFunction) → AreLike globals.structs (map known (parameters_of globals n)) vs → slice_get program.code.functions n ≡ Some callee
       → context.Begins (Asking (requests.Go n (all_words_of vs))) d
 
--- where it stands: what its locals hold, which variables lie there, at which of them the blocks begin, and which of them the typing
+-- where it is: what its locals hold, which variables lie there, at which of them the blocks begin, and which of them the typing
 -- rules see; and to where its code leaves the loop around it and turns in it again
 pub record Standing {globals : Globals} {program : Compiled globals} {coded : Coded program} (running : Running coded) : Type 0 where
   pub locals : List Word

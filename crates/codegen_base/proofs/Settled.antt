@@ -32,7 +32,7 @@ use Rattle.codegen_base.proofs.Evaluates.{at, Slip, Stands, Evals, Pushes, behin
 use Rattle.codegen_base.proofs.Running.{Compiled, Coded, Running, Standing}
 use Rattle.codegen_base.proofs.Expressions.{blocks as blocks_of, same_worth}
 
--- `nil` is equal to a channel where the channel is equal to `nil`
+-- `nil` is equal to a channel if the channel is equal to `nil`
 nil_swaps : (operator : BinaryOperator) (d : Direction) (t : ValueType) → is_equality operator ≡ true → (c : Option ℕ) → between operator (Chan None) (Chan c) ≡ one_word (applied (operator_of operator (ChannelType d t)) (Chan c) (Chan None))
 nil_swaps symbols.Equal d t e None = refl
 nil_swaps symbols.Equal d t e (Some c) = refl
@@ -96,7 +96,7 @@ module _ {globals : Globals} {program : Compiled globals} {coded : Coded program
   abbrev pub P : Worked Value → ValueType → (Plan → Plan) → Type 0
   P o kind push = Pushes standing o kind push
 
-  -- where an expression has a type of its own, its code pushes its value
+  -- if an expression has a type of its own, its code pushes its value
   abbrev pub IsEmitted : Expression → Worth → Type 0
   IsEmitted e w = (t : ValueType) → w ≡ Typed t → P (value globals blocks e) t (emits globals elements scope e)
 

@@ -1,4 +1,4 @@
--- A right side is one receive for two places, or values alone.
+-- A right side is one receive that gives two values, or values alone.
 use Rattle.std.proofs.Common.{◌≡◌, ℕ, zero, suc, ◌+◌, ◌==◌, length, false, List, [], ◌∷◌, ◌++◌, Some, refl, ap, ◌∙◌, arith, inl, inr, ◌⊎◌}
 use Rattle.std.specs.Prelude.{if◌then◌else◌, ◌&&◌}
 use Rattle.std.proofs.lemmas.Bool.Decides.{nat_tests}
@@ -44,7 +44,7 @@ form (suc (suc zero)) (e ∷ e' ∷ es) = inr (record { values_are = λ g b. ref
 form (suc (suc zero)) (Receive channel ∷ []) = inl (channel, refl, refl)
 form (suc (suc zero)) (e ∷ []) = inr (record { values_are = λ g b. refl; plan_is = λ g e s t r. refl; also_is = λ f. refl })
 
--- what a right side gives for `count` places, if it is its values alone
+-- what a right side gives to `count` lvalues or names, if it is its values alone
 pub plain_given : (globals : Globals) (s : Scope) (count first : ℕ) (es : List Expression) → IsPlain count es → given globals s count first es ≡ given_values globals s first es
 plain_given globals s count first es p = ap (λ (l : List Given). given_values globals s first es ++ l) (p.also_is first) ∙ append-nil (given_values globals s first es)
 

@@ -1,4 +1,4 @@
--- Words that go to several places at once: from the last one to the first, as if from the first one to the last.
+-- Words that go to several locals at once: from the last one to the first, as if from the first one to the last.
 use Rattle.std.proofs.Common.{◌≡◌, ℕ, zero, suc, ◌+◌, ◌==◌, ◌<◌, ◌≤◌, Bool, true, false, List, [], ◌∷◌, ◌++◌, length, take, drop, refl, sym, ap, ◌∙◌, subst, arith, length-take}
 use Rattle.std.specs.Prelude.{if◌then◌else◌}
 use Rattle.std.proofs.lemmas.Bool.{true≢false}
@@ -26,7 +26,7 @@ one_twice zero w u (v ∷ ls) lt = ap (put_one 0 w) (one_zero u v ls) ∙ one_ze
 one_twice (suc p) w u (v ∷ ls) lt =
     ap (put_one (suc p) w) (one_suc p u v ls) ∙ one_suc p w v (put_one p u ls) ∙ ap (λ (l : Words). v ∷ l) (one_twice p w u ls (omega (arith, lt))) ∙ sym (one_suc p w v ls)
 
--- words at two places may be put in either order
+-- words at two indexes may be put in either order
 one_swap : (p q : ℕ) (w u : Word) (ls : Words) → (p ≡ q → ⊥) → p < length ls → q < length ls → put_one p w (put_one q u ls) ≡ put_one q u (put_one p w ls)
 one_swap p q w u [] apart lp lq = absurd (omega (arith, lp))
 one_swap zero zero w u (v ∷ ls) apart lp lq = absurd (apart refl)
@@ -102,7 +102,7 @@ number_same p q e = grind (arith, nat_tests, e)
 number_apart : (p q : ℕ) → (p == q) ≡ false → p ≡ q → ⊥
 number_apart p q e same = grind (arith, nat_tests, e, same)
 
--- a word that was put before others: it counts where none of them goes to its place
+-- a word that was put before others counts if none of them goes to its local
 before_others : (p : ℕ) (w : Word) (spots : List Spot) (ws ls : Words) → p < length ls → AreSingle (length ls) spots → all_words spots ≤ length ws
     → put_backward (last_counts spots) ws (put_one p w ls) ≡ (if has_place p spots then put_backward (last_counts spots) ws ls else put_one p w (put_backward (last_counts spots) ws ls))
 before_others p w [] ws ls lt single le = refl

@@ -26,7 +26,7 @@ module _ {globals : Globals} {program : Compiled globals} {coded : Coded program
   abbrev Stands : Plan → ℕ → Option ℕ → Type 0
   Stands plan place out = On code.selects f.instrs leave again plan place out
 
-  -- the code leads on with other locals and another stack, to where what follows stands
+  -- the code leads on, with other locals and another stack, to the pc of what follows
   abbrev pub Leads : ℕ → Words → Words → Words → Words → Plan → Option ℕ → Type 0
   Leads place ls stack ms rest-stack rest out = (to : ℕ) × Slips (code_next code) (Place place ls stack) (Place to ms rest-stack) × Stands rest to out
 

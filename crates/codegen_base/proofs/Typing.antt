@@ -70,7 +70,7 @@ int_type BoolType e = absurd cc
 int_type (StructType n) e = absurd cc
 int_type (ChannelType d t) e = absurd cc
 
--- an operand of this type or constant value may stand where type t is wanted
+-- an operand of this type or constant value may be used as type t
 abbrev pub Fits : Worth → ValueType → Type 0
 Fits (Typed s) t = assignable s t ≡ true
 Fits (Constant z) t = (t ≡ IntType) × (is_int z ≡ true)

@@ -59,7 +59,7 @@ abbrev pub drops : ℕ → Plan → Plan
 drops zero rest = rest
 drops (suc count) rest = Do (instrs.Discard (suc count)) rest
 
--- the truth of a comparison; for what is no truth, which is never used, stands `false`
+-- the truth of a comparison; `false` for what is no truth, which is never used
 abbrev pub valued : Valued → Instr
 valued (Some (Ok (Truth b))) = instrs.Bool b
 valued other = instrs.Bool false

@@ -42,7 +42,7 @@ makes_any_way false ks i0 i1 i2 i3 i4 ws vs body others off m e2 o e4 =
     subst (λ c. Makes i0 c (ws ++ vs) (Way ks body others)) (sym e4) (makes_ended_way ks i0 i1 i3 ws vs body others off m behind)
 
 module _ (table : TypeTable) where
-  -- where the ways after it begin
+  -- the pc at which the ways after it begin
   pub way_place : (e0 e1 e2 : Emitter) (f : Control) (one : Made) → Emits table e0 e1 f one → e2.code.items ≡ e1.code.items ++ cond f.ends (instrs.Jump 0 ∷ []) [] → length e2.code.items ≡ length e0.code.items + size one.plan + jump_size one.plan
   way_place e0 e1 e2 f one a c2 =
       let over = cond f.ends (instrs.Jump 0 ∷ []) [] in
@@ -82,7 +82,7 @@ module _ (table : TypeTable) where
     kept = e.kept;
   }
 
-  -- a way, and those after it, if there are any: where there are none the jump over them is taken back
+  -- a way, and those after it, if there are any: if there are none the jump over them is taken back
   pub one_more_way : (ks : List WordKind) (make : Site → Option Made) (e0 e1 e2 e3 : Emitter) (i3 i4 : List Instr) (f : Control) (h : Held) (one : Made) (others : Option Control) (noted places0 places : List ℕ) → Emits table e0 e1 f one → e2.code.items ≡ e1.code.items ++ cond f.ends (instrs.Jump 0 ∷ []) [] → Beside e1 e2
       → places0 ≡ noted ++ length e0.code.items ∷ [] → Ways table e2 i3 e3 places0 places others (make (site_of table e2)) → h.place ≡ length e1.code.items → h.leads ≡ f.ends → i4 ≡ closed_one h (is_some others) i3
       → Ways table e0 i4 e3 noted places (Some (with_others f others)) (Some (with_way ks one (make (past (site_of table e0) one))))

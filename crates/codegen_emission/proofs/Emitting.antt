@@ -93,7 +93,7 @@ module _ (table : TypeTable) where
         kept = keeps_both e0 e1 e2 a.kept b.kept;
       }
 
-  -- where the next statement stands
+  -- the site of the next statement
   pub site_past : (e0 e1 : Emitter) (f : Control) (made : Made) → Emits table e0 e1 f made → site_of table e1 ≡ past (site_of table e0) made
   site_past e0 e1 f made e =
       let p : length e1.prints.items ≡ length e0.prints.items + length made.prints = ap length e.prints ∙ length-append e0.prints.items made.prints in

@@ -56,7 +56,7 @@ module _ (table : TypeTable) where
         kept = keeps_both table e0 e1 e2 e.kept (beside_keeps e1 e2 b2);
       }
 
-  -- the body comes round where its plan does
+  -- the body turns back to the head if its plan does
   turned : (b : Bool) (head : ℕ) (e0 e1 e2 : Emitter) (flow : Control) (body post : Made) → Emits table e0 e1 flow body → b ≡ (flow.ends || flow.continues) → (place : ℕ) → head ≡ place → Rounds table b head e1 e2 post
       → (leave again : ℕ) → e2.code.items ≡ e1.code.items ++ round leave again place (length e1.code.items) body.plan post.plan
   turned b head e0 e1 e2 flow body post e is place eh r leave again =
@@ -86,7 +86,7 @@ module _ (table : TypeTable) where
       })
 
   -- what is emitted of a loop with a test, part by part: its test, its jump, the body, what is done between its turns, and what
-  -- is done where the test fails
+  -- is done if the test fails
   pub record Tested (e0 e1 e2 e3 e4 e5 : Emitter) (flow : Control) (test exit : Plan) (body post : Made) (turns : Bool) (head again exit_at stop : ℕ) : Type 0 where
     pub alone : Before Skip test
     pub behind : Before Skip post.plan

@@ -43,7 +43,7 @@ use Rattle.codegen_emission.proofs.Emitting.{keeps_both}
 -- ---- what the variables of a scope alone decide
 
 module _ (globals : Globals) (s t : Scope) (e : s.variables ≡ t.variables) where
-  -- the second scope's variables in the first one's place
+  -- the scope with these variables instead of its own
   abbrev with_variables : List Variable → Scope
   with_variables vs = record { variables = vs; outer = s.outer; words = s.words }
 
@@ -135,7 +135,7 @@ module _ (table : TypeTable) where
         kept = keeps_both table e0 e1 e3 k1 (keeps_both table e1 e2 e3 e.kept k3);
       }
 
-  -- where these are the instructions, with nothing else changed
+  -- if these are the instructions, with nothing else changed
   pub emits_as_is : (e0 e1 e2 : Emitter) (code : List Instr) (flow : Control) (made : Made) → EmitsAs table e0 code e1 flow made → e2.code.items ≡ code → Beside e1 e2 → Emits table e0 e2 flow made
   emits_as_is e0 e1 e2 code flow made e c b = record {
     code = subst (λ l. Makes e0.code.items l flow.waits made.plan) (sym c) e.code_is;
@@ -147,7 +147,7 @@ module _ (table : TypeTable) where
   }
 
   module _ (globals : Globals) (elements : List Element) (result : Yield) where
-    -- what was received goes where it is wanted, and the statements of the clause are done
+    -- what was received is stored or dropped, and the statements of the clause are done
     pub emits_comm : (comm : Comm) (body : Statements) (e0 e1 e2 e3 e4 : Emitter) (count outer : ℕ) (flow : Control) → Entered table e0 e1 count outer → Appends e1.code.items e2.code.items (comm_plan globals elements result (layout_of table e1.layout) comm)
         → e2.prints.items ≡ e1.prints.items → e2.selects.items ≡ e1.selects.items → layout_of table e2.layout ≡ behind_comm globals elements result comm (layout_of table e1.layout) → Keeps e1.layout.visible e2.layout.visible
         → Emits table e2 e3 flow (made_all globals elements result (site_of table e2) body) → Left e3 e4 count outer → Emits table e0 e4 flow (made_way globals elements result (site_of table e0) comm body)

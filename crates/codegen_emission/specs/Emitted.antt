@@ -11,7 +11,7 @@ use Rattle.codegen_flow.specs.Waits.{Makes}
 use Rattle.codegen_flow.specs.Controls.{Control, Flows, jumping}
 use Rattle.codegen_emission.specs.declared.emitter.Emitter.{Emitter}
 
--- where the next statement stands
+-- the site of the next statement
 abbrev pub site_of : TypeTable → Emitter → Site
 site_of table emitter = record { layout = layout_of table emitter.layout; prints = length emitter.prints.items; selects = length emitter.selects.items }
 

@@ -12,7 +12,7 @@ use Rattle.codegen_base.specs.Generated.{Made, Site, at, ended, made_of, receive
 use Rattle.codegen_emission.specs.Branches.{made_within}
 
 module _ (globals : Globals) (elements : List Element) (result : Yield) where
-  -- an item goes where it is wanted, in a block of its own, and the body is done
+  -- an item goes to its target, in a block of its own, and the body is done
   abbrev pub made_item : Site → ValueType → Target → Statements → Made
   made_item site kind target body =
       let layout = entering site.layout in

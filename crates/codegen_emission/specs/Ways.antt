@@ -23,7 +23,7 @@ abbrev pub or_nothing : Site → Option Made → Made
 or_nothing site None = nothing site
 or_nothing site (Some made) = made
 
--- where a default's way begins, after the others
+-- the pcs in `noted`, and then the pc at which the default's way begins, if there is one
 abbrev pub default_start : List ℕ → Emitter → Option Control → List ℕ
 default_start noted old flow = noted ++ cond (is_some flow) (length old.code.items ∷ []) []
 
@@ -36,7 +36,7 @@ pub record EmitsAs (table : TypeTable) (old : Emitter) (code : List Instr) (new 
   pub layout : layout_of table new.layout ≡ made.layout
   pub kept : Keeps old.layout.visible new.layout.visible
 
--- ways are emitted, if there are any, and where they begin is noted
+-- ways are emitted, if there are any, and the pcs at which they begin are noted
 pub record Ways (table : TypeTable) (old : Emitter) (code : List Instr) (new : Emitter) (noted places : List ℕ) (flow : Option Control) (made : Option Made) : Type 0 where
   pub emits : EmitsAs table old code new (any_control flow) (or_nothing (site_of table old) made)
   pub begin : places ≡ noted ++ starts (length old.code.items) (or_nothing (site_of table old) made).plan

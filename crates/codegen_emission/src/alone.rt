@@ -86,7 +86,7 @@ pub fn emit_any<'a>(
     }
 }
 
-/// What stands before the condition of an `if`.
+/// What comes before the condition of an `if`.
 ///
 /// Errors: out of memory.
 #[tactic(auto, using(crate::proofs::Emitting::emits_none))]

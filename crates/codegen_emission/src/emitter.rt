@@ -20,7 +20,7 @@ pub struct Emitter<'a> {
 }
 
 impl Emitter<'_> {
-    /// The place of the next instruction.
+    /// The pc of the next instruction.
     ///
     /// Errors: it would pass 2^32.
     pub(crate) fn next_place(&self) -> Result<u32, AllocError>

@@ -18,7 +18,7 @@ pub enum Part {
     Clause,
 }
 
-/// A place between two instructions of a function, in the order in which they were emitted.
+/// A point between two instructions of a function, in the order in which they were emitted.
 #[derive(Clone, Copy)]
 pub enum Mark {
     /// The next function begins.

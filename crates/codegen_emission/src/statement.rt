@@ -320,7 +320,7 @@ fn emit_branch<'t, 'm, 'a>(
     Ok(flow)
 }
 
-/// An item of this type goes where it is wanted, and the body of a range is done.
+/// Emits what is done with an item of a range: it goes to its target, and the body is done.
 #[cycle(statement)]
 fn emit_item<'t, 'm, 'a>(
     context: &'t FunctionContext<'t, 'a>,
@@ -387,7 +387,7 @@ fn emit_range<'t, 'm, 'a>(
     Ok(flow)
 }
 
-/// A way of a select, which is a block: what was received goes where it is wanted first.
+/// Emits a way of a select, which is a block: first what was received is stored or dropped.
 #[cycle(statement)]
 fn emit_way<'t, 'm, 'a>(
     context: &'t FunctionContext<'t, 'a>,

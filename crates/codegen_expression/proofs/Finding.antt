@@ -1,4 +1,4 @@
--- Where elements are found in a list.
+-- The indexes at which elements are found in a list.
 use Rattle.std.proofs.Common.{rules, ◌≡◌, ◌≤◌, arith, ℕ, suc, Bool, true, false, List, [], ◌∷◌, ◌++◌, length, Option, Some, None, option_map, refl, sym, ap, ◌∙◌, subst, slice_get}
 use Rattle.std.specs.Map.{update}
 use Rattle.std.specs.Prelude.{unwrap_or, if◌then◌else◌, cond}
@@ -79,7 +79,7 @@ suc_of : (o : Option ℕ) (n : ℕ) → option_map suc o ≡ Some n → (m : ℕ
 suc_of None n e = absurd cc
 suc_of (Some m) n e = (m, refl, same_Some (suc m) n e)
 
--- what stands where an element is found is the element
+-- the element at the index that is found is the element
 pub stands_there : (all : List Element) (e : Element) (n : ℕ) → found_at all e ≡ Some n → slice_get all n ≡ Some e
 stands_there [] e n is = absurd cc
 stands_there (x ∷ all) e n is = go (same_element e x) refl is (λ m h. stands_there all e m h) where
@@ -94,7 +94,7 @@ element_kept all kind e = go (is_some (found_at (with_type all kind) e)) where
   go true = refl
   go false = element_stays (with_type all kind) (e ∷ []) kind (type_noted all kind)
 
--- a place that is found is one of the list's
+-- an index that is found is at most the list's length
 pub place_below : (all : List Element) (e : Element) → unwrap_or (found_at all e) 0 ≤ length all
 place_below [] e = omega arith
 place_below (x ∷ all) e = go (same_element e x) (found_at all e) (place_below all e) where

@@ -52,7 +52,7 @@ puts_zeros (kind ∷ kinds) old new is =
 pub stays : (old new : List Instr) (part : Plan → Plan) → Puts old new part → take (length old) new ≡ old
 stays old new part p = ap (take (length old)) (puts_alone old new part p 0 0) ∙ take-append_seam old (flat 0 0 (length old) (part Skip))
 
--- one instruction in place of a part
+-- one instruction instead of a part
 pub puts_instead : (old middle new : List Instr) (part : Plan → Plan) (i : Instr) → Puts old middle part → new ≡ take (length old) middle ++ i ∷ [] → Puts old new (Do i)
 puts_instead old middle new part i p is = puts_do old new i (is ∙ ap (λ m. m ++ i ∷ []) (stays old middle part p))
 

@@ -38,7 +38,7 @@ abbrev pub listed : Option Instr → List Instr
 listed None = []
 listed (Some i) = i ∷ []
 
--- a constant that is used as a value of a type, and `nil` of one, are pushed in place of the operand's own instructions,
+-- a constant that is used as a value of a type, and `nil` of one, are pushed instead of the operand's own instructions,
 -- which begin at `first`
 abbrev pub settling : List Element → Option Worth → ValueType → ℕ → List Instr → List Instr
 settling elements (Some (Constant value)) kind first code = take first code ++ instrs.Int (int_wrap w64 value) ∷ []

@@ -100,7 +100,7 @@ fn place_within(elements: &ElementList, place: Option<usize>) -> Option<usize>
     }
 }
 
-/// The place of the element of what a channel carries.
+/// The index of the element of what a channel carries.
 fn item_place<'k>(context: &Context<'_, 'k>, channel: Placed<'k>) -> Option<usize>
     requires { IsPlaced (elements_of context.now) (worth_in context.now channel.worth) channel.place }
     ensures { result ≡ found_at (elements_of context.now) (element_for (elements_of context.now) (known (element_of (worth_in context.now channel.entry.worth)))) }

@@ -53,7 +53,7 @@ impl ElementList {
         self.elements.get(place).copied()
     }
 
-    /// Where an element stands.
+    /// The index of an element.
     pub fn found_at(&self, element: Element) -> Option<usize>
         ensures { result ≡ found_at self.now element }
     {

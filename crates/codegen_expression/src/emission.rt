@@ -34,7 +34,7 @@ use type_table::layout::field_of;
 use type_table::scope::Visible;
 use type_table::value_type::ValueType;
 
-/// Emits an expression, and returns its type or constant value. A constant or `nil` is pushed only where its use gives
+/// Emits an expression, and returns its type or constant value. A constant or `nil` is pushed only when its use gives
 /// it a type: the instructions that it emitted itself are then taken back.
 ///
 /// Errors: out of memory.

@@ -221,7 +221,7 @@ fn note_first(
     }
 }
 
-/// Like `note_simple`, for what stands before the condition of an `if`.
+/// Like `note_simple`, for what comes before the condition of an `if`.
 fn note_header(
     table: &TypeTable<'_>,
     elements: &mut ElementList,

@@ -89,7 +89,7 @@ pub fn push_zeros<'t>(
 
 /// The instruction that pushes the value of a name.
 ///
-/// Errors: its variable lies at a place of 2^32 or more.
+/// Errors: the index of its variable's first local is 2^32 or more.
 pub(crate) fn named<'k>(
     context: &Context<'_, 'k>,
     visible: &Visible<'k>,
@@ -135,7 +135,7 @@ pub fn kind_in<'t>(operand: Option<Worth<'t>>) -> ValueType<'t>
     }
 }
 
-/// Uses an operand as a value of this type: if it is a constant, or `nil`, that is pushed in place of its own
+/// Uses an operand as a value of this type: if it is a constant, or `nil`, that is pushed instead of its own
 /// instructions, which begin at `first`.
 ///
 /// Errors: out of memory.

@@ -16,7 +16,7 @@ use std::alloc::AllocError;
 use syntax::BinaryOperator;
 use type_table::value_type::ValueType;
 
-/// An instruction takes the place of another one.
+/// Replaces the instruction at `at`.
 fn aim(code: &mut Vec<Instr>, at: usize, instr: Instr)
     ensures { code.new.items ≡ slice_set code.old.items at instr }
 {
@@ -109,7 +109,7 @@ fn close(
     }
 }
 
-/// An operator to the right of which a value of this type stands, and to the left `nil`, which is pushed.
+/// An operator whose right operand is a value of this type, and whose left operand is `nil`, which is pushed.
 fn close_nil<'k>(
     context: &Context<'_, 'k>,
     operator: BinaryOperator,

@@ -71,7 +71,7 @@ pub(crate) fn sign_of(operator: UnaryOperator) -> Option<Op>
     }
 }
 
-/// What comes of the comparison of two constants; of another operator `false`.
+/// The result of the comparison of two constants; `false` for another operator.
 pub(crate) fn compared(operator: BinaryOperator, a: i128, b: i128) -> bool
     ensures { compared operator a b ≡ Instr.Bool result }
 {

@@ -43,7 +43,7 @@ pub joined_kinds : (globals : Globals) (elements : List Element) (types : List V
 joined_kinds globals elements [] = refl
 joined_kinds globals elements (kind ∷ types) = ap (λ (l : List WordKind). kinds_of globals.structs elements kind ++ l) (joined_kinds globals elements types)
 
--- ---- what places want
+-- ---- the types that lvalues want
 
 abbrev pub place_want : Globals → Scope → Place → Option ValueType
 place_want globals scope place = if is_blank place.name then None else Some (known (place_type globals scope place))
@@ -114,7 +114,7 @@ module _ (globals : Globals) (elements : List Element) where
       pub room : Room globals elements code f behind
       pub alike : Alike after behind.scope
 
-    -- ---- places
+    -- ---- lvalues
 
     module _ (scope : Scope) (all : AllHoused globals elements f scope.variables) (s : Scope) (alike : Sees s scope) where
       place_fits : (place : Place) (first : ℕ) (kind : ValueType) → Free (PlaceHas globals s first place) → SpotFits globals.structs elements code f (place_spot globals elements scope place kind) (kinds_in (taken_type globals elements scope place kind))

@@ -34,7 +34,7 @@ module _ (globals : Globals) (elements : List Element) (code : Code) (f : CodeFu
     abbrev T : Allowed → List WordKind → Plan → List WordKind → Type 0
     T = Typed code f
 
-    -- a condition with which nothing is wrong, and which may stand where a bool is wanted
+    -- a condition with which nothing is wrong, and which may be used as a bool
     module _ (condition : Expression) (first : ℕ) (free : Free (ExpressionHas globals s first condition)) (makes : OneMakes globals elements condition) (w : Worth) (is : worth globals scope condition ≡ Some w) (fit : Fits w BoolType) where
       abbrev tested : Plan → Plan
       tested rest = pushes globals elements scope BoolType condition rest
@@ -48,7 +48,7 @@ module _ (globals : Globals) (elements : List Element) (code : Code) (f : CodeFu
       pub typed_if_else : (a : Allowed) (ks out : List WordKind) (so other : Plan) → T a ks so out → T a ks other out → T a ks (tested (IfElse so other)) out
       typed_if_else a ks out so other t u = typed_test a ks out (IfElse so other) (ks, refl, t, u)
 
-      -- a loop with a test; what is done after its body stands outside the loop
+      -- a loop with a test; what is done after its body is outside the loop
       pub typed_cycle : (a : Allowed) (body post : Plan) → T in_loop [] body [] → T a [] post [] → T a [] (Cycle (tested Skip) body post Skip) []
       typed_cycle a body post t u = ([], refl, refl, typed_test a [] (kinds.Bool ∷ []) Skip refl, t, OnTrue_from (turns body) (T a [] post []) (λ e. u), refl)
 

@@ -89,7 +89,7 @@ operator_plain operator own Nil m e = go (is_equality operator && is_channel_typ
   go true e = subst IsPlainWorth (same_Ok (TypedWorth BoolType) m e) bool_plain
   go false e = absurd cc
 
--- what goes to a place of the type is of the type
+-- what goes to an lvalue of the type is of the type
 made_own : (operator : BinaryOperator) (own : ValueType) (w : Worth) (nodes : Nodes) (end : ℕ) → 1 ≤ nodes.end → 1 ≤ end → Free (MadeHas (binary_worth operator (TypedWorth own) w) own nodes end) → binary_worth operator (TypedWorth own) w ≡ Ok (TypedWorth own)
 made_own operator own w nodes end le lt free =
     let (m, is) = made (binary_worth operator (TypedWorth own) w) nodes nodes end le le lt (λ flaw h. free flaw (inl h)) in
@@ -99,7 +99,7 @@ made_own operator own w nodes end le lt free =
 
 module _ (globals : Globals) (elements : List Element) (code : Code) (f : CodeFunction) (grounds : Grounds globals elements code) where
   module _ (scope : Scope) (all : AllHoused globals elements f scope.variables) (s : Scope) (alike : Sees s scope) where
-    -- a place that is read
+    -- an lvalue that is read
     record Readable (place : Place) : Type 0 where
       at : Selected
       is : selected globals scope place ≡ Some at
@@ -123,7 +123,7 @@ module _ (globals : Globals) (elements : List Element) (code : Code) (f : CodeFu
           fit = (refl, l.housed.within, l.housed.stand);
         }
 
-    -- the spot and the type of a place that is read
+    -- the spot and the type of an lvalue that is read
     place_is : (place : Place) (r : Readable place) → (spot_of globals elements scope (selected globals scope place) ≡ Local r.at.place (length (kinds_of globals.structs elements r.own))) × (known (place_type globals scope place) ≡ r.own)
     place_is place r = (ap (spot_of globals elements scope) r.is ∙ ap (λ o. Local r.at.place (length (kinds_of globals.structs elements (known o)))) r.has, ap known (sym (place_alike globals s scope alike place) ∙ r.typed))
 

@@ -108,7 +108,7 @@ module _ (globals : Globals) (elements : List Element) (code : Code) (f : CodeFu
           there = λ to. shape_is_there channel c;
         }
 
-  -- ---- what was received goes where it is wanted
+  -- ---- what was received is stored or dropped
 
   -- the item alone, or also whether it was sent
   abbrev wanted : {A : Type 0} → Option A → ValueType → List WordKind

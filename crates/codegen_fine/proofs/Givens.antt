@@ -1,4 +1,4 @@
--- What right sides give goes where it is wanted.
+-- What right sides give is of the types that are wanted.
 use Rattle.std.proofs.Common.{◌≡◌, ℕ, suc, ◌+◌, ◌==◌, ◌≤◌, ◌⊎◌, Bool, true, false, ◌&&◌, List, [], ◌∷◌, ◌++◌, length, map, Option, Some, None, refl, sym, ap, ◌∙◌, subst, arith, inl, inr}
 use Rattle.std.specs.Prelude.{if◌then◌else◌}
 use Rattle.std.proofs.lemmas.Bool.Decides.{nat_tests}
@@ -120,7 +120,7 @@ types_given globals elements s scope alike [] = refl
 types_given globals elements s scope alike (value ∷ rest) = ap (λ (l : List ValueType). known (default_type value.worth) ∷ l) (types_given globals elements s scope alike rest)
 
 module _ (globals : Globals) (elements : List Element) where
-  -- a value of a type goes where it is wanted
+  -- a value of type `kind` is taken as the type `want`
   pub record Taken (want : Option ValueType) (kind : ValueType) : Type 0 where
     pub same : kinds_of globals.structs elements (taken want kind) ≡ kinds_of globals.structs elements kind
     pub noted : Noted elements (taken want kind)
@@ -146,7 +146,7 @@ module _ (globals : Globals) (elements : List Element) where
       value_taken None (Constant z) nodes e makes is le noted free = let b = broken rules.Constant nodes.end le in ((refl, not_false (is_int z) (λ x. free b.0 (x, b.1))), tt, λ x. (refl, tt))
       value_taken None Nil nodes e makes is le noted free = let b = broken rules.Nil (nodes.first + 1) (omega arith) in absurd (free b.0 b.1)
 
-      -- values fit where they are wanted
+      -- values fit the types that are wanted
       pub record ValuesFit (values : List Expression) (wants : List (Option ValueType)) (m : ℕ) : Type 0 where
         pub fit : AllFit globals s (expressions values) (taken_all wants (given_types globals elements (given_values globals scope m values)))
         pub noted : AllNoted elements (taken_all wants (given_types globals elements (given_values globals scope m values)))

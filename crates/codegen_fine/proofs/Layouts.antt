@@ -86,7 +86,7 @@ none_alike (Some v) (Some w) e = refl
 pub declarable_alike : (s t : Scope) → Alike s t → (name : List ℕ) → is_declarable s name ≡ is_declarable t name
 declarable_alike s t alike name = ap (λ b. not (is_blank name) && b) (none_alike (own_variable s name) (own_variable t name) (own_alike s t alike name))
 
--- names none of which, but `_`, stands among them twice
+-- names none of which, but `_`, is among them twice
 pub twice_parts : (name : List ℕ) (names : List (List ℕ)) → has_twice (name ∷ names) ≡ false → (is_blank name ≡ false → AllOthers name names) × (has_twice names ≡ false)
 twice_parts name names e =
     let w = or_parts (not (is_blank name) && has_name names name) (has_twice names) e in

@@ -1,4 +1,4 @@
--- Where nothing is wrong with the operands of a call or of an operation on a channel, their code pushes the kinds that it takes.
+-- If nothing is wrong with the operands of a call or of an operation on a channel, their code pushes the kinds that it takes.
 use Rattle.std.proofs.Common.{◌≡◌, ℕ, ◌<◌, List, [], ◌∷◌, ◌++◌, length, map, Option, Some, None, refl, sym, ap, ◌∙◌, subst, inl, inr}
 use Rattle.go_text.specs.declared.rule.Rule.TheVariants as rules
 use Rattle.syntax.specs.Tree.{Expression, expressions, Arguments}

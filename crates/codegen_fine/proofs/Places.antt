@@ -1,4 +1,4 @@
--- The words of variables, and of the places in them, are among the locals.
+-- The words of variables, and of the lvalues in them, are among the locals.
 use Rattle.std.proofs.Common.{◌≡◌, ℕ, zero, suc, ◌+◌, ◌≤◌, Bool, true, false, not, ◌&&◌, List, [], ◌∷◌, ◌++◌, length, drop, Option, Some, None, option_map, refl, sym, ap, ◌∙◌, subst, arith, inl, inr, bytes_eq, length-append}
 use Rattle.std.specs.Prelude.{option_and_then, if◌then◌else◌}
 use Rattle.std.specs.Option.{is_none}
@@ -27,7 +27,7 @@ module _ (globals : Globals) (elements : List Element) (f : CodeFunction) where
   abbrev kinds_here : ValueType → List WordKind
   kinds_here = kinds_of globals.structs elements
 
-  -- from a place on there are the words of a type, which is known and noted
+  -- from local `place` on there are the words of a type, which is known and noted
   pub record IsHoused (place : ℕ) (o : Option ValueType) : Type 0 where
     pub kind : ValueType
     pub has : o ≡ Some kind
@@ -69,7 +69,7 @@ module _ (globals : Globals) (elements : List Element) (f : CodeFunction) where
     of : (name : List ℕ) (v : Variable) → variable_named scope name ≡ Some v → IsHoused v.place v.kind
     of name v found = found_housed scope.variables name v all (unblanked scope name v found)
 
-  -- ---- places
+  -- ---- lvalues
 
   -- a path leads to words of a type
   pub record Leads (o : Option Selected) : Type 0 where
@@ -105,7 +105,7 @@ module _ (globals : Globals) (elements : List Element) (f : CodeFunction) where
           ap (λ o. option_map (behind at.place) (option_and_then (λ kind. field_of globals.structs kind field) o)) h.has ∙ ap (option_map (behind at.place)) is in
           subst (λ o. Leads (followed globals.structs o rest)) (sym same) next
 
-    -- a place with which nothing is wrong, and which is not `_`
+    -- an lvalue with which nothing is wrong, and which is not `_`
     pub place_leads : (scope : Scope) (alike : Sees s scope) (all : AllHoused scope.variables) (place : Place) (first : ℕ) → Free (PlaceHas globals s first place) → is_blank place.name ≡ false → Leads (selected globals scope place)
     place_leads scope alike all place first free named = go (variable_named s place.name) (variable_named scope place.name) refl refl (variable_sees s scope alike place.name) where
       go : (a b : Option Variable) → variable_named s place.name ≡ a → variable_named scope place.name ≡ b → kind_if (variable_named s place.name) ≡ kind_if (variable_named scope place.name) → Leads (selected globals scope place)
@@ -121,7 +121,7 @@ module _ (globals : Globals) (elements : List Element) (f : CodeFunction) where
           let leads = path_leads place.fields (variable_at w) (first + 1) (omega arith) housed (λ flaw h. free flaw (inr (inr (subst (λ o. PathHas globals.structs o place.fields (first + 1) flaw) (sym kinds) h)))) in
           subst (λ o. Leads (followed globals.structs (option_map variable_at o) place.fields)) (sym ib) leads
 
--- ---- the types of places
+-- ---- the types of lvalues
 
 -- a path that begins nowhere leads nowhere
 nowhere : (structs : Structs) (fields : List (List ℕ)) → None ≡ type_of_field (followed structs None fields)

@@ -91,7 +91,7 @@ module _ (globals : Globals) (elements : List Element) (code : Code) (f : CodeFu
   abbrev kinds_in : ValueType → List WordKind
   kinds_in = kinds_of globals.structs elements
 
-  -- ---- the item goes where it is wanted
+  -- ---- the item goes to its target
 
   -- the layout of an item, and what goes there
   record Goes (result : Yield) (layout : Layout) (s : Scope) (kind : ValueType) (target : Target) (o : Option ValueType) (behind : Layout) : Type 0 where

@@ -75,7 +75,7 @@ module _ (globals : Globals) (elements : List Element) (code : Code) (f : CodeFu
               (λ a ks out rest t. subst (λ plan. Typed code f a ks plan out) (sym (plain.plan_is globals elements scope types rest)) (typed_all globals elements code f grounds scope housed s alike (expressions right) types first free makes fit.fit fit.noted a ks out rest t));
         }
 
-    -- one receive for two places
+    -- one receive that gives two values
     both_taken : (channel : Expression) → IsTaken TakesGiven (suc (suc zero)) (Receive channel ∷ [])
     both_taken channel first end [] le long noted free numbers fail makes = absurd (omega (arith, long))
     both_taken channel first end (want ∷ []) le long noted free numbers fail makes = absurd (omega (arith, long))
@@ -112,7 +112,7 @@ module _ (globals : Globals) (elements : List Element) (code : Code) (f : CodeFu
           (λ first end wants le long noted free numbers fail makes. (both_taken channel first end wants le long noted free numbers fail makes).takes))
       go (inr plain) = plain_taken count right plain
 
-    -- one receive for one place
+    -- one receive that gives one value
     one_taken : (channel : Expression) (count : ℕ) → IsPlain count (Receive channel ∷ []) → IsTaken TakesGiven count (Receive channel ∷ [])
     one_taken channel count plain first end wants le long noted free numbers fail makes = record { takes = plain_taken count (Receive channel ∷ []) plain first end wants le long noted free numbers fail makes; same = subst Same (sym here) (go wants long noted fail-seen) } where
       e : Expression

@@ -95,7 +95,7 @@ module _ (globals : Globals) (elements : List Element) (code : Code) (f : CodeFu
         let inner = after_any globals (entered s) (Some (comm_simple comm)) in
         shapes_named more (left s (after_all globals inner body)) sees b c (first + comm_size comm + statements_size body + 1) places (λ flaw h. free flaw (inr (inr h))) makes.2 n x e
 
-    -- ---- where the ways begin
+    -- ---- the pcs at which the ways begin
 
     target_is : (comm : Comm) (to : ℕ) → clause_target (table_clause globals elements result layout comm to) ≡ to
     target_is (CommSend channel value) to = refl

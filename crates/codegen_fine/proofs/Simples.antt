@@ -21,7 +21,7 @@ use Rattle.codegen_fine.proofs.Printed.{typed_print}
 use Rattle.codegen_fine.proofs.Changes.{typed_increment, typed_decrement, typed_assign_with}
 use Rattle.codegen_fine.proofs.Assigns.{Leaves, Declares, typed_sets, typed_define}
 
--- print tables stand in the code from a number on
+-- print tables are in the code from a number on
 abbrev pub Prints : Code → ℕ → List PrintTable → Type 0
 Prints code first xs = (n : ℕ) (x : PrintTable) → slice_get xs n ≡ Some x → slice_get code.prints (first + n) ≡ Some x
 

@@ -15,7 +15,7 @@ use Rattle.plan.proofs.Lists.{Stand}
 use Rattle.plan.proofs.Typed.{Allowed, Typed, typed_step, typed_none}
 use Rattle.codegen_fine.proofs.Pushing.{drops_typed}
 
--- ---- what stands among the locals
+-- ---- what is among the locals
 
 drop_at : (xs : List WordKind) (p : ℕ) (k : WordKind) → slice_get xs p ≡ Some k → drop p xs ≡ k ∷ drop (p + 1) xs
 drop_at [] p k e = absurd cc
@@ -26,7 +26,7 @@ stand_take : (xs : List WordKind) (p : ℕ) (js : List WordKind) → Stand xs p 
 stand_take xs p [] h = refl
 stand_take xs p (k ∷ js) h = ap (take (suc (length js))) (drop_at xs p k h.0) ∙ ap (λ (l : List WordKind). k ∷ l) (stand_take xs (p + 1) js h.1)
 
--- what stands there is a part of the list
+-- what is there is a part of the list
 pub stand_range : (xs : List WordKind) (p n : ℕ) (js : List WordKind) → n ≡ length js → Stand xs p js → slice_range xs p (p + n) ≡ js
 stand_range xs p n js many h = let e : p + n - p ≡ length js = omega (arith, many) in ap (λ m. take m (drop p xs)) e ∙ stand_take xs p js h
 

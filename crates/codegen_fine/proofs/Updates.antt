@@ -21,7 +21,7 @@ use Rattle.codegen_fine.proofs.Spots.{SpotFits, stand_range, stores_typed, ticks
 
 module _ (globals : Globals) (elements : List Element) (code : Code) (f : CodeFunction) (grounds : Grounds globals elements code) where
   module _ (scope : Scope) (place words : ℕ) (own : ValueType) (fit : SpotFits globals.structs elements code f (Local place words) (kinds_of globals.structs elements own)) (noted : Noted elements own) where
-    -- the place's value is loaded
+    -- the lvalue's value is loaded
     pub loaded : P globals elements code f grounds own (loads_spot globals elements scope (Local place words))
     loaded = puts_locals globals.structs elements code f place words (kinds_of globals.structs elements own) fit.1 (stand_range f.locals place words (kinds_of globals.structs elements own) fit.0 fit.2)
 

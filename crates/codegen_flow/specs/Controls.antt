@@ -53,7 +53,7 @@ either first other = record {
 abbrev pub may_end : Control → Control
 may_end flow = record { waits = flow.waits; ends = true; breaks = flow.breaks; continues = flow.continues }
 
--- it goes where it goes from a plan
+-- control goes where it goes from this plan
 pub record Flows (flow : Control) (plan : Plan) : Type 0 where
   pub ends : flow.ends ≡ reaches_end plan
   pub breaks : flow.breaks ≡ has_break plan

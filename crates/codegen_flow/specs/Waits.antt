@@ -9,7 +9,7 @@ use Rattle.codegen_flow.specs.declared.waits.Wait.{Wait}
 abbrev pub wait_at : ℕ → Bool → List Wait
 wait_at place leaves = record { place = place; leaves = leaves } ∷ []
 
--- the jump, if breaks and continues lead to these places
+-- the jump, if breaks lead to `leave` and continues to `again`
 abbrev pub jump : ℕ → ℕ → Wait → Instr
 jump leave again wait = instrs.Jump (cond wait.leaves leave again)
 
@@ -18,7 +18,7 @@ abbrev pub filled : List Wait → ℕ → ℕ → List Instr → List Instr
 filled [] leave again code = code
 filled (w ∷ ws) leave again code = slice_set (filled ws leave again code) w.place (jump leave again w)
 
--- they stand one after the other, from `first` on, and before `end`
+-- they are one after the other, from `first` on, and before `end`
 abbrev pub AreWithin : ℕ → ℕ → List Wait → Type 0
 AreWithin first end [] = Unit {0}
 AreWithin first end (w ∷ ws) = (first ≤ w.place) × (w.place < end) × AreWithin (w.place + 1) end ws

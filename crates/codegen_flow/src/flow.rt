@@ -16,7 +16,7 @@ pub struct Flow {
 }
 
 impl Flow {
-    /// Only to where a break, or a continue, leads.
+    /// Control goes only to where a break, or a continue, leads.
     ///
     /// Errors: out of memory.
     pub fn from_jump(alloc: Global, leaves: bool, place: usize) -> Result<Flow, AllocError>

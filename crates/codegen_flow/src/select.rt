@@ -14,14 +14,14 @@ use bytecode::{Instr, SelectTable};
 use codegen_expression::operand::number;
 use std::alloc::{AllocError, Global};
 
-/// A way of a select that leads on, or doesn't, and where the jump over the ways after it stands.
+/// A way of a select: whether it leads on, and the pc of the jump over the ways after it.
 #[derive(Clone, Copy)]
 pub struct Held {
     pub place: usize,
     pub leads: bool,
 }
 
-/// Ways of a select: where control goes from them, if there are any, where they begin, and their jumps over the later ones.
+/// The ways of a select: where control goes from them, if there are any, the pcs at which they begin, and their jumps over the later ones.
 #[derive(Drop)]
 pub struct WayList {
     pub flow: Option<Flow>,
@@ -29,7 +29,7 @@ pub struct WayList {
     pub held: Vec<Held>,
 }
 
-/// Holds the place of a jump over the ways after one that leads on.
+/// Emits the jump over the later ways, without its target, if the way leads on.
 ///
 /// Errors: out of memory.
 pub fn hold(leads: bool, code: &mut Vec<Instr>) -> Result<Held, AllocError>
@@ -81,7 +81,7 @@ pub fn close(all: &[Held], are_there: bool, code: &mut Vec<Instr>) -> Result<(),
     Ok(())
 }
 
-/// A select's instruction, and the place of its table, which has this number.
+/// Emits a select's instruction, and reserves index `at` for its table.
 ///
 /// Errors: a number of the code would pass 2^32; out of memory.
 pub fn hold_select(
@@ -98,7 +98,7 @@ pub fn hold_select(
     Ok(())
 }
 
-/// The table of a select is put where its place was held.
+/// Puts a select's table at index `at`, which was reserved for it.
 pub fn set_table(tables: &mut Vec<SelectTable>, at: usize, table: SelectTable)
     ensures { tables.new.items ≡ slice_set tables.old.items at table }
 {
@@ -206,7 +206,7 @@ fn with_way(before: Option<Flow>, flow: Flow) -> Result<Flow, AllocError>
     }
 }
 
-/// One more way, which begins at `place`.
+/// Adds a way, which begins at pc `place`.
 ///
 /// Errors: out of memory.
 pub fn add_way(list: &mut WayList, place: u32, held: Held, flow: Flow) -> Result<(), AllocError>
@@ -221,7 +221,7 @@ pub fn add_way(list: &mut WayList, place: u32, held: Held, flow: Flow) -> Result
     Ok(())
 }
 
-/// All ways have ended; that of a default comes last and begins at `place`.
+/// All ways have ended; that of a default comes last and begins at pc `place`.
 ///
 /// Errors: out of memory.
 pub fn end_ways(list: &mut WayList, place: u32, default: Option<Flow>) -> Result<(), AllocError>

@@ -5,14 +5,14 @@ ghost use Rattle.codegen_flow.specs.Waits.{filled};
 
 use bytecode::Instr;
 
-/// The jump of a break or a continue, at index `place`. Its target is not known yet.
+/// The jump of a break or a continue, at pc `place`. Its target is not known yet.
 #[derive(Clone, Copy)]
 pub struct Wait {
     pub place: usize,
     pub leaves: bool,
 }
 
-/// Puts an instruction where another one holds its place.
+/// Replaces the instruction at pc `at`.
 pub fn aim(code: &mut Vec<Instr>, at: usize, instr: Instr)
     ensures { code.new.items ≡ slice_set code.old.items at instr }
 {
@@ -28,7 +28,7 @@ fn target(wait: Wait, leave: u32, again: u32) -> u32
     if wait.leaves { leave } else { again }
 }
 
-/// Gives all jumps their targets: a break leads to one place, and a continue to another one.
+/// Gives all jumps their targets: a break leads to `leave`, and a continue to `again`.
 #[tactic(auto, using(crate::proofs::Filled::filled_last))]
 pub fn fill(waits: &[Wait], leave: u32, again: u32, code: &mut Vec<Instr>)
     ensures { code.new.items ≡ filled waits.now leave again code.old.items }

@@ -21,7 +21,7 @@ pub fn has_other(otherwise: &ElseNode) -> bool
     }
 }
 
-/// Holds the place of a jump over the other way, if the first one leads on.
+/// Emits the jump over the other way, without its target, if the first one leads on.
 fn hold_jump(leads: bool, code: &mut Vec<Instr>) -> Result<(), AllocError>
     ensures { OnOk result (code.new.items ≡ code.old.items ++ cond leads (instrs.Jump 0 ∷ []) []) }
 {
@@ -43,7 +43,7 @@ pub fn end_test(test: usize, code: &mut Vec<Instr>) -> Result<(), AllocError>
     Ok(())
 }
 
-/// The other way begins, to which the test at `test` leads; returns where the first one's jump over it stands, if it leads on.
+/// The other way begins, to which the test at `test` leads; returns the pc of the first one's jump over it, if it leads on.
 ///
 /// Errors: out of memory.
 pub fn begin_other(test: usize, leads: bool, code: &mut Vec<Instr>) -> Result<usize, AllocError>

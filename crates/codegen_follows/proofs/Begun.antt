@@ -1,4 +1,4 @@
--- The statements of a block sit where their code stands.
+-- The statements of a block sit where their code is.
 use Rattle.std.proofs.Common.{◌≡◌, ℕ, zero, suc, ◌+◌, ◌≤◌, Bool, true, false, List, [], ◌∷◌, ◌++◌, length, take, Option, Some, None, IfSome, refl, sym, ap, ◌∙◌, subst, arith, length-append, slice_get, inl, inr}
 use Rattle.std.specs.Prelude.{if◌then◌else◌}
 use Rattle.syntax.specs.Tree.{Statement, Statements, NoStatement, Then}
@@ -104,7 +104,7 @@ module _ {globals : Globals} {program : Compiled globals} (coded : Coded program
 
   -- ---- the statements of a block
 
-  -- the first one, and the others where they are reached
+  -- the first one, and the others if they are reached
   pub record Parts (l : Around) (first : ℕ) (a b : Made) (place : ℕ) (out : Option ℕ) : Type 0 where
     pub mid : Option ℕ
     pub on : On' l a.plan place mid
@@ -130,7 +130,7 @@ module _ {globals : Globals} {program : Compiled globals} (coded : Coded program
   FineBehind = (view : View) (s : Statement) (first : ℕ) (breaks continues : Bool) → Fine coded view → Free (StatementHas (within coded breaks continues) view.checked first s) → Makes globals elements s → Fine coded (past_one view s)
 
   module _ (fine_behind : FineBehind) where
-    -- the first statement's code, and the others' where they are reached
+    -- the first statement's code, and the others' if they are reached
     live_parts : (view : View) (l : Around) (s : Statement) (rest : Statements) (place : ℕ) (out : Option ℕ) → L view l (Then s rest) place out
         → (mid : Option ℕ) × Doing coded l view s place mid × IfSome mid (λ m. L (past_one view s) l rest m out)
     live_parts view l s rest place out h =

@@ -1,4 +1,4 @@
--- Calls, and goroutines that are started: their arguments lie on the stack.
+-- Calls, and goroutines that are started: their arguments are on the stack.
 use Rattle.std.proofs.Common.{◌≡◌, ℕ, ◌+◌, List, [], ◌∷◌, ◌++◌, length, map, take, Option, Some, refl, sym, ap, ◌∙◌, subst, slice_get, inl}
 use Rattle.std.specs.Prelude.{flat_map}
 use Rattle.syntax.specs.Tree.{Expression, expressions, Arguments, Go, CallAlone}

@@ -99,7 +99,7 @@ module _ {globals : Globals} {program : Compiled globals} {coded : Coded program
         M : Option ℕ → CodeFrames → Type 0
         M c d = (to : ℕ) × (d ≡ at simulated to ls (stack ++ Chan c ∷ [])) × On' point rest to out
 
-  -- an instruction that makes a request: the reply lies on the stack
+  -- an instruction that makes a request: the reply is on the stack
   pub asks_goes : {B : Type 0} (q : Request) (i : Instr) (xs : Words) (zeros : List Value) (go : Given → Worked B) (L : B → CodeFrames → Type 0) (place : ℕ) (stack : Words) → At f.instrs place i → pops code f i ≡ length xs → is_told i ≡ true
       → code_next code (at simulated place ls (stack ++ xs)) ≡ Asks q → map zero_of (gives code f i []) ≡ all_words_of zeros → running.context.Begins (Asking q) (at simulated place ls (stack ++ xs))
       → ((reply : Reply) → Suits q reply → Follows context (go (Told reply)) L (at simulated (place + 1) ls (stack ++ all_words_of (parted zeros (reply_words reply))))) → Follows context (and_then (needs (Asking q)) go) L (at simulated place ls (stack ++ xs))

@@ -1,4 +1,4 @@
--- What becomes of what a clause of a select receives.
+-- The code of a clause of a select drops or stores what it receives.
 use Rattle.std.proofs.Common.{◌≡◌, ℕ, suc, ◌+◌, ◌≤◌, Bool, true, false, List, [], ◌∷◌, length, map, take, drop, Option, Some, None, option_map, refl, sym, ap, ◌∙◌, subst, arith, inl, inr}
 use Rattle.std.specs.Prelude.{if◌then◌else◌, ◌||◌}
 use Rattle.std.specs.Option.{is_some}
@@ -44,7 +44,7 @@ use Rattle.type_table.specs.Containment.{Structs}
 use Rattle.codegen_follows.proofs.Channels.{IsChannel}
 use Rattle.meaning.specs.Expressions.{element_kind}
 
--- where a clause of a select stands: how many words of the frame are taken, and the numbers of the tables
+-- what a clause of a select finds: how many words of the frame are taken, and the numbers of the tables
 pub record Beside : Type 0 where
   pub words : ℕ
   pub locals : List WordKind
@@ -174,7 +174,7 @@ module _ {globals : Globals} {program : Compiled globals} {coded : Coded program
     go (CommAssign item ok e) h = record { placed = h.placed; alike = h.alike; noted = h.noted }
     go (CommDefine item ok e) h = fine_in coded (behind coded clause_view (Alone (Define (and_also item ok) (Receive e ∷ [])))).site (comm_view (CommDefine item ok e)).site clause_view.begins (comm_view (CommDefine item ok e)).checked (received_layout item ok e) h
 
-  -- ---- where it goes
+  -- ---- what it is stored in
 
   abbrev OnAt : Around → Plan → ℕ → Option ℕ → Type 0
   OnAt l plan place mid = IsOn coded l plan place mid
@@ -224,7 +224,7 @@ module _ {globals : Globals} {program : Compiled globals} {coded : Coded program
       let a = named l names (K ∷ BoolType ∷ []) [] (received_given e first true) (CommDefine item (Some other) e) place mid (once clause_view.checked names _ (omega arith) (λ flaw x. good flaw (inr (inr (inl x))))) (received_typed e c first true) refl (λ flaw x. good flaw (inr (inr (inr x)))) refl most on in
       (K ∷ BoolType ∷ [], [], refl, subst (λ kind. Assigning' l [] (K ∷ BoolType ∷ []) (new globals blocks item kind ∷ new globals blocks other BoolType ∷ []) (CommDefine item (Some other) e) place mid) (sym (kind_item e c)) a)
 
-  -- a place is the same in the clause's block
+  -- an lvalue is the same in the clause's block
   place_same : (place : Place) → placed globals inner place ≡ placed globals blocks place
   place_same place =
       ap (λ o. if is_blank place.name then Nowhere else Into place.name (slot_along globals.structs (whole (kind_of o)) place.fields))

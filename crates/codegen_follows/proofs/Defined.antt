@@ -40,7 +40,7 @@ use Rattle.codegen_follows.proofs.Simulated.{Simulated, at, Works, Position, her
 use Rattle.meaning.specs.Worked.{Worked}
 use Rattle.codegen_follows.proofs.Sets.{AreTyped, both_types, both_typed}
 
--- ---- what right sides give where the same is seen
+-- ---- what right sides give if the same is seen
 
 module _ (globals : Globals) (s t : Scope) (a : Alike s t) where
   values_same : (es : List Expression) (first : ℕ) → given_values globals s first es ≡ given_values globals t first es
@@ -134,7 +134,7 @@ module _ {globals : Globals} {program : Compiled globals} (coded : Coded program
       types_given globals elements (given globals (scope_in b) count 0 right)
       ∙ ap (given_types globals elements) (given_same globals (scope_in b) (scope_of view) (seen_alike globals.structs ls (scope_of view) view.begins fine.placed) right count 0)
 
--- no name stands twice in a declaration
+-- no name occurs twice in a declaration
 pub once : (s : Scope) (names : List (List ℕ)) (end : ℕ) → 1 ≤ end → Free (DefinedHave s names end) → has_twice names ≡ false
 once s names end le free = go (has_twice names) refl where
   go : (b : Bool) → has_twice names ≡ b → has_twice names ≡ false

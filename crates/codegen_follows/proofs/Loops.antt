@@ -57,7 +57,7 @@ module _ {globals : Globals} {program : Compiled globals} {coded : Coded program
   abbrev Does : Around → View → Option Expression → Option Simple → Statements → ℕ → Option ℕ → Type 0
   Does l view condition post body place mid = Looping coded l view condition post body place mid
 
-  -- a post statement that declares nothing stands in a block of its own
+  -- a post statement that declares nothing may be in a block of its own
   post_good : (view : View) (body : Statements) (post : Option Simple) (first : ℕ) → IfSome post DeclaresNone → Free (IfSimpleHas globals view.checked first post) → IfSome post (λ s. Free (SimpleHas globals (scope_entered (behind_body coded view body).checked) first s))
   post_good view body None first none free = tt
   post_good view body (Some simple) first none free =
@@ -85,7 +85,7 @@ module _ {globals : Globals} {program : Compiled globals} {coded : Coded program
     end_sits simulated next view l mid r.0 k inner r.1 r.2,
   )
 
-  -- the loop after the first statement of a for, where the header has these variables
+  -- the loop after the first statement of a for, whose header has these variables
   clauses_loop : (view : View) (l : Around) (header : Made) (condition : Option Expression) (post : Option Simple) (body : Statements) (first second third : ℕ) (m : ℕ) (mid : Option ℕ) (checked : Scope) → let v : View = record { site = past (inside view.site) header; begins = (opened view).begins; checked = checked } in Fine coded v
       → IfSome condition (λ c. Free (TestHas globals checked first c)) → Free (StatementsHave (within coded true true) (scope_entered checked) second body)
       → IfSome post (λ s. Free (SimpleHas globals (scope_entered (behind_body coded v body).checked) third s))

@@ -19,7 +19,7 @@ use Rattle.codegen_follows.proofs.Step.{sits_follow}
 module _ (file : File) (program : Compiled (globals file)) where
   open program use {code}
 
-  -- the code of a function, called by these, comes without a cost to a place where it sits
+  -- the code of a function, called by `callers`, comes without a cost to a pc where it sits
   pub record SitsBehind (n : ℕ) (top : Frame) (callers d : CodeFrames) : Type 0 where
     pub coded : Coded program
     pub number_is : coded.number ≡ n

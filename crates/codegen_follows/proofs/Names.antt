@@ -1,4 +1,4 @@
--- Names that a statement declares, or assigns where their block has them.
+-- Names that a statement declares, or assigns if their block has them.
 use Rattle.std.proofs.Common.{◌≡◌, ℕ, ◌+◌, ◌≤◌, Bool, true, false, List, [], ◌∷◌, length, take, drop, Option, Some, None, option_map, refl, sym, ap, ◌∙◌, subst, arith, bytes_eq, length-append}
 use Rattle.std.specs.Prelude.{if◌then◌else◌, not, ◌&&◌, ◌||◌}
 use Rattle.std.specs.Option.{is_some, is_none}
@@ -70,7 +70,7 @@ module _ {globals : Globals} {program : Compiled globals} (coded : Coded program
   NameSuits None given taken = taken ≡ given
   NameSuits (Some v) given taken = zero_words globals.structs taken ≡ zero_words globals.structs (known v.kind)
 
-  -- where a name's value goes, and which variables are there after it
+  -- the spot of a name's value, and which variables are there after it
   name_is : (layout : Layout) (name : List ℕ) (given taken : ValueType) → own_variable layout.scope name ≡ own_variable (scope_of view) name → NameSuits (own_variable (scope_of view) name) given taken
       → IsSpot structs layout.scope (defined globals blocks name given) taken (name_spot globals elements layout name given)
       × (behind_destination structs (defined globals blocks name given) layout.scope ≡ (declaring_new globals elements given name layout).scope)

@@ -1,4 +1,4 @@
--- Where the end of a plan, a break or a continue in it is not reached, it does not matter where it would lead.
+-- If the end of a plan, a break or a continue in it is not reached, it does not matter where it would lead.
 use Rattle.std.proofs.Common.{◌≡◌, ℕ, ◌+◌, Bool, true, false, List, Option, Some, None, IfSome, IsTrue, refl, sym, ◌∙◌, subst}
 use Rattle.std.proofs.lemmas.Bool.{false≢true, and_from, or_left, or_right}
 use Rattle.bytecode.specs.declared.instr.Instr.{Instr}

@@ -113,7 +113,7 @@ module _ {globals : Globals} {program : Compiled globals} {coded : Coded program
   abbrev waits : Option ℕ → Case
   waits c = record { chan = c; item = None }
 
-  -- the operands of a case lie on the stack
+  -- the operands of a case are on the stack
   abbrev OfferedAt : Comm → Plan → Words → Case → CodeFrames → Type 0
   OfferedAt comm rest stack c d = (ws : Words) × (to : ℕ) × Offered comm ws c × (d ≡ place_at to ls (stack ++ ws)) × On rest to
 
@@ -187,7 +187,7 @@ module _ {globals : Globals} {program : Compiled globals} {coded : Coded program
   all_offered comm body clauses ws more c cases one others [] le = absurd (omega (arith, le))
   all_offered comm body clauses ws more c cases one others (to ∷ places) le = offered_more comm clauses ws more c cases to places one others (omega (arith, le))
 
-  -- the operands of the cases lie on the stack
+  -- the operands of the cases are on the stack
   abbrev pub AllAt : Clauses → Plan → Words → List Case → CodeFrames → Type 0
   AllAt clauses rest stack cases d = (ws : Words) × (to : ℕ) × AllOffered clauses ws cases × (d ≡ place_at to ls (stack ++ ws)) × On rest to
 

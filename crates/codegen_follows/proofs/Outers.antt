@@ -1,4 +1,4 @@
--- Where the innermost block begins matters to nothing but declarations: what is wrong with an expression is so in any block.
+-- Where the innermost block begins matters only to declarations: what is wrong with an expression is so in any block.
 use Rattle.std.proofs.Common.{◌≡◌, ℕ, ◌+◌, List, [], ◌∷◌, Option, Some, None, refl, ap, ◌∙◌, subst, inl, inr, option_map}
 use Rattle.std.specs.Prelude.{option_and_then}
 use Rattle.std.specs.Result.{result_ok}

@@ -32,7 +32,7 @@ module _ (structs : Structs) where
   abbrev pub AllKnown : Type 0
   AllKnown = (kind : ValueType) (name : List ℕ) (at : Selected) → field_of structs kind name ≡ Some at → (t : ValueType) × (at.kind ≡ Some t)
 
-  -- where a path leads from a part of a value that begins at a place of the locals
+  -- the part to which `path` leads in a value that begins at index `start` of the locals
   pub record Leads (kind : ValueType) (start : ℕ) (path : List (List ℕ)) : Type 0 where
     pub from : ℕ
     pub at : ValueType

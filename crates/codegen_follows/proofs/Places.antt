@@ -1,4 +1,4 @@
--- Places of assignments: where they lie among the locals, and in the variables of a run.
+-- Lvalues: their words among the locals, and their parts of the variables of a run.
 use Rattle.std.proofs.Common.{◌≡◌, ℕ, ◌+◌, Bool, true, false, List, [], ◌∷◌, length, map, Option, Some, None, option_map, refl, sym, ap, ◌∙◌, subst, arith, bytes_eq, inl, inr}
 use Rattle.std.specs.Prelude.{if◌then◌else◌, not, ◌&&◌}
 use Rattle.std.specs.Option.{is_none}
@@ -60,7 +60,7 @@ module _ {globals : Globals} {program : Compiled globals} (coded : Coded program
   abbrev scope : Scope
   scope = scope_of view
 
-  -- a place that is no `_` is a part of a variable
+  -- an lvalue that is no `_` is a part of a variable
   pub record Reaches (place : Place) : Type 0 where
     pub variable : Variable
     pub from : ℕ
@@ -103,7 +103,7 @@ module _ {globals : Globals} {program : Compiled globals} (coded : Coded program
             ∙ ap type_of_field checked.followed_is ∙ ap Some same-kind;
       }
 
-  -- a value has the words that its place takes; `_` takes any
+  -- a value has the words that its lvalue takes; `_` takes any
   abbrev pub Suits : Place → ValueType → ValueType → Type 0
   Suits place given taken = zero_words globals.structs taken ≡ zero_words globals.structs (if is_blank place.name then given else known (place_type globals view.checked place))
 
@@ -122,7 +122,7 @@ module _ {globals : Globals} {program : Compiled globals} (coded : Coded program
           ap (spot_of globals elements scope) r.selected_is ∙ ap (Local (r.variable.place + r.from)) (kinds_long structs elements r.kind),
         )
 
-  -- a place declares nothing
+  -- an lvalue declares nothing
   place_stays : (place : Place) → behind_destination structs (placed globals blocks place) scope ≡ scope
   place_stays place = go (is_blank place.name) where
     go : (b : Bool) → behind_destination structs (if b then Nowhere else Into place.name (place_slot globals blocks place)) scope ≡ scope

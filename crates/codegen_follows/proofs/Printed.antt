@@ -130,7 +130,7 @@ module _ {globals : Globals} {program : Compiled globals} {coded : Coded program
   abbrev table : List Part → List TablePart
   table parts = map (printed_part globals elements scope) parts
 
-  -- what is said, in words that lie on the stack
+  -- what is printed, in words that are on the stack
   abbrev Said : List Part → Plan → Words → List (List ℕ) → CodeFrames → Type 0
   Said parts rest stack said d = (ws : Words) × (to : ℕ) × Says (table parts) said ws × (d ≡ place_at to ls (stack ++ ws)) × On rest to
 

@@ -161,7 +161,7 @@ module _ {globals : Globals} {program : Compiled globals} {coded : Coded program
   item_words : (e : Expression) (c : Channel' e) → wide_item e ≡ words_in globals.structs c.element
   item_words e c = kinds_long globals.structs elements (carried globals elements scope e) ∙ ap (words_in globals.structs) c.carries
 
-  -- the loop after its channel's value, where items go to destinations
+  -- the loop after its channel's value, if items go to destinations
   pub loop_at : (e : Expression) (body : Statements) (c : Channel' e) (destinations : List Destination) (taken within : Plan) (last : View) → Together (item e) last → (scope_of (kept e)).words ≤ length f.locals
       → ((again m : Option ℕ) (p : ℕ) → IsOn coded (within_loop again) taken p m → Items coded (within_loop again) (item e) c.element destinations last p m)
       → ((again : Option ℕ) (p : ℕ) → IsOn coded (within_loop again) within p again → Doing coded (within_loop again) last (Block body) p again) → (head : ℕ)

@@ -104,7 +104,7 @@ module _ {globals : Globals} {program : Compiled globals} {coded : Coded program
     pub fit : (behind_all structs all destinations scope).words ≤ length f.locals
     pub variables_are : variables next ≡ (behind_all structs all destinations scope).variables
 
-  -- values that lie on the stack are stored
+  -- values on the stack are stored
   pub stored_go : (destinations : List Destination) (types : List ValueType) (spots : List Spot) (vs : List Value) (place : ℕ) → Targets destinations types spots → AreLike structs types vs → On (assigns spots Skip) place → Works' (stores globals blocks k destinations vs) (place_at place ls (all_words_of vs))
   stored_go destinations types spots vs place d like on =
       all_kept_goes simulated ls view next l destinations types vs place mid k h (record { spots = spots; fine = fine; spots_are = d.are; room = d.fit; on = on; variables_are = d.variables_are }) like t.0 r

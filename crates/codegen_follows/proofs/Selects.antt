@@ -1,4 +1,4 @@
--- Selects: the code asks what the source does, and goes on where it does.
+-- Selects: the code makes the request that the source makes, and goes on as it does.
 use Rattle.std.proofs.Common.{◌≡◌, ℕ, ◌+◌, ◌≤◌, List, [], length, Option, Some, None, IfSome, refl, sym, ap, ◌∙◌, arith, inl, subst}
 use Rattle.std.specs.Option.{is_some}
 use Rattle.syntax.specs.Tree.{Comm, Statements, Select, Clauses, NoClause, Clause}

@@ -1,4 +1,4 @@
--- Assignments to places.
+-- Assignments to lvalues.
 use Rattle.std.proofs.Common.{◌≡◌, ℕ, suc, ◌+◌, ◌≤◌, Bool, true, false, List, [], ◌∷◌, length, map, Option, Some, None, option_map, refl, sym, ap, ◌∙◌, subst, arith, inl, inr, zero, ◌⊎◌}
 use Rattle.std.specs.Prelude.{if◌then◌else◌}
 use Rattle.syntax.specs.Tree.{Expression, expressions, Place, Assign, Receive}
@@ -62,7 +62,7 @@ module _ {globals : Globals} {program : Compiled globals} (coded : Coded program
   abbrev pub AllSuit' : List Place → List ValueType → List ValueType → Type 0
   AllSuit' places types others = AllSuit coded ls view fine places types others
 
-  -- a value fits its place, and takes its words
+  -- a value fits its lvalue, and takes its words
   place_fits : (place : Place) (first : ℕ) (v : Given) (w : Worth) → Free (PlaceHas globals view.checked first place) → v.worth ≡ Some w → 1 ≤ v.nodes.end → Free (GoesHas (is_blank place.name) v (place_type globals view.checked place))
       → Fits w (takes place (known (default_type (Some w)))) × Suit place (known (default_type (Some w))) (takes place (known (default_type (Some w))))
   place_fits place first v w free is positive goes = go (is_blank place.name) refl goes where

@@ -51,7 +51,7 @@ module _ (globals : Globals) (variables : List Variable) (a b n m : ℕ) where
   given_same : (right : List Expression) (places first : ℕ) → given globals s places first right ≡ given globals t places first right
   given_same right places first = ap (λ (l : List Given). l ++ also_given places first right) (values_same right first)
 
-  -- ---- places
+  -- ---- lvalues
 
   places_same : (places : List Place) (first : ℕ) (flaw : Flaw) → PlacesHave globals s first places flaw → PlacesHave globals t first places flaw
   places_same [] first flaw h = h

@@ -32,7 +32,7 @@ module _ {globals : Globals} {program : Compiled globals} (coded : Coded program
   abbrev pub Rest : View → Around → Option ℕ → List Task → Type 0
   Rest next l mid k = (to : Option ℕ) × LeadsOn coded mid to × Sits coded next l to k
 
--- a function that is simulated: where its code sits, the source and the code are near each other
+-- a function that is simulated: at a pc where its code sits, the source and the code are near each other
 pub record Simulated {globals : Globals} {program : Compiled globals} (coded : Coded program) : Type 1 where
   pub running : Running coded
   pub fine_behind : FineBehind coded
@@ -58,7 +58,7 @@ module _ {globals : Globals} {program : Compiled globals} {coded : Coded program
   abbrev pub Works : Worked Course → CodeFrames → Type 0
   Works work c = Follows context work Comes c
 
-  -- the code slips to where it is near this
+  -- the code slips to frames that are near `top`
   abbrev pub Reaches : Frame → CodeFrames → Type 0
   Reaches top d = Comes (Goes top) d
 

@@ -1,4 +1,4 @@
--- The code of assignments puts values where they go, and comes to the tick.
+-- The code of assignments stores values in their spots, and comes to the tick.
 use Rattle.std.proofs.Common.{◌≡◌, ℕ, zero, suc, ◌+◌, ◌≤◌, Bool, true, false, List, [], ◌∷◌, ◌++◌, length, Option, refl, sym, ap, ◌∙◌, subst, arith, length-append}
 use Rattle.std.specs.Prelude.{if◌then◌else◌}
 use Rattle.std.proofs.lemmas.List.{take_all}
@@ -108,7 +108,7 @@ module _ {globals : Globals} {program : Compiled globals} {coded : Coded program
   abbrev pub Assigns : List Spot → ℕ → Option ℕ → Type 0
   Assigns spots place mid = On code.selects f.instrs leave again (assigns spots Skip) place mid
 
-  -- to where the clock ticks
+  -- to the pc where the clock ticks
   abbrev pub ToTick : ℕ → Words → Words → Words → Option ℕ → Type 0
   ToTick place ls stack ms mid = (to : ℕ) × Slips (code_next code) (Place place ls stack) (Place to ms []) × At f.instrs to instrs.Tick × Leads f.instrs (to + 1) mid
 

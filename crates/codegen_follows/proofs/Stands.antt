@@ -1,4 +1,4 @@
--- Where the code stands of what is still to be done.
+-- The code of what is still to be done, and its pcs.
 use Rattle.std.proofs.Common.{◌≡◌, ℕ, ◌+◌, ◌≤◌, Bool, true, List, [], ◌∷◌, ◌++◌, length, map, take, drop, Option, Some, None, IfSome, slice_get}
 use Rattle.syntax.specs.declared.node.Direction.{Direction}
 use Rattle.syntax.specs.Tree.{Expression, Simple, Statement, Block, Statements, Otherwise}
@@ -29,7 +29,7 @@ use Rattle.codegen_base.proofs.Typing.{Free}
 use Rattle.codegen_base.proofs.Assigned.{AreSpots, behind_all}
 use Rattle.codegen_base.proofs.Running.{Compiled, Coded}
 
--- where a break and a continue lead
+-- the pcs to which a break and a continue lead
 pub record Around : Type 0 where
   pub leave : Option ℕ
   pub again : Option ℕ
@@ -42,7 +42,7 @@ nowhere = record { leave = None; again = None }
 abbrev pub in_way : Around → Option ℕ → Around
 in_way l out = record { leave = out; again = l.again }
 
--- what is known of the variables at a place: where the layout has them, where each block begins, and what the typing rules see
+-- what is known of the variables at a pc: the layout's site, the beginning of each block, and what the typing rules see
 pub record View : Type 0 where
   pub site : Site
   pub begins : List ℕ
@@ -68,7 +68,7 @@ pub record Inner (outer view : View) : Type 0 where
 abbrev pub opened : View → View
 opened view = record { site = inside view.site; begins = length (variables view) ∷ view.begins; checked = entered view.checked }
 
--- print tables stand from a number on
+-- print tables have numbers from a number on
 abbrev pub Prints : Code → ℕ → List PrintTable → Type 0
 Prints code first tables = (n : ℕ) (table : PrintTable) → slice_get tables n ≡ Some table → slice_get code.prints (first + n) ≡ Some table
 
@@ -79,7 +79,7 @@ module _ {globals : Globals} {program : Compiled globals} (coded : Coded program
   abbrev pub IsOn : Around → Plan → ℕ → Option ℕ → Type 0
   IsOn l plan place out = On code.selects f.instrs l.leave l.again plan place out
 
-  -- from a place that is reached jumps alone lead to the other
+  -- from `mid`, if it is reached, jumps alone lead to `to`
   abbrev pub LeadsOn : Option ℕ → Option ℕ → Type 0
   LeadsOn mid to = IfSome mid (λ m. Leads f.instrs m to)
 
@@ -87,7 +87,7 @@ module _ {globals : Globals} {program : Compiled globals} (coded : Coded program
   abbrev pub within : Bool → Bool → Setting
   within breaks continues = record { globals = globals; result = result; breaks = breaks; continues = continues }
 
-  -- the variables lie where the layout says, and are those that the typing rules see; the elements of their types are noted
+  -- the variables are laid out as the layout says, and are those that the typing rules see; the elements of their types are noted
   pub record Fine (view : View) : Type 0 where
     pub placed : IsPlaced globals.structs (scope_of view) view.begins
     pub alike : Alike view.checked (scope_of view)
@@ -119,7 +119,7 @@ module _ {globals : Globals} {program : Compiled globals} (coded : Coded program
     pub tables : Prints code first one.prints
     pub room : one.layout.scope.words ≤ length f.locals
 
-  -- ---- tasks that are done at a place
+  -- ---- tasks that are done at a pc
 
   pub record Doing (l : Around) (view : View) (s : Statement) (place : ℕ) (mid : Option ℕ) : Type 0 where
     pub first : ℕ
@@ -235,7 +235,7 @@ module _ {globals : Globals} {program : Compiled globals} (coded : Coded program
     pub turns : IfSome again (λ m. (turn : ℕ) × Leads f.instrs m (Some turn) × At f.instrs turn (instrs.Loop head))
     pub ends : IsOn l (drops (words_in globals.structs kind) Skip) exit out
 
-  -- values of these types lie on the stack: those that have no place are dropped, and the others are stored as ones
+  -- values of these types are on the stack: those without a destination are dropped, and the others are stored as ones
   -- of types with the same zeros
   abbrev pub Taking : Around → View → List ValueType → List Destination → View → ℕ → Option ℕ → Type 0
   Taking l view types [] next place mid = IsOn l (drops (all_wide types) Skip) place mid × (variables next ≡ variables view)
@@ -255,12 +255,12 @@ module _ {globals : Globals} {program : Compiled globals} (coded : Coded program
     pub taking : Taking (in_way l out) (opened outer) types destinations next place mid
     pub live : IfSome mid (λ m. Live next (in_way l out) body m out)
 
-  -- what a loop's head does at a place
+  -- what a loop's head does at pc `head`
   abbrev pub Loops : Around → View → Loop → ℕ → Option ℕ → Type 0
   Loops l view (Repeating condition post body) head out = Looping l view condition post body head out
   Loops l view (Ranging destinations zero body) head out = RangingAt l view destinations zero body head out
 
-  -- a task at a place: its code leads to `mid`, where what is next has its variables
+  -- a task at pc `place`: its code leads to `mid`, where what is next has its variables
   abbrev pub Does : Around → View → Task → View → ℕ → Option ℕ → Type 0
   Does l view (Do s) next place mid = Doing l view s place mid × (variables next ≡ variables (behind view s))
   Does l view (Decide condition body otherwise) next place mid = Deciding l view condition body otherwise place mid × (variables next ≡ variables view)
@@ -275,7 +275,7 @@ module _ {globals : Globals} {program : Compiled globals} (coded : Coded program
       Looping l view condition post body head out
       × IfSome post_at (λ m. (turn : ℕ) × IsOn l (post_made view body post).plan m (Some turn) × At f.instrs turn (instrs.Loop head))
 
-  -- the code from a place on does what is still to be done; what is never reached has no place
+  -- the code from pc `place` on does what is still to be done; what is never reached has no pc
   abbrev pub Sits : View → Around → Option ℕ → List Task → Type 0
   Sits view l place [] = (l ≡ nowhere) × IfSome place (λ p. IsOn nowhere (pushes_zeros (result_kinds globals elements result) Stop) p None)
   Sits view l place (EndBlock ∷ rest) = (outer : View) × Inner outer view × (to : Option ℕ) × IfSome place (λ p. Leads f.instrs p to) × Sits outer l to rest

@@ -48,7 +48,7 @@ module _ {globals : Globals} {program : Compiled globals} {coded : Coded program
         let full = h.full in
         omega (arith, a, b, full)
 
-    -- where a statement stands, and what is to be done after it
+    -- where a statement is, and what is to be done after it
     abbrev position_of : (s : Statement) (place : ℕ) → Doing coded l view s place mid → Position simulated
     position_of s place d = record {
       point = record {

@@ -51,7 +51,7 @@ module _ {globals : Globals} {program : Compiled globals} {coded : Coded program
   abbrev blocks : Words → View → Blocks
   blocks ls view = blocks_of coded ls view
 
-  -- values that lie on the stack are stored, and those after them dropped
+  -- values on the stack are stored, and those after them dropped
   pub stores_go : (ls : Words) (view next : View) (l : Around) (destinations : List Destination) (types : List ValueType) (kept others : List Value) (dropped place : ℕ) (mid : Option ℕ) (k : List Task) → H ls view → Assigning coded l view dropped types destinations next place mid → AreLike structs types kept
       → dropped ≡ length (all_words_of others) → next.begins ≡ view.begins → Rest coded next l mid k → Works' (ready (Moves (frame (all_stored structs destinations (kept ++ others) (blocks ls view)) k))) (place_at place ls (all_words_of kept ++ all_words_of others))
   stores_go ls view next l destinations types kept others dropped place mid k h x like many begins r =
@@ -74,14 +74,14 @@ module _ {globals : Globals} {program : Compiled globals} {coded : Coded program
       (slips_more (code_next code) (place_at place ls (ws ++ all_words_of others)) (place_at m.0 ls ws) (place_at goes.0 ms []) m.1 goes.1) (ticks code g f there ds goes.0 ms [] goes.2)
       (subst (λ b. Reaches' (frame b k) (place_at to ms [])) same (lands simulated ms next l to r.0 k held (lead_through simulated to mid r.0 goes.3 r.1) r.2))
 
-  -- values that lie on the stack are stored; others have no place there
+  -- values on the stack are stored; others have no words there
   pub kept_goes : (ls : Words) (view next : View) (l : Around) (destinations : List Destination) (types : List ValueType) (kept others : List Value) (place : ℕ) (mid : Option ℕ) (k : List Task) → H ls view → Assigning coded l view 0 types destinations next place mid → AreLike structs types kept
       → next.begins ≡ view.begins → Rest coded next l mid k → Works' (ready (Moves (frame (all_stored structs destinations (kept ++ others) (blocks ls view)) k))) (place_at place ls (all_words_of kept ++ []))
   kept_goes ls view next l destinations types kept others place mid k h x like begins r =
       subst (λ b. Works' (ready (Moves (frame b k))) (place_at place ls (all_words_of kept ++ []))) (stored_kept structs all destinations types x.spots kept [] (scope_of view) (blocks ls view) x.spots_are like ∙ sym (stored_kept structs all destinations types x.spots kept others (scope_of view) (blocks ls view) x.spots_are like))
       (stores_go ls view next l destinations types kept [] 0 place mid k h x like refl begins r)
 
-  -- as many values as there are places for
+  -- as many values as there are destinations
   pub all_kept_goes : (ls : Words) (view next : View) (l : Around) (destinations : List Destination) (types : List ValueType) (vs : List Value) (place : ℕ) (mid : Option ℕ) (k : List Task) → H ls view → Assigning coded l view 0 types destinations next place mid → AreLike structs types vs
       → next.begins ≡ view.begins → Rest coded next l mid k → Works' (ready (Moves (frame (all_stored structs destinations vs (blocks ls view)) k))) (place_at place ls (all_words_of vs))
   all_kept_goes ls view next l destinations types vs place mid k h x like begins r =

@@ -1,4 +1,4 @@
--- What becomes of values that a call or a request gives: they are dropped, stored or returned.
+-- Values that a call or a request gives are dropped, stored or returned.
 use Rattle.std.proofs.Common.{◌≡◌, ℕ, List, [], ◌∷◌, ◌++◌, length, map, drop, Option, refl, sym, ap, ◌∙◌, subst, arith, length-append, append_assoc}
 use Rattle.bytecode.specs.Machine.{Frames as CodeFrames}
 use Rattle.type_table.specs.Types.{ValueType}

@@ -172,7 +172,7 @@ module _ {globals : Globals} {program : Compiled globals} {coded : Coded program
       (subst (λ (s : Scope). Fine coded (view_with e (named_layout e name c.element) s)) (sym (checked_is e name c no-blank))
       (fine_declared coded (item e) name c.element (fine_here e) c.noted.0))
 
-  -- where an item of a new variable goes
+  -- the destination of an item of a new variable
   new_goal : (e : Expression) (name : List ℕ) (c : Channel' e) → is_blank name ≡ false → goals (DefineTarget name) e ≡ New name c.element ∷ []
   new_goal e name c no-blank = ap (λ b. (if b then Nowhere else New name (element_kind globals blocks e)) ∷ []) no-blank ∙ ap (λ kind. New name kind ∷ []) c.runs
 
@@ -212,9 +212,9 @@ module _ {globals : Globals} {program : Compiled globals} {coded : Coded program
       (subst (λ (s : Scope). (scope_of (kept e)).words ≤ s.words) (sym behind) (omega arith))
       (new_items e name body place d c no-blank) same
 
-  -- ---- a place that is assigned
+  -- ---- an lvalue that is assigned
 
-  -- a place is the same in the block of an item
+  -- an lvalue is the same in the block of an item
   place_same : (e : Expression) (place : Place) → placed globals (seen globals.structs ls (variables (item e)) (item e).begins) place ≡ placed globals blocks place
   place_same e place = go (is_blank place.name) refl where
     structs : Structs

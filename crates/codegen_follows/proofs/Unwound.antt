@@ -1,4 +1,4 @@
--- What a break or a continue leaves to be done sits where the jump leads.
+-- What a break or a continue leaves to be done sits at the pc to which the jump leads.
 use Rattle.std.proofs.Common.{◌≡◌, ℕ, List, [], ◌∷◌, take, Option, Some, None, refl, sym, ap, ◌∙◌, subst}
 use Rattle.type_table.specs.Containment.{Structs}
 use Rattle.type_table.specs.Scopes.{Globals}
@@ -45,11 +45,11 @@ module _ {globals : Globals} {program : Compiled globals} (coded : Coded program
   abbrev S : View → Around → Option ℕ → List Task → Type 0
   S view l place tasks = Sits coded view l place tasks
 
-  -- from a place on nothing but jumps lies before what is left
+  -- from pc `from` on, jumps alone lead to what is left
   abbrev pub Left : ℕ → Frame → Type 0
   Left from c = (view : View) × (l : Around) × (to : ℕ) × (c.blocks ≡ seen globals.structs ls (variables view) view.begins) × Leads f.instrs from (Some to) × S view l (Some to) c.tasks
 
-  -- what sits where a jump leads
+  -- what sits at the pc to which a jump leads
   reached : (from : ℕ) (view : View) (l : Around) (out to : Option ℕ) (c : Frame) → out ≡ Some from → LeadsOn coded out to → c.blocks ≡ seen globals.structs ls (variables view) view.begins → S view l to c.tasks → Left from c
   reached from view l out to c is lead blocks sits = go to (subst (λ o. LeadsOn coded o to) is lead) sits where
     go : (to : Option ℕ) → Leads f.instrs from to → S view l to c.tasks → Left from c

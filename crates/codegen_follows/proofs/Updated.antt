@@ -128,7 +128,7 @@ module _ {globals : Globals} {program : Compiled globals} {coded : Coded program
   abbrev Reached : Place → Type 0
   Reached place = Reaches coded ls view fine place
 
-  -- the value of a place is loaded
+  -- the value of an lvalue is loaded
   place_value : (place : Place) (p : Reached place) (rest : Plan) (out : Option ℕ) (at' : ℕ) (stack : Words) → On' point (loads_spot globals elements scope (spot place) rest) at' out
       → EV (ready (value_at globals blocks k place)) p.kind rest out at' stack stack
   place_value place p rest out at' stack on =
@@ -151,7 +151,7 @@ module _ {globals : Globals} {program : Compiled globals} {coded : Coded program
       (subst (λ (x : Words). Slips (code_next code) (place_at at' ls stack) (place_at (at' + 1) ls (stack ++ x))) (range_part (v.place + p.from) n ls) (loads code g f there ds at' ls stack (v.place + p.from) n on'.0 (omega (arith, inside, below.1, room))))
       on'.1)
 
-  -- the value that an operator makes goes to the place
+  -- the value that an operator makes goes to the lvalue
   made_stored : (place : Place) (first : ℕ) (kind : ValueType) (o : Worked Value) (plan : ℕ) → is_blank place.name ≡ false → Free (PlaceHas globals view.checked first place) → zero_words globals.structs kind ≡ zero_words globals.structs (known (place_type globals view.checked place))
       → variables next ≡ variables view → scope.words ≤ length f.locals → EV o kind (assigns (spot place ∷ []) Skip) mid plan [] [] → Works' (and_then o (λ v. stores globals blocks k (placed globals blocks place ∷ []) (v ∷ []))) (place_at plan ls [])
   made_stored place first kind o plan no-blank free zeros same most evals =
@@ -179,7 +179,7 @@ module _ {globals : Globals} {program : Compiled globals} {coded : Coded program
         only_one first place free flaw (inl x) = free flaw x
         only_one first place free flaw (inr x) = absurd x
 
-  -- what is made fits the place
+  -- what is made fits the lvalue
   pub record IsUpdated (operator : BinaryOperator) (place : Place) (b : Worth) : Type 0 where
     pub no_blank : is_blank place.name ≡ false
     pub reached : Reached place
@@ -207,7 +207,7 @@ module _ {globals : Globals} {program : Compiled globals} {coded : Coded program
   abbrev loads_place : Place → Plan → Plan
   loads_place place rest = loads_spot globals elements scope (spot place) rest
 
-  -- the place's value, and one
+  -- the lvalue's value, and one
   stepped : (operator : BinaryOperator) (place : Place) (u : IsUpdated operator place (Constant (pos 1))) → Pushes' (binary operator (ready (value_at globals blocks k place)) (ready (Int (pos 1) ∷ []))) u.kind (λ rest. between_plan operator IntType (loads_place place) (λ more. Do (instrs.Int (pos 1)) more) rest)
   stepped operator place u rest out at' stack on =
       let w = right_operand operator u.reached.kind (pos 1) u.kind u.made_is in

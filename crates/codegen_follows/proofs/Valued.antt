@@ -1,4 +1,4 @@
--- An expression's code leads to where its value lies on the stack, or panics as the source does.
+-- An expression's code leads to a pc with its value on the stack, or panics as the source does.
 use Rattle.std.proofs.Common.{◌≡◌, ℕ, ◌+◌, Bool, true, false, List, [], ◌∷◌, ◌++◌, Option, Some, refl, sym, ap, ◌∙◌, subst, arith, inl, inr}
 use Rattle.go_text.specs.declared.rule.Rule.TheVariants as rules
 use Rattle.syntax.specs.Tree.{Expression}
@@ -31,7 +31,7 @@ use Rattle.meaning.specs.Worked.{Worked, ready, and_then}
 use Rattle.meaning.specs.Variables.{Blocks}
 use Rattle.type_table.specs.Zeros.{zero_words}
 
--- a truth value may stand where nothing is wrong with a condition
+-- a condition with which nothing is wrong is a truth value
 bool_fits : (kind : ValueType) → is_bool_type kind ≡ true → kind ≡ BoolType
 bool_fits BoolType e = refl
 bool_fits IntType e = absurd cc

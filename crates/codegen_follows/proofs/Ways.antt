@@ -1,4 +1,4 @@
--- The ways of a select: each stands where its clause of the table leads.
+-- The ways of a select: each is at the pc of its clause of the table.
 use Rattle.std.proofs.Common.{◌≡◌, ℕ, ◌+◌, ◌≤◌, Bool, true, false, List, [], ◌∷◌, ◌++◌, length, map, Option, Some, None, IfSome, refl, sym, ap, ◌∙◌, subst, arith, inl, inr}
 use Rattle.std.specs.Prelude.{unwrap_or}
 use Rattle.std.specs.Option.{is_some}
@@ -64,7 +64,7 @@ module _ {globals : Globals} {program : Compiled globals} {coded : Coded program
   abbrev Fits' : ℕ → Made → Type 0
   Fits' first one = Fits coded first one
 
-  -- what is made stands at a place
+  -- what is made is at pc `place`
   abbrev Laying : ℕ → ℕ → Made → Type 0
   Laying first place m = OnIn m.plan place × Fits' first m
 
@@ -185,7 +185,7 @@ module _ {globals : Globals} {program : Compiled globals} {coded : Coded program
 
   -- ---- the default
 
-  -- where the default begins
+  -- the pc at which the default begins
   pub record HasDefault (o : Option Made) (body : Option Statements) (place : ℕ) : Type 0 where
     pub way : IfSome (default_at (starts place (plan_of o))) (λ p. Way' [] [] (unwrap_or body NoStatement) p)
     pub is_there : is_some (default_at (starts place (plan_of o))) ≡ is_some body
@@ -204,7 +204,7 @@ module _ {globals : Globals} {program : Compiled globals} {coded : Coded program
 
   -- ---- all ways
 
-  -- the ways of these clauses stand at a place, where those of a select end with its default
+  -- the ways of these clauses begin at pc `place`; those of a select end with its default
   pub record Laid (body : Option Statements) (clauses : Clauses) (o : Option Made) (place : ℕ) : Type 0 where
     pub many : comm_count clauses ≤ length (starts place (plan_of o))
     pub ways : WaysAt coded l view (ways_of globals blocks k clauses) (clauses_at clauses (starts place (plan_of o))) mid
@@ -238,7 +238,7 @@ module _ {globals : Globals} {program : Compiled globals} {coded : Coded program
     go None rest = let many = rest.many in record { many = omega (arith, many); ways = (types, zeros, comm_told comm place c, first, rest.ways); default = rest.default; is_there = rest.is_there }
     go (Some m) rest = let many = rest.many in record { many = omega (arith, many); ways = (types, zeros, comm_told comm place c, first, rest.ways); default = rest.default; is_there = rest.is_there }
 
-  -- what is known of the default, wherever it stands
+  -- what is known of the default, wherever it is
   abbrev Default' : Option Statements → (Site → Option Made) → Type 0
   Default' body default = (b : Beside) (place : ℕ) → (scope_of view).words ≤ b.words → IfSome (default (beside view b).site) (Laying b.prints place) → HasDefault (default (beside view b).site) body place
 

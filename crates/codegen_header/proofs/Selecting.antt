@@ -43,7 +43,7 @@ module _ (globals : Globals) (elements : List Element) (yields : Yield) where
     appends_defined item sent wanted spots w is at p =
         subst (λ s. Appends i0 i2 (unless_two globals elements yields sent (assigns s Skip))) (at ∙ ap (λ k. name_spots globals elements layout (one_or_two globals elements yields item sent) (k ∷ (BoolType ∷ []))) (sym of)) (appends_received sent wanted spots i0 i1 i2 w is p)
 
-    -- to places
+    -- to lvalues
     pub appends_assigned : (item : Place) (sent : Option Place) (wanted : Bool) (spots : List Spot) → wanted ≡ is_some sent → i1 ≡ i0 ++ unwanted wanted → spots ≡ place_spots globals elements layout.scope (one_or_two globals elements yields item sent) (kind ∷ (BoolType ∷ [])) → Puts i1 i2 (assigns spots)
         → Appends i0 i2 (comm_plan globals elements yields layout (CommAssign item sent channel))
     appends_assigned item sent wanted spots w is at p =

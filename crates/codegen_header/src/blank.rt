@@ -25,7 +25,7 @@ impl Blank {
         })
     }
 
-    /// The name as it would stand in a text.
+    /// The name as it would be in a program.
     pub fn name(&self) -> &Name
         ensures { name_of result.now ≡ blank }
     {

@@ -30,7 +30,7 @@ use std::alloc::AllocError;
 use syntax::{CommNode, ExpressionNode, Name, PlaceNode};
 use type_table::value_type::ValueType;
 
-/// Declares a name for an item of this type, if it is new, and one for whether the item was sent, and returns where they go.
+/// Declares a name for an item of this type, if it is new, and one for whether the item was sent, and returns their spots.
 fn define_received<'a>(
     context: &Context<'_, 'a>,
     layout: &mut Layout<'a>,
@@ -82,7 +82,7 @@ fn emit_define<'a>(
     assign(context.alloc, spots.as_slice(), code)
 }
 
-/// Where an item of this type goes, and whether it was sent.
+/// The spots of an item of this type, and of whether it was sent.
 fn received_spots<'a>(
     context: &Context<'_, 'a>,
     layout: &Layout<'a>,
@@ -102,7 +102,7 @@ fn received_spots<'a>(
     Ok(spots)
 }
 
-/// What was received goes to places.
+/// Stores what was received in lvalues.
 fn emit_assign<'a>(
     context: &Context<'_, 'a>,
     layout: &Layout<'a>,
@@ -119,7 +119,7 @@ fn emit_assign<'a>(
     assign(context.alloc, spots.as_slice(), code)
 }
 
-/// What was received is dropped.
+/// Drops what was received.
 fn emit_dropped<'a>(
     context: &Context<'_, 'a>,
     layout: &Layout<'a>,
@@ -135,7 +135,7 @@ fn emit_dropped<'a>(
     put(code, Instr::Discard(count))
 }
 
-/// Stores what was received where the clause wants it; declares names for it.
+/// Stores what was received as the clause says; declares names for it.
 ///
 /// Errors: out of memory.
 pub fn take_comm<'a>(

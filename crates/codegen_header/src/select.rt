@@ -76,7 +76,7 @@ pub fn push_clauses<'t, 'y, 'm, 'a>(
     push_clauses(context, layout, all, code)
 }
 
-/// The entry of a clause whose way begins at this place.
+/// The entry of a clause whose way begins at pc `to`.
 fn table_clause<'k>(
     context: &Context<'_, 'k>,
     layout: &Layout<'k>,
@@ -100,7 +100,7 @@ fn table_clause<'k>(
     }
 }
 
-/// The entries of clauses whose ways begin at these places.
+/// The entries of clauses whose ways begin at the pcs `places`.
 fn table_clauses<'t, 'y, 'p, 'a>(
     context: &'t Context<'t, 'a>,
     layout: &'y Layout<'a>,
@@ -125,7 +125,7 @@ fn table_clauses<'t, 'y, 'p, 'a>(
     Ok(made)
 }
 
-/// Where the default of a select begins, if it has one.
+/// The pc at which the default of a select begins, if it has one.
 fn default_place<'p>(all: &'p [ClauseNode], places: &'p [u32]) -> Option<u32>
     ensures { (globals : _) (elements : _) (yields : Yield) → result ≡ default_at (default_places globals elements yields (clauses (map clause_of all.now)) places.now) }
 {
@@ -141,7 +141,7 @@ fn default_place<'p>(all: &'p [ClauseNode], places: &'p [u32]) -> Option<u32>
     }
 }
 
-/// The table of a select whose ways begin at these places, that of the default last.
+/// The table of a select whose ways begin at the pcs `places`, that of the default last.
 ///
 /// Errors: out of memory.
 pub fn select_table<'a>(

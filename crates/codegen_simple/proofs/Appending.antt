@@ -35,7 +35,7 @@ ends_update i0 i1 i2 i3 i4 i5 left right more i j p q is m last =
     let three = puts_both i0 i2 i3 (λ rest. left (right rest)) (Do i) two (puts_do i2 i3 i is) in
     ends_send i0 i3 i4 i5 (λ rest. left (right (Do i rest))) more j three m last
 
--- ---- what a right side gives goes to places or names
+-- ---- the values of a right side are assigned to lvalues or names
 
 module _ (globals : Globals) (elements : List Element) (right : List Expression) (count : ℕ) (given taken : List ValueType) (spots : List Spot) (i0 i1 i2 : List Instr) where
   pub appends_set : (scope : Scope) (places : List Place) → count ≡ length places → given ≡ right_types globals elements scope count right → taken ≡ taken_types globals elements scope places given → spots ≡ place_spots globals elements scope places given

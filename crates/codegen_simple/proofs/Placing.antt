@@ -1,4 +1,4 @@
--- The spots of places.
+-- The spots of lvalues.
 use Rattle.std.proofs.Common.{◌≡◌, ◌≤◌, ◌<◌, ◌+◌, ◌-◌, ◌^◌, ℕ, true, false, List, [], ◌∷◌, Option, Some, None, option_map, refl, sym, ap, ◌∙◌, arith}
 use Rattle.std.specs.Prelude.{if◌then◌else◌, min, option_and_then}
 use Rattle.std.proofs.lemmas.Option.{same_Some}
@@ -56,7 +56,7 @@ module _ (types : List (List ℕ)) where
       let kinds : whole.kind ≡ Some (kind_of types at.kind) = sym (ap (λ (s : Selected). s.kind) seen) in
       sym (ap (λ o. option_map capped (option_map (behind whole.place) (option_and_then (λ kind. field_of structs kind name) o))) kinds ∙ ap (λ o. option_map capped (option_map (behind whole.place) o)) (sym none))
 
-  -- a part that is there leads where its first field leads
+  -- a part with fields denotes what its first field with the others denotes
   pub followed_on : (structs : Structs) (whole : Option Selected) (at : InTable) (name : List ℕ) (names : List (List ℕ)) (next last : Option InTable) → option_map (selected_of types) (Some at) ≡ option_map capped whole
       → ((w : Selected) → selected_of types at ≡ capped w → option_map (selected_of types) next ≡ option_map capped (followed structs (Some w) (name ∷ [])))
       → ((w : Option Selected) → option_map (selected_of types) next ≡ option_map capped w → option_map (selected_of types) last ≡ option_map capped (followed structs w names))
@@ -69,7 +69,7 @@ module _ (types : List (List ℕ)) where
   followed_none structs None [] seen = refl
   followed_none structs None (name ∷ names) seen = refl
 
-  -- a place of a variable that is not there leads nowhere
+  -- an lvalue of a variable that is not declared denotes nothing
   pub selected_none : (globals : Globals) (scope : Scope) (place : Place) → variable_named scope place.name ≡ None → option_map (selected_of types) None ≡ option_map capped (selected globals scope place)
   selected_none globals scope place is = followed_none globals.structs (option_map variable_at (variable_named scope place.name)) place.fields (sym (ap (λ o. option_map capped (option_map variable_at o)) is))
 

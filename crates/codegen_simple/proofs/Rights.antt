@@ -20,7 +20,7 @@ use Rattle.plan.specs.Plan.{Plan, flat}
 use Rattle.codegen_expression.specs.Emission.{Puts}
 use Rattle.codegen_simple.specs.Rights.{own_type, source_of, source_of_two}
 
--- one receive gives two places the item and whether it was sent
+-- one receive gives two values: the item, and whether it was sent
 abbrev gives_two : ℕ → List Expression → Bool
 gives_two count (value ∷ []) = (count == 2) && is_receive value
 gives_two count values = false
@@ -118,7 +118,7 @@ module _ (globals : Globals) (elements : List Element) (scope : Scope) where
   by_count (suc (suc zero)) types value rest is = absurd cc
   by_count (suc (suc (suc n))) types value rest is = refl
 
-  -- all values are pushed where not one receive gives two
+  -- all values are pushed, unless one receive gives two
   plainly : (count : ℕ) (types : List ValueType) (values : List Expression) (rest : Plan) → gives_two count values ≡ false → pushes_right globals elements scope count types values rest ≡ pushes_all globals elements scope types values rest
   plainly count types (value ∷ []) rest is = by_test (count == 2) refl is where
     by_test : (b : Bool) → (count == 2) ≡ b → (b && is_receive value) ≡ false → pushes_right globals elements scope count types (value ∷ []) rest ≡ pushes_all globals elements scope types (value ∷ []) rest

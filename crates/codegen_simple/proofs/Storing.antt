@@ -25,7 +25,7 @@ puts_assigned [] i0 i1 i2 p is = puts_then (stores_each []) instrs.Tick i0 i1 i2
 puts_assigned (spot ∷ []) i0 i1 i2 p is = puts_then (stores_each (spot ∷ [])) instrs.Tick i0 i1 i2 p is
 puts_assigned (spot ∷ (other ∷ others)) i0 i1 i2 p is = puts_then (stores_each (spot ∷ (other ∷ others))) instrs.Tick i0 i1 i2 p is
 
--- of the words of a value the first goes to the first place
+-- the first word of a value goes to the first local
 pub first_word : (place words next : ℕ) → 0 < words → next ≡ place + 1 → single_spots place words ≡ Local place 1 ∷ single_spots next (words - 1)
 first_word place zero next some is = absurd (omega (arith, some))
 first_word place (suc words) next some is = let n : suc words - 1 ≡ words = omega arith in ap (λ n. Local place 1 ∷ single_spots n words) (sym is) ∙ ap (λ m. Local place 1 ∷ single_spots next m) (sym n)

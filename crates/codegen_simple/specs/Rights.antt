@@ -16,7 +16,7 @@ abbrev pub source_of : Expression → Option Expression
 source_of (Receive channel) = Some channel
 source_of expression = None
 
--- the channel of one receive that gives two places the item and whether it was sent
+-- the channel of one receive that gives two values: the item, and whether it was sent
 abbrev pub source_of_two : ℕ → List Expression → Option Expression
 source_of_two count (value ∷ []) = if count == 2 then source_of value else None
 source_of_two count values = None

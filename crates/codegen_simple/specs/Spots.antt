@@ -14,7 +14,7 @@ abbrev pub spot_in : InMemory → Spot
 spot_in (spots.Dropped words) = Dropped words
 spot_in (spots.Local place words) = Local place words
 
--- the last ones of all words are stored after the first instructions, and these are their places
+-- after the instructions `first`, the last word for each local is stored; `places` are the locals
 abbrev pub Stored : {S : Type 0} → List Instr → List Spot → HashSet ℕ S → List Instr → Type 0
 Stored first later places code = ((place : ℕ) → contains nat_eq places place ≡ has_place place later) × Puts first code (stores_all (last_counts later))
 

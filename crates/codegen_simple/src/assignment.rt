@@ -12,7 +12,7 @@ use codegen_expression::operand::put;
 use std::alloc::{AllocError, Global};
 use std::collections::HashSet;
 
-/// A word goes to local `place`, or is dropped if another one goes there later.
+/// Stores a word into local `place`, or drops it if another one is stored there later.
 fn store_word(
     place: u32,
     places: &mut HashSet<u32>,

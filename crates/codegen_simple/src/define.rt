@@ -61,8 +61,8 @@ pub fn name_spot<'a>(
     own_spot(context, &layout.visible, name, kind)
 }
 
-/// Declares the names that are new in their block, and not `_`, and returns where values of these types go that are assigned
-/// to the names.
+/// Declares the names that are new in their block, and not `_`, and returns the spots of values of the types `kinds` that are
+/// assigned to the names.
 ///
 /// Errors: out of memory.
 pub fn define_names<'t, 'm, 'k, 'a>(
@@ -103,7 +103,7 @@ fn name_type<'a>(
     }
 }
 
-/// The types as which names take values of these types.
+/// The types that values of these types have once they are assigned to names.
 ///
 /// Errors: out of memory.
 pub fn name_types<'t, 'l, 'n, 'k, 'a>(

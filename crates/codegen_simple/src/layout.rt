@@ -87,7 +87,7 @@ pub fn declare_new<'a>(
     Ok(())
 }
 
-/// A block begins; returns where.
+/// Enters a block, and returns the mark with which to leave it.
 pub fn enter(layout: &mut Layout<'_>) -> Mark
     ensures layout { (table : OneTable) → layout_of table layout.new ≡ entering (layout_of table layout.old) }
     ensures count { result.count ≡ length layout.old.visible.entries.items }

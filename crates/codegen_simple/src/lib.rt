@@ -1,4 +1,4 @@
-//! The instructions of simple statements and assignments, and where variables lie.
+//! The instructions of simple statements and assignments, and the layout of variables.
 #![tactic(auto)]
 
 pub mod assignment;

@@ -1,4 +1,4 @@
-//! The spots of places ("Assignment statements" of the Go specification).
+//! The spots of lvalues ("Assignment statements" of the Go specification).
 
 ghost use Rattle.std.specs.Prelude.{◌≡◌, ◌∷◌, [], IfErr, IfOk, List, Option, Some, map, option_map};
 ghost use Rattle.syntax.specs.View.{name_of, place_of};
@@ -53,7 +53,7 @@ fn follow<'a>(
     }
 }
 
-/// The part of the frame to which a place leads. Its first word is 2^64 - 1 if it would be larger.
+/// The part of the frame that an lvalue denotes. Its first word is 2^64 - 1 if it would be larger.
 fn selected<'a>(
     table: &TypeTable<'a>,
     visible: &Visible<'a>,
@@ -88,7 +88,7 @@ fn spot_of<'k>(context: &Context<'_, 'k>, part: Option<Selected<'k>>) -> Result<
     }
 }
 
-/// The locals of the part of the frame to which a place leads.
+/// The locals of the part of the frame that an lvalue denotes.
 ///
 /// Errors: it begins at 2^32 or later, which counts as out of memory.
 pub fn spot_at<'k>(
@@ -102,7 +102,7 @@ pub fn spot_at<'k>(
     spot_of(context, selected(context.table, visible, place))
 }
 
-/// The type of a place; of one that leads nowhere, an int.
+/// The type of an lvalue; int if it denotes no part of the frame.
 pub fn place_kind<'a>(
     table: &TypeTable<'a>,
     visible: &Visible<'a>,
@@ -116,9 +116,9 @@ pub fn place_kind<'a>(
     }
 }
 
-/// Where a value of this type goes that is assigned to a place.
+/// The spot of a value of type `kind` that is assigned to an lvalue.
 ///
-/// Errors: the place begins at 2^32 or later, which counts as out of memory.
+/// Errors: the lvalue begins at 2^32 or later, which counts as out of memory.
 pub fn place_spot<'a>(
     context: &Context<'_, 'a>,
     visible: &Visible<'a>,
@@ -134,7 +134,7 @@ pub fn place_spot<'a>(
     spot_at(context, visible, place)
 }
 
-/// Where values of these types go that are assigned to places.
+/// The spots of values of these types that are assigned to lvalues.
 pub fn place_spots<'t, 'v, 'p, 'k, 'a>(
     context: &'t Context<'t, 'a>,
     visible: &'v Visible<'a>,
@@ -155,7 +155,7 @@ pub fn place_spots<'t, 'v, 'p, 'k, 'a>(
     Ok(spots)
 }
 
-/// The type as which a place takes a value of this type.
+/// The type that a value of type `kind` has once it is assigned to an lvalue.
 fn taken_type<'a>(
     table: &TypeTable<'a>,
     visible: &Visible<'a>,
@@ -170,7 +170,7 @@ fn taken_type<'a>(
     place_kind(table, visible, place)
 }
 
-/// The types as which places take values of these types.
+/// The types that values of these types have once they are assigned to lvalues.
 pub fn taken_types<'t, 'v, 'p, 'k, 'a>(
     context: &'t Context<'t, 'a>,
     visible: &'v Visible<'a>,

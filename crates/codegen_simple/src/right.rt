@@ -60,7 +60,7 @@ fn source_of(expression: &ExpressionNode) -> Option<&ExpressionNode>
     }
 }
 
-/// The channel of a right side that is one receive, and gives two places the item and whether it was sent.
+/// The channel of a right side that is one receive and gives two values: the item, and whether it was sent.
 fn source_of_two(count: usize, right: &[ExpressionNode]) -> Option<&ExpressionNode>
     ensures { option_map (λ (channel : _). expression_of channel.now) result ≡ source_of_two count (map expression_of right.now) }
 {
@@ -70,7 +70,7 @@ fn source_of_two(count: usize, right: &[ExpressionNode]) -> Option<&ExpressionNo
     }
 }
 
-/// The types of what a right side gives `count` places.
+/// The types of the `count` values that a right side gives.
 ///
 /// Errors: out of memory.
 pub fn right_kinds<'a>(

@@ -128,7 +128,7 @@ fn send<'k>(
     put(code, Instr::Send(shape_of(context, kind)))
 }
 
-/// Assigns the values of a right side to places.
+/// Assigns the values of a right side to lvalues.
 fn set<'a>(
     context: &Context<'_, 'a>,
     visible: &Visible<'a>,

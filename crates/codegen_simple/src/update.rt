@@ -36,7 +36,7 @@ fn load(spot: Spot, code: &mut Vec<Instr>) -> Result<(), AllocError>
     Ok(())
 }
 
-/// Increments or decrements a place by 1.
+/// Increments or decrements an lvalue by 1.
 ///
 /// Errors: out of memory.
 pub fn step<'k>(
@@ -56,7 +56,7 @@ pub fn step<'k>(
     put(code, Instr::Tick)
 }
 
-/// Assigns to a place the result of an operator on it and a value.
+/// Assigns to an lvalue the result of an operator on it and a value.
 ///
 /// Errors: out of memory.
 pub fn update<'k>(

@@ -10,7 +10,7 @@ abbrev pub heading_at : List ℕ → Option Position → List ℕ
 heading_at path None = path ++ codes ": "
 heading_at path (Some p) = path ++ (codes ":" ++ (decimal p.line ++ (codes ":" ++ (decimal p.column ++ codes ": "))))
 
--- its line and column, where there is a place and they are known
+-- its line and column, if there is a location and they are known
 abbrev pub position_of : Option Place → Option Position
 position_of None = None
 position_of (Some place) = place.position

@@ -1,11 +1,11 @@
-//! The declaration in which a place lies.
+//! The declaration that a location is in.
 
 use diagnostic_words::words::Words;
 use go_text::{Fault, Place, Source, Span};
 use scanner::{Token, TokenKind, scan};
 use std::alloc::Global;
 
-/// The name after the last `func` or `type` before a place, if there is one.
+/// The name after the last `func` or `type` before the offset `from`, if there is one.
 fn name_before(tokens: &[Token], from: u32) -> Option<Span> {
     let mut name = None;
     let mut declares = false;
@@ -21,7 +21,7 @@ fn name_before(tokens: &[Token], from: u32) -> Option<Span> {
     name
 }
 
-/// Puts ` in NAME`, with the name of the declaration of a text in which a place stands, after what is there, if there is one.
+/// Appends ` in NAME`, with the name of the declaration that `place` is in, if there is one.
 fn push_declared(said: &mut Words, source: &Source, tokens: &[Token], place: Place) {
     let Some(span) = name_before(tokens, place.span.from) else {
         return;
@@ -51,7 +51,7 @@ fn push_name_in(alloc: Global, said: &mut Words, text: &str, place: Place) {
     }
 }
 
-/// Puts a sentence, and within it the name of the declaration in which a place stands, after what is there.
+/// Appends a sentence, and within it the name of the declaration that `place` is in.
 pub(crate) fn push_within(
     alloc: Global,
     said: &mut Words,

@@ -1,4 +1,4 @@
-//! What to write in place of common Go that is not in the language, but for faults of the syntax.
+//! What to write instead of common Go that is not in the language, but for faults of the syntax.
 
 use diagnostic_syntax::known::{NAMES, PACKAGES, stand_in};
 use diagnostic_syntax::line_before;
@@ -8,7 +8,7 @@ use go_text::{Fault, Place, Rule};
 use std::alloc::Global;
 use typing_rules::flaw::Flaw;
 
-/// Puts `hint: ` and what to write instead, with a newline, after what is there, if that is known.
+/// Appends `hint: ` and what to write instead, with a newline, if that is known.
 pub(crate) fn push_hint(alloc: Global, said: &mut Words, text: &str, fault: &Fault) {
     if let Some(hint) = hint_of(text, fault) {
         said.text("hint: ");
@@ -19,7 +19,7 @@ pub(crate) fn push_hint(alloc: Global, said: &mut Words, text: &str, fault: &Fau
     }
 }
 
-/// Puts the hint that another name could be meant, if that is known, after what is there.
+/// Appends the hint that another name could be meant, if one is known.
 fn push_meant(alloc: Global, said: &mut Words, text: &str, flaw: Flaw) {
     let mut near = Words::new(alloc);
     push_near(alloc, &mut near, text, flaw);
@@ -46,7 +46,7 @@ fn hint_of(text: &str, fault: &Fault) -> Option<&'static str> {
     }
 }
 
-/// The text of a place.
+/// The part of `text` at `place`.
 fn piece_at(text: &str, place: Place) -> &str {
     let to = (place.span.to as usize).min(text.len());
     text.get(place.span.from as usize..to).unwrap_or("")
@@ -92,7 +92,7 @@ fn first_word(piece: &str) -> &str {
     piece.get(..length).unwrap_or("")
 }
 
-/// A hint where a typing rule is violated.
+/// A hint for a typing rule that is violated.
 fn typing_hint(text: &str, rule: Rule, place: Place) -> Option<&'static str> {
     let word = first_word(piece_at(text, place));
     match rule {

@@ -1,4 +1,4 @@
-//! What is wrong with a text, in sentences, with the line of the text and marks under the place.
+//! What is wrong with a program, in sentences, with the line of the program and marks under the location.
 #![tactic(auto)]
 
 ghost use Rattle.std.specs.Prelude.{◌≡◌, ◌++◌, IfOk, codes, decimal, string_bytes};
@@ -20,9 +20,9 @@ use go_text::{Fault, Memory, Place, Position};
 use std::alloc::{AllocError, Global};
 use typing_rules::flaw::Flaw;
 
-/// What is wrong with a program: `FILE:LINE:COLUMN: SENTENCE` if the fault has a place, else `FILE: SENTENCE`. After it, if there
-/// is a place, come its line of the program and a line with marks under the place, and if one is known a line `hint: ..` with what
-/// to write instead. FILE is the path as it was typed.
+/// What is wrong with a program: `FILE:LINE:COLUMN: SENTENCE` if the fault has a location, else `FILE: SENTENCE`. After it, if
+/// there is a location, come its line of the program and a line with marks under it, and if one is known a line `hint: ..` with
+/// what to write instead. FILE is the path as it was typed.
 ///
 /// # Errors
 ///
@@ -112,7 +112,7 @@ fn others_of(alloc: Global, path: &str, text: &str, fault: &Fault) -> Result<Vec
     Ok(printed)
 }
 
-/// `FILE: `, or `FILE:LINE:COLUMN: ` where line and column are known.
+/// `FILE: `, or `FILE:LINE:COLUMN: ` if line and column are known.
 fn heading(alloc: Global, path: &str, position: Option<Position>) -> Result<String, AllocError>
     ensures { IfOk result (λ text. string_bytes text ≡ heading_at path.now position) }
 {
@@ -129,7 +129,7 @@ fn placed_heading(alloc: Global, path: &str, line: u32, column: u32) -> Result<S
     format!(in alloc; "{path}:{line}:{column}: ")
 }
 
-/// The line and the column of a place, where there is one and they are known.
+/// The line and the column of a location, if there is one and they are known.
 fn position_of(place: Option<Place>) -> Option<Position>
     ensures { result ≡ position_of place }
 {

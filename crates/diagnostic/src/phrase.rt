@@ -1,8 +1,8 @@
-//! Sentences about a piece of the text, which stands in place of `{}`.
+//! Sentences about a piece of the program, which replaces `{}`.
 
 use go_text::{LimitKind, Rule};
 
-/// What is wrong where a typing rule is violated.
+/// What is wrong if a typing rule is violated.
 pub(crate) fn phrase_of_rule(rule: Rule) -> &'static str {
     match rule {
         Rule::Main => "function main is undeclared, or has parameters or a result",
@@ -32,7 +32,7 @@ pub(crate) fn phrase_of_rule(rule: Rule) -> &'static str {
     }
 }
 
-/// What is wrong where a limit is exceeded.
+/// What is wrong if a limit is exceeded.
 pub(crate) fn phrase_of_limit(kind: LimitKind) -> &'static str {
     match kind {
         LimitKind::ConstantSize => "constant {} is over 2^100 in size",

@@ -10,7 +10,7 @@ use go_text::{Fault, LimitKind, Place, Rule};
 use std::alloc::Global;
 use typing_rules::flaw::Flaw;
 
-/// Puts what is wrong after what is there, which is nothing.
+/// Writes what is wrong to `said`, which is empty.
 pub(crate) fn push_sentence(alloc: Global, said: &mut Words, text: &str, fault: &Fault) {
     match *fault {
         Fault::Typing { rule, node, place } => push_rule(alloc, said, text, rule, node, place),
@@ -40,7 +40,7 @@ fn plain(fault: &Fault) -> &'static str {
     }
 }
 
-/// Puts how a typing rule is violated, at this node of the tree, after what is there, which is nothing.
+/// Writes how a typing rule is violated at this node of the tree to `said`, which is empty.
 fn push_rule(alloc: Global, said: &mut Words, text: &str, rule: Rule, node: u32, place: Place) {
     push_flaw(alloc, said, text, Flaw::Broken(rule, node));
     if said.is_empty() {
@@ -48,7 +48,7 @@ fn push_rule(alloc: Global, said: &mut Words, text: &str, rule: Rule, node: u32,
     }
 }
 
-/// Puts which limit is exceeded, at this node of the tree if the check finds it, after what is there, which is nothing.
+/// Writes which limit is exceeded, at this node of the tree if the check finds it, to `said`, which is empty.
 fn push_limit(
     alloc: Global,
     said: &mut Words,
@@ -86,7 +86,7 @@ fn push_limit(
     }
 }
 
-/// Puts a phrase after what is there, with the piece of the text in the place of `{}`.
+/// Appends a phrase, with `piece` instead of `{}`.
 fn push_phrase(said: &mut Words, phrase: &str, piece: &str) {
     match phrase.split_once("{}") {
         Some((before, after)) => {
@@ -113,7 +113,7 @@ fn push_character(said: &mut Words, piece: &str) {
     }
 }
 
-/// Reports a number with all letters, digits and points that stand after it.
+/// Reports a number with all letters, digits and points that follow it.
 fn push_number(said: &mut Words, text: &str, place: Place) {
     let from = place.span.from as usize;
     let after = text.get(from..).unwrap_or("");
@@ -149,7 +149,7 @@ fn push_escape(said: &mut Words, piece: &str) {
     said.text(" in string (there are \\n, \\t, \\\\ and \\\")");
 }
 
-/// Where in the string that begins a line the first escape other than `\n`, `\t`, `\\` and `\"` begins, if there is one.
+/// The offset in `line`, which begins with a string, of the first escape other than `\n`, `\t`, `\\` and `\"`, if there is one.
 fn other_escape(line: &[u8]) -> Option<usize> {
     let mut escapes = false;
     for (at, &byte) in line.iter().enumerate() {

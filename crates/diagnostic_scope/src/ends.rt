@@ -1,4 +1,4 @@
-//! Where parts of statements begin and end, by the numbers of nodes.
+//! The numbers of the nodes at which parts of statements begin and end.
 
 use crate::number::{comm_end, expression_end, optional_end, simple_end, type_end};
 use crate::unit::{Walk, declared_end};
@@ -39,7 +39,7 @@ pub fn then_first(first: NodeId, branch: &IfNode) -> NodeId {
     expression_end(condition, &branch.condition)
 }
 
-/// The first node of what stands after the block of an `if`.
+/// The first node of what follows the block of an `if`.
 pub fn else_first(alloc: Global, first: NodeId, branch: &IfNode) -> NodeId {
     let mut walk = Walk::new(alloc, NOWHERE, then_first(first, branch));
     walk.pass_block(branch.body.as_slice());
@@ -73,7 +73,7 @@ pub fn clause_end(alloc: Global, first: NodeId, clause: &ClauseNode) -> NodeId {
 }
 
 /// The first node of the statements of a `select`'s clause of this number, counted from 1 without the default, or of the
-/// default's where the number is 0. Where there is none, the number after all clauses.
+/// default's if the number is 0. If there is none, the number after all clauses.
 pub fn clause_first(alloc: Global, first: NodeId, clauses: &[ClauseNode], number: usize) -> NodeId {
     let mut left = number;
     let mut start = first;

@@ -20,7 +20,7 @@ use type_table::value_type::{ValueType, element_in, type_in};
 /// What a value is for.
 #[derive(Clone, Copy)]
 pub enum Role<'a> {
-    /// It is assigned to a place or a name.
+    /// It is assigned to an lvalue or a name.
     Assigned,
     /// A variable is declared with it.
     Declared,
@@ -41,7 +41,7 @@ pub enum Role<'a> {
     /// It is the argument of this built-in function.
     Measured(&'static str),
     Ranged,
-    /// It stands after this operator in an assignment.
+    /// It is after this operator in an assignment.
     Operand(BinaryOperator),
 }
 
@@ -75,7 +75,7 @@ pub struct Written<'a> {
 pub struct Parts<'a> {
     /// The first node of the unit.
     pub first: NodeId,
-    /// The places that it assigns to, whose nodes are its first ones.
+    /// The lvalues that it assigns to, whose nodes are its first ones.
     pub places: Vec<&'a PlaceNode>,
     /// The names that it declares.
     pub names: Vec<&'a Name>,
@@ -86,7 +86,7 @@ pub struct Parts<'a> {
     /// The values that operations within these take, each before those within it.
     pub operands: Vec<Given<'a>>,
     pub calls: Vec<Called<'a>>,
-    /// What it does to its place, if it counts: `++` or `--`.
+    /// What it does to its lvalue, if it counts: `++` or `--`.
     pub step: &'static str,
     /// Whether something is missing, since a request for memory was refused.
     pub is_cut: bool,
@@ -117,7 +117,7 @@ impl Drop for Parts<'_> {
     }
 }
 
-/// Where values go, which determines the types that they must have.
+/// What takes values, which determines the types that they must have.
 #[derive(Clone, Copy)]
 enum Target<'a> {
     Places(&'a [PlaceNode]),
@@ -157,13 +157,13 @@ impl<'a> Parts<'a> {
         }
     }
 
-    /// Takes a place.
+    /// Takes an lvalue.
     fn take_place(&mut self, place: &'a PlaceNode) {
         self.is_cut |= self.places.push(place).is_err();
         self.end = after(self.end);
     }
 
-    /// Takes places.
+    /// Takes lvalues.
     fn take_places(&mut self, places: &'a [PlaceNode]) {
         for place in places {
             self.take_place(place);
@@ -344,7 +344,7 @@ impl<'a> Taking<'_, 'a> {
         }
     }
 
-    /// Takes a call that is a statement, or stands in a `go`.
+    /// Takes a call that is a statement, or is in a `go`.
     fn take_call(&mut self, function: &'a Name, arguments: &'a [ExpressionNode]) {
         self.take_all(arguments, Target::Parameters(function));
         self.parts.keep_call(function, arguments);
@@ -377,7 +377,7 @@ impl<'a> Taking<'_, 'a> {
         self.take(value, Role::Operand(operator), None);
     }
 
-    /// Takes a clause of a `select` that assigns what it receives to one place, or to two.
+    /// Takes a clause of a `select` that assigns what it receives to one lvalue, or to two.
     fn take_received(
         &mut self,
         place: &'a PlaceNode,
@@ -605,7 +605,7 @@ pub fn element_of<'a>(
     }
 }
 
-/// The type of a place, if it has one.
+/// The type of an lvalue, if it has one.
 pub fn place_type<'a>(
     table: &TypeTable<'a>,
     visible: &Visible<'a>,

@@ -1,5 +1,5 @@
-//! Where a node of a tree stands, and what is visible there: what sentences about a fault are made of. No contract says what
-//! is found.
+//! The unit that a node of a tree is in, and what is visible there: what sentences about a fault are made of. No contract
+//! says what is found.
 #![tactic(auto)]
 
 pub mod ends;

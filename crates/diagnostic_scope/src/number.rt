@@ -78,7 +78,7 @@ fn parts_end(first: NodeId, parts: &[PartNode]) -> NodeId {
     end
 }
 
-/// The number after `places` places, each of which is a node.
+/// The number after `places` lvalues, each of which is a node.
 pub(crate) fn places_end(first: NodeId, places: usize) -> NodeId {
     first.saturating_add(u32::try_from(places).unwrap_or(u32::MAX))
 }

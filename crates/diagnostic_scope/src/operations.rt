@@ -1,4 +1,4 @@
-//! The operations of a unit: the parts of it at which a goroutine can stand.
+//! The operations of a unit: the parts of it at which a goroutine can be.
 
 use crate::ends::clause_end;
 use crate::number::{after, places_end, type_end};
@@ -9,7 +9,7 @@ use syntax::{
     ReturnNode, SimpleNode, StatementNode, TypeNode,
 };
 
-/// A part of an expression at which a goroutine can stand: a call, a receive, a `make`, a `len` or a `cap`, or a division or a
+/// A part of an expression at which a goroutine can be: a call, a receive, a `make`, a `len` or a `cap`, or a division or a
 /// shift that is not constant.
 #[derive(Clone, Copy)]
 pub struct Operation<'a> {
@@ -110,7 +110,7 @@ impl<'a> Operations<'a> {
         self.end = type_end(self.end, written);
     }
 
-    /// Passes the nodes of places.
+    /// Passes the nodes of lvalues.
     fn pass_places(&mut self, places: usize) {
         self.end = places_end(self.end, places);
     }
@@ -203,7 +203,7 @@ impl<'a> Operations<'a> {
     }
 }
 
-/// Whether an expression does something as a whole at which a goroutine can stand.
+/// Whether an expression does something as a whole at which a goroutine can be.
 fn is_operation(expression: &ExpressionNode) -> bool {
     match expression {
         ExpressionNode::Call(_, _, _)

@@ -1,4 +1,4 @@
-//! What is visible where the check of a file stops.
+//! What is visible at the node where the check of a file stops.
 
 ghost use Rattle.std.specs.Prelude.{◌^◌, ◌+◌, ◌<◌, map, sum_by};
 ghost use Rattle.syntax.specs.Measures.{function_size, statements_size, top_size};
@@ -15,7 +15,7 @@ use type_table::scope::{Visible, declare};
 use type_table::table::TypeTable;
 use type_table::value_type::ValueType;
 
-/// What is visible where something is wrong in a function, and what the function gives.
+/// What is visible at the node of a function that is wrong, and what the function returns.
 #[derive(Drop)]
 pub struct Scene<'a> {
     pub visible: Visible<'a>,
@@ -82,7 +82,7 @@ impl<'a> Scene<'a> {
     }
 }
 
-/// The scene at this node, at which the check of these declarations stops, if it stands in a function. The first of their nodes
+/// The scene at this node, at which the check of these declarations stops, if it is in a function. The first of their nodes
 /// is `first`.
 pub fn scene_at<'a>(
     alloc: Global,

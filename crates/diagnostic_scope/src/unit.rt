@@ -1,4 +1,4 @@
-//! The part of a file in which a node stands.
+//! The part of a file that a node is in.
 
 use crate::ends::function_first;
 use crate::number::{after, comm_end, expression_end, leaf_end, simple_end, type_end};
@@ -100,7 +100,7 @@ impl<'a> Walk<'a> {
         self.pass(self.end, end, Unit::Range(target, source));
     }
 
-    /// Passes what stands between a `for` and its block.
+    /// Passes what is between a `for` and its block.
     pub(crate) fn pass_header(&mut self, header: &'a ForHeader) {
         match header {
             ForHeader::Forever => {}

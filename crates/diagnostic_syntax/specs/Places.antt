@@ -4,7 +4,7 @@ use Rattle.go_text.specs.declared.fault.Fault.{Fault}
 use Rattle.go_text.specs.declared.fault.Fault.TheVariants as fault
 use Rattle.go_text.specs.declared.place.Place.{Place}
 
--- where a fault lies, if it has a place
+-- the location of a fault, if it has one
 abbrev pub place_of : Fault → Option Place
 place_of (fault.BadCharacter place) = Some place
 place_of (fault.BadNumber place) = Some place

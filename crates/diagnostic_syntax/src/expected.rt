@@ -1,4 +1,4 @@
-//! What could stand where no tree goes on.
+//! The tokens that could come next at a syntax error.
 
 use crate::nesting::Nesting;
 use crate::place_of;
@@ -8,18 +8,18 @@ use diagnostic_words::words::Words;
 use go_text::{Fault, Memory, Source};
 use std::alloc::Global;
 
-/// A piece of text for each token, where names, numbers and strings have one each. `x` is any name that can be declared. Names of
+/// A piece of text for each token; names, numbers and strings have one each. `x` is any name that can be declared. Names of
 /// built-in functions have one each too, since the grammar distinguishes them.
 const PIECES: &str =
     "x 1 \"\" if return for go var select break continue print println close make len cap func type package \
 main struct chan range else case default import const defer switch goto fallthrough interface map ( ) . <- ++ -- , := = += -= *= \
 /= %= &= |= ^= <<= >>= &^= * / % + - & | ^ << >> &^ == != < <= > >= && || ! ~ ... : ; [ ] { }";
 
-/// A name for tokens that can all stand somewhere: each of these pieces of text, parted by spaces.
+/// A name for tokens that could all come next: the name, and the tokens, separated by spaces.
 #[derive(Clone, Copy)]
 struct Wanted(&'static str, &'static str);
 
-/// The best names stand first. A name is printed if all of its tokens can stand there and the first of them has no name yet. A token
+/// The best names come first. A name is printed if all of its tokens could come next and the first of them has no name yet. A token
 /// that has none is printed as it is.
 static WANTED: [Wanted; 37] = [
     Wanted(
@@ -70,10 +70,10 @@ static WANTED: [Wanted; 37] = [
     Wanted("\"}\"", "}"),
 ];
 
-/// The name of a semicolon if the end of a line stands for it.
+/// The name of a semicolon that the end of a line implies.
 const LINE_END: &str = "a newline";
 
-/// The tokens that could stand where no tree goes on.
+/// The tokens that could come next at a syntax error.
 #[derive(Drop)]
 pub(crate) struct Expected {
     alloc: Global,
@@ -99,12 +99,12 @@ impl Expected {
         Ok(Expected { alloc, pieces })
     }
 
-    /// Whether this token could stand there.
+    /// Whether this token could come next.
     pub(crate) fn has(&self, piece: &str) -> bool {
         is_among(self.pieces.as_slice(), piece)
     }
 
-    /// Whether all tokens of a name could stand there.
+    /// Whether all tokens of a name could come next.
     fn has_all(&self, wanted: &Wanted) -> bool {
         for piece in wanted.1.split(' ') {
             if !self.has(piece) {
@@ -114,7 +114,7 @@ impl Expected {
         true
     }
 
-    /// The names of all tokens that could stand there.
+    /// The names of all tokens that could come next.
     fn names(&self) -> Result<Vec<&'static str>, Memory> {
         let mut names = Vec::new(self.alloc);
         let mut named = Vec::new(self.alloc);
@@ -136,7 +136,7 @@ impl Expected {
     }
 }
 
-/// Whether a piece stands among these.
+/// Whether a piece is among these.
 fn is_among(pieces: &[&'static str], piece: &str) -> bool {
     for &one in pieces {
         if one == piece {
@@ -146,7 +146,8 @@ fn is_among(pieces: &[&'static str], piece: &str) -> bool {
     false
 }
 
-/// What stands before a fault, and stands in the same declaration if it stands in one: what could follow depends on no more.
+/// The source before a syntax error, from the declaration that the error is in, if there is one. What could follow depends on
+/// nothing else.
 fn beginning_of(alloc: Global, site: &Site<'_>, nesting: &Nesting) -> Result<String, Memory> {
     let (head, from) = match nesting.declaration {
         Some(index) => ("package main\n", start_of(site, index)),
@@ -177,7 +178,7 @@ fn end_of(site: &Site<'_>, index: usize) -> usize {
     }
 }
 
-/// Whether the fault lies in a header of which something stands there, and after which a block begins.
+/// Whether the error is in a header that has begun, and after which a block begins.
 fn is_in_header(site: &Site<'_>) -> bool {
     let start = site.statement_start();
     match site.word_at(start) {
@@ -187,7 +188,7 @@ fn is_in_header(site: &Site<'_>) -> bool {
     }
 }
 
-/// Appends `, expected A, B or C`, if anything could stand where no tree goes on.
+/// Appends `, expected A, B or C`, if any token could come next.
 pub(crate) fn push_expected(
     said: &mut Words,
     site: &Site<'_>,
@@ -228,7 +229,7 @@ fn push_names(said: &mut Words, names: &[&'static str], ends_line: bool) {
     }
 }
 
-/// Whether a text that begins so goes on with this piece: then no fault lies before the piece's end.
+/// Whether a source that begins with `beginning` can go on with `piece`: then no fault is before the piece's end.
 fn goes_on(alloc: Global, beginning: &str, piece: &str) -> Result<bool, Memory> {
     let text = format!(in alloc; "{beginning} {piece}")?;
     let Ok(source) = Source::new(text.into_bytes()) else {

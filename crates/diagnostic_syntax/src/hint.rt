@@ -1,4 +1,4 @@
-//! What to write in place of what no tree goes on with.
+//! What to write instead of the token at a syntax error.
 
 use diagnostic_words::words::Words;
 

@@ -1,10 +1,10 @@
-//! Words of Go that are not in the language, and what stands in for them.
+//! Words of Go that are not in the language, and what to write instead.
 
-/// A word, and what to write in its place.
+/// A word, and what to write instead.
 #[derive(Clone, Copy)]
 pub struct Known(&'static str, &'static str);
 
-/// What stands in for a word of this table, if it has the word.
+/// What to write instead of `word`, if the table has it.
 pub fn stand_in(table: &[Known], word: &str) -> Option<&'static str> {
     for one in table {
         if one.0 == word {
@@ -26,7 +26,7 @@ const COUNTS: &str =
 const LOCKS: &str =
     "there is no sync.Mutex: make(chan bool, 1) is a lock; send to it to lock, receive from it to unlock";
 
-/// Packages, and what stands in for them.
+/// Packages, and what to write instead.
 pub static PACKAGES: [Known; 20] = [
     Known("fmt", PRINTS),
     Known("log", PRINTS),
@@ -92,7 +92,7 @@ pub static PACKAGES: [Known; 20] = [
     ),
 ];
 
-/// Methods of Go's packages, and what stands in for them.
+/// Methods of Go's packages, and what to write instead.
 pub(crate) static METHODS: [Known; 10] = [
     Known("Wait", COUNTS),
     Known("Add", COUNTS),
@@ -120,7 +120,7 @@ const FAILS: &str = "there is no panic: print a message and return, and let call
 
 const NULL: &str = "write nil; only channels can be nil";
 
-/// Names that Go declares, or that programs of other languages use, and what stands in for them.
+/// Names that Go declares, or that programs of other languages use, and what to write instead.
 pub static NAMES: [Known; 46] = [
     Known("panic", FAILS),
     Known("recover", "there is no recover: a panic ends the run"),
@@ -197,7 +197,7 @@ const ELSE_IF: &str = "write else if: } else if n > 0 { .. }";
 
 const DECLARES: &str = "write := to declare a variable: n := 3";
 
-/// Words with which statements begin in other languages, and names of built-in functions, whose arguments stand in parentheses.
+/// Words with which statements begin in other languages, and names of built-in functions, whose arguments are in parentheses.
 pub(crate) static STATEMENTS: [Known; 21] = [
     Known("while", WHILE),
     Known(

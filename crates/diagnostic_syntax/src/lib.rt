@@ -1,4 +1,4 @@
-//! A syntax error in a sentence: what was found, what could stand there, and what to write instead.
+//! A syntax error in a sentence: what was found, what was expected, and what to write instead.
 #![tactic(auto)]
 
 ghost use Rattle.std.specs.Prelude.{◌≡◌};
@@ -16,7 +16,7 @@ use go_text::{Fault, Place};
 pub use site::{line_before, piece_at, shortened};
 pub use unexpected::push_syntax;
 
-/// Where a fault lies, if it has a place.
+/// The location of a fault, if it has one.
 pub fn place_of(fault: &Fault) -> Option<Place>
     ensures { result ≡ place_of fault.now }
 {

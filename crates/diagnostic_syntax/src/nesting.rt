@@ -1,4 +1,4 @@
-//! The brackets that are open where no tree goes on.
+//! The brackets that are open at a syntax error.
 
 use crate::site::Site;
 use go_text::Memory;
@@ -10,7 +10,7 @@ use std::alloc::Global;
 pub(crate) struct Nesting {
     /// The indices of their tokens, the innermost last.
     pub open: Vec<usize>,
-    /// The first `{` whose `}` stands further left than the line of the `{` begins: its own `}` is missing, if one is.
+    /// The first `{` whose `}` is further left than the line of the `{` begins: its own `}` is missing, if one is.
     pub crossed: Option<usize>,
     /// The index of the `func` or `type` of the last declaration that begins outside of all brackets.
     pub declaration: Option<usize>,

@@ -3,13 +3,13 @@
 use go_text::Place;
 use scanner::{Token, TokenKind};
 
-/// How many bytes of a piece of the text a sentence shows at most.
+/// How many bytes of a piece of the source a sentence shows at most.
 const MOST_SHOWN: usize = 60;
 
-/// The word of the semicolon that the end of a line stands for.
+/// The text of a semicolon that the end of a line implies.
 pub(crate) const NEWLINE: &str = "\n";
 
-/// The tokens of a program, and the one at which no tree goes on.
+/// The tokens of a program, and the one at which the syntax error is.
 #[derive(Clone, Copy)]
 pub(crate) struct Site<'t> {
     pub text: &'t str,
@@ -18,13 +18,13 @@ pub(crate) struct Site<'t> {
     pub at: usize,
 }
 
-/// What stands before an offset on its line.
+/// The text before an offset on its line.
 pub fn line_before(text: &str, offset: u32) -> &str {
     let before = text.get(..offset as usize).unwrap_or("");
     before.rsplit('\n').next().unwrap_or("")
 }
 
-/// The text of a place up to the end of its line, but not more than `MOST_SHOWN` bytes.
+/// The source text at `place` up to the end of its line, but not more than `MOST_SHOWN` bytes.
 pub fn piece_at(text: &str, place: Place) -> &str {
     let from = place.span.from as usize;
     let to = (place.span.to as usize).min(text.len());
@@ -73,7 +73,7 @@ impl<'t> Site<'t> {
         self.word_at(self.at)
     }
 
-    /// The text of the token that stands `count` tokens before that of the fault.
+    /// The text of the token that is `count` tokens before that of the fault.
     pub(crate) fn before(&self, count: usize) -> &'t str {
         match self.at.checked_sub(count) {
             Some(index) => self.word_at(index),
@@ -81,7 +81,7 @@ impl<'t> Site<'t> {
         }
     }
 
-    /// The text of the token that stands `count` tokens after that of the fault.
+    /// The text of the token that is `count` tokens after that of the fault.
     pub(crate) fn after(&self, count: usize) -> &'t str {
         self.word_at(self.at.saturating_add(count))
     }
@@ -102,7 +102,7 @@ impl<'t> Site<'t> {
         }
     }
 
-    /// What stands on the line of the token with this index before it.
+    /// The text before the token with this index, on its line.
     pub(crate) fn line_before(&self, index: usize) -> &'t str {
         match self.tokens.get(index) {
             Some(token) => line_before(self.text, token.span.from),
@@ -110,7 +110,7 @@ impl<'t> Site<'t> {
         }
     }
 
-    /// What stands on the line of the fault before it, without the white space around that.
+    /// The text before the fault on its line, without the white space around it.
     pub(crate) fn line(&self) -> &'t str {
         self.line_before(self.at).trim()
     }
@@ -126,7 +126,7 @@ impl<'t> Site<'t> {
         before.len().saturating_sub(before.trim_start().len())
     }
 
-    /// The line on which the token with this index stands, counted from 1.
+    /// The line of the token with this index, counted from 1.
     pub(crate) fn line_number(&self, index: usize) -> usize {
         let Some(token) = self.tokens.get(index) else {
             return 0;

@@ -1,4 +1,4 @@
-//! Hints for a fault of the syntax, by what stands around it and what could stand there.
+//! Hints for a syntax error, by the tokens around it and those that could come next.
 
 use crate::expected::Expected;
 use crate::hint::Hint;
@@ -11,7 +11,7 @@ use diagnostic_words::spelling::is_near;
 
 const VALUE: &str = "a value is no statement: assign it, or print it";
 
-/// A fault of the syntax: where it lies, what could stand there, and which brackets are open.
+/// A syntax error: its location, the tokens that could come next, and the brackets that are open.
 #[derive(Clone, Copy)]
 pub(crate) struct Trouble<'s, 't> {
     pub site: Site<'t>,
@@ -43,12 +43,12 @@ impl<'s, 't> Trouble<'s, 't> {
         self.word_hint()
     }
 
-    /// Whether a statement could stand there.
+    /// Whether a statement could come next.
     fn wants_statement(&self) -> bool {
         self.expected.has("if") && self.expected.has("return")
     }
 
-    /// Whether a type could stand there.
+    /// Whether a type could come next.
     fn wants_type(&self) -> bool {
         self.expected.has("chan")
     }
@@ -91,7 +91,7 @@ impl<'s, 't> Trouble<'s, 't> {
         None
     }
 
-    /// A hint for a first line other than `package main`, and for what stands outside of functions.
+    /// A hint for a first line other than `package main`, and for code outside of functions.
     fn file_hint(&self) -> Option<Hint<'t>> {
         if self.expected.has("package") {
             return Some(Hint::Plain("a program begins with the line package main"));
@@ -127,7 +127,7 @@ impl<'s, 't> Trouble<'s, 't> {
         Some(Hint::Plain("statements stand in functions: is a } before this line one too many?"))
     }
 
-    /// What stands in for the package that is imported.
+    /// What to write instead of the package that is imported.
     fn import_hint(&self) -> &'static str {
         for count in 1..4 {
             let path = self.site.after(count).trim_matches('"');
@@ -139,7 +139,7 @@ impl<'s, 't> Trouble<'s, 't> {
         "there are no imports: print and println are built in"
     }
 
-    /// What stands in for a constant.
+    /// What to write instead of a constant.
     fn constant_hint(&self) -> Hint<'t> {
         if !self.site.is_name(self.site.at.saturating_add(1)) {
             return Hint::Plain(
@@ -162,7 +162,7 @@ impl<'s, 't> Trouble<'s, 't> {
         }
     }
 
-    /// What stands in for a variable outside of functions.
+    /// What to write instead of a variable outside of functions.
     fn global_hint(&self) -> Hint<'t> {
         if !self.site.is_name(self.site.at.saturating_add(1)) {
             return Hint::Plain("variables are declared in functions: pass them as arguments");
@@ -237,7 +237,7 @@ impl<'s, 't> Trouble<'s, 't> {
         }
     }
 
-    /// A hint for a string, or for what stands after one.
+    /// A hint for a string, or for what comes after one.
     fn string_hint(&self) -> Option<Hint<'t>> {
         let found = self.site.found();
         if self.site.before(1).starts_with("\"") && self.expected.has(",") {
@@ -391,7 +391,7 @@ impl<'s, 't> Trouble<'s, 't> {
         )
     }
 
-    /// A hint for a `.` that can't stand where it does.
+    /// A hint for a misplaced `.`.
     fn period_hint(&self) -> Option<Hint<'t>> {
         let site = &self.site;
         if site.after(2) == "(" {
@@ -441,7 +441,7 @@ impl<'s, 't> Trouble<'s, 't> {
         self.site.word_at(self.site.statement_start())
     }
 
-    /// A hint for a comma that can't stand where it does.
+    /// A hint for a misplaced comma.
     fn comma_hint(&self) -> Option<Hint<'t>> {
         if self.is_in_struct() {
             return Some(Hint::Plain("each field stands on a line of its own, without a comma"));
@@ -659,7 +659,7 @@ impl<'s, 't> Trouble<'s, 't> {
         }
     }
 
-    /// Whether a keyword stands where only a name can stand.
+    /// Whether a keyword is used as a name.
     fn is_keyword_name(&self) -> bool {
         matches!(self.site.after(1), ":=" | "=" | ",") && self.wants_statement()
     }
@@ -677,7 +677,7 @@ impl<'s, 't> Trouble<'s, 't> {
         Hint::Plain("there are no closures: declare a function, and start it by go f(c)")
     }
 
-    /// A hint for what stands in place of `struct`.
+    /// A hint for what was written instead of `struct`.
     fn type_hint(&self, found: &'t str) -> Option<Hint<'t>> {
         if !self.expected.has("struct") {
             return None;
@@ -695,7 +695,7 @@ impl<'s, 't> Trouble<'s, 't> {
         })
     }
 
-    /// A hint for a keyword or a built-in function where a name is declared.
+    /// A hint for a keyword or a built-in function that is declared as a name.
     fn reserved_hint(&self, found: &'t str) -> Option<Hint<'t>> {
         let begins_word = match found.bytes().next() {
             Some(byte) => byte.is_ascii_alphabetic(),
@@ -751,7 +751,7 @@ fn is_digit_first(found: &str) -> bool {
     }
 }
 
-/// The first of these words, parted by spaces, that a misspelt word could mean.
+/// The first of these words, separated by spaces, that a misspelt word could mean.
 fn near_keyword(word: &str, among: &'static str) -> Option<&'static str> {
     for keyword in among.split(' ') {
         if is_near(word.as_bytes(), keyword.as_bytes()) {

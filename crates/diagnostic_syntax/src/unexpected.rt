@@ -32,7 +32,7 @@ fn spoken(found: &str) -> &str {
     }
 }
 
-/// What is found at a place where no tree goes on.
+/// What is found at a syntax error.
 fn found_at(text: &str, place: Place) -> &str {
     if place.span.from as usize >= text.len() {
         return "end of file";
@@ -45,7 +45,7 @@ fn found_at(text: &str, place: Place) -> &str {
     }
 }
 
-/// Appends what was found where no tree goes on, what could stand there, its line, and a hint.
+/// Appends what was found at a syntax error, what was expected, its line, and a hint.
 pub fn push_syntax(
     alloc: Global,
     said: &mut Words,

@@ -33,7 +33,7 @@ fn push_main(said: &mut Words, tops: &[TopNode]) {
     });
 }
 
-/// How often a name stands among these.
+/// How often a name occurs among these.
 fn count_among(names: &[Name], name: &[u8]) -> usize {
     let mut count: usize = 0;
     for one in names {
@@ -44,7 +44,7 @@ fn count_among(names: &[Name], name: &[u8]) -> usize {
     count
 }
 
-/// How often a name stands among those of fields or parameters.
+/// How often a name occurs among those of fields or parameters.
 fn count_in(declared: &[DeclaredNode], name: &[u8]) -> usize {
     let mut count: usize = 0;
     for group in declared {
@@ -53,7 +53,7 @@ fn count_in(declared: &[DeclaredNode], name: &[u8]) -> usize {
     count
 }
 
-/// The first of these names, other than `_`, that stands twice among those of the fields or parameters.
+/// The first of these names, other than `_`, that occurs twice among those of the fields or parameters.
 fn twice_among<'a>(declared: &[DeclaredNode], names: &'a [Name]) -> Option<&'a Name> {
     for name in names {
         let bytes = name.bytes.as_slice();
@@ -64,7 +64,7 @@ fn twice_among<'a>(declared: &[DeclaredNode], names: &'a [Name]) -> Option<&'a N
     None
 }
 
-/// The first of these names that is refused by itself, as the name of a field is where `fields` holds, or else that of a
+/// The first of these names that is refused by itself, as the name of a field if `fields` holds, else as that of a
 /// parameter.
 fn refused_among(names: &[Name], fields: bool) -> Option<&Name> {
     for name in names {

@@ -5,7 +5,7 @@ use diagnostic_words::words::Words;
 use syntax::Name;
 use type_table::scope::is_blank;
 
-/// Whether a name stands among these.
+/// Whether a name is among these.
 fn is_among(names: &[&Name], name: &[u8]) -> bool {
     for &one in names {
         if one.bytes.as_slice() == name {
@@ -15,7 +15,7 @@ fn is_among(names: &[&Name], name: &[u8]) -> bool {
     false
 }
 
-/// The first of these names, other than `_`, that stands among those after it.
+/// The first of these names, other than `_`, that is also among those after it.
 pub(crate) fn first_repeated<'a>(names: &[&'a Name]) -> Option<&'a Name> {
     let (&name, rest) = names.split_first()?;
     let bytes = name.bytes.as_slice();
@@ -35,7 +35,7 @@ fn are_blank(names: &[&Name]) -> bool {
     true
 }
 
-/// Puts these names but for `_` after what is there.
+/// Appends these names but for `_`.
 fn push_old(said: &mut Words, names: &[&Name]) {
     let mut before = "declared before in this block: ";
     for &name in names {

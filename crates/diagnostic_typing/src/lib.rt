@@ -1,4 +1,4 @@
-//! What is wrong where a typing rule is violated or a limit is exceeded, in the words of Go, with names and types as the programmer
+//! What is wrong if a typing rule is violated or a limit is exceeded, in the words of Go, with names and types as the programmer
 //! wrote them. No contract says what is printed.
 #![tactic(auto)]
 

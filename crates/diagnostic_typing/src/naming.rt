@@ -106,7 +106,7 @@ pub(crate) fn push_invisible(said: &mut Words, at: &Setting<'_, '_>) {
     }
 }
 
-/// Reports that a part of a place, which has this type, has no such field.
+/// Reports that a part of an lvalue, which has this type, has no such field.
 fn push_no_such(
     said: &mut Words,
     at: &Setting<'_, '_>,
@@ -120,7 +120,7 @@ fn push_no_such(
     said.around(" has no field ", field, ")");
 }
 
-/// Reports the first field in a place that is not there.
+/// Reports the first field of an lvalue that is not there.
 fn push_no_path(said: &mut Words, at: &Setting<'_, '_>, place: &PlaceNode, kind: ValueType<'_>) {
     let mut kind = kind;
     for field in place.fields.iter() {
@@ -131,7 +131,7 @@ fn push_no_path(said: &mut Words, at: &Setting<'_, '_>, place: &PlaceNode, kind:
     }
 }
 
-/// Reports a place that is no variable, and no field of one.
+/// Reports an lvalue that is no variable, and no field of one.
 pub(crate) fn push_unassigned(said: &mut Words, at: &Setting<'_, '_>) {
     let Some(place) = at.place() else {
         return;

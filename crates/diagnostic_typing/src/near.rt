@@ -34,7 +34,7 @@ impl<'s> Search<'s> {
         }
     }
 
-    /// Puts the name that was found after what is there, if there is one.
+    /// Appends the name that was found, if there is one.
     fn push(&self, said: &mut Words) {
         if let Some(name) = self.found {
             said.bytes(name);
@@ -83,7 +83,7 @@ fn take_fields<'s>(search: &mut Search<'s>, at: &Setting<'s, 's>, whole: ValueTy
     }
 }
 
-/// Puts what the name of a value could mean after what is there.
+/// Appends what the name of a value could mean.
 fn push_near_value<'s>(said: &mut Words, at: &Setting<'s, 's>, name: &'s Name) {
     let mut search = Search::of(name);
     take_variables(&mut search, at);
@@ -94,21 +94,21 @@ fn push_near_value<'s>(said: &mut Words, at: &Setting<'s, 's>, name: &'s Name) {
     search.push(said);
 }
 
-/// Puts what the name of a function could mean after what is there.
+/// Appends what the name of a function could mean.
 fn push_near_function<'s>(said: &mut Words, at: &Setting<'s, 's>, name: &'s Name) {
     let mut search = Search::of(name);
     take_functions(&mut search, at);
     search.push(said);
 }
 
-/// Puts what the name of a type could mean after what is there.
+/// Appends what the name of a type could mean.
 fn push_near_type(said: &mut Words, tops: &[TopNode], name: &Name) {
     let mut search = Search::of(name);
     take_types(&mut search, tops);
     search.push(said);
 }
 
-/// Puts what a field could mean after what is there.
+/// Appends what a field could mean.
 fn push_near_field<'s>(
     said: &mut Words,
     at: &Setting<'s, 's>,
@@ -120,7 +120,7 @@ fn push_near_field<'s>(
     search.push(said);
 }
 
-/// Puts what the first field of a place that is not there could mean after what is there.
+/// Appends what the first field of an lvalue that is not there could mean.
 fn push_near_path<'s>(said: &mut Words, at: &Setting<'s, 's>, place: &'s PlaceNode) {
     let Some(entry) = at.variable(place.name.bytes.as_slice()) else {
         return;
@@ -134,7 +134,7 @@ fn push_near_path<'s>(said: &mut Words, at: &Setting<'s, 's>, place: &'s PlaceNo
     }
 }
 
-/// Puts what a part of an expression could mean after what is there. Returns whether it is such a part.
+/// Appends what a part of an expression could mean. Returns whether it is such a part.
 fn push_near_part<'s>(said: &mut Words, at: &Setting<'s, 's>, tops: &'s [TopNode]) -> bool {
     match at.part() {
         Some(ExpressionNode::Named(name)) => push_near_value(said, at, name),
@@ -149,7 +149,7 @@ fn push_near_part<'s>(said: &mut Words, at: &Setting<'s, 's>, tops: &'s [TopNode
     true
 }
 
-/// Puts what a name that is not visible could mean after what is there.
+/// Appends what a name that is not visible could mean.
 pub(crate) fn push_near_in<'s>(
     said: &mut Words,
     at: &Setting<'s, 's>,
@@ -176,7 +176,7 @@ pub(crate) fn push_near_in<'s>(
     }
 }
 
-/// Puts what the name of a type in a declaration could mean after what is there.
+/// Appends what the name of a type in a declaration could mean.
 pub(crate) fn push_near_declared(
     said: &mut Words,
     tops: &[TopNode],

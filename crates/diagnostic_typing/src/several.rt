@@ -28,7 +28,7 @@ const MOST_ROUNDS: usize = 60;
 /// How many words the variables of a function may take.
 const MOST_WORDS: usize = 4096;
 
-/// A violation, and the program that has it as its first one. Its places are those of the whole program.
+/// A violation, and the program that has it as its first one. Its locations are those of the whole program.
 #[derive(Drop)]
 pub struct Other {
     pub fault: Fault,
@@ -101,7 +101,7 @@ impl ReadText {
         }
     }
 
-    /// The place of a node, with its line and its column.
+    /// The location of a node, with its line and its column.
     fn place(&self, node: NodeId) -> Place {
         let span = self.span(node);
         Place {
@@ -225,7 +225,7 @@ struct Declaration<'a> {
     node: NodeId,
 }
 
-/// The declaration in which a node stands.
+/// The declaration that a node is in.
 fn declaration_at(alloc: Global, tops: &[TopNode], node: NodeId) -> Option<Declaration<'_>> {
     let mut first = 0;
     for top in tops {
@@ -241,7 +241,7 @@ fn declaration_at(alloc: Global, tops: &[TopNode], node: NodeId) -> Option<Decla
     None
 }
 
-/// A text with spaces in place of what stands at a span, but for the ends of lines.
+/// `text` with spaces instead of the bytes of a span, but for the ends of lines.
 fn blanked(alloc: Global, text: &str, span: Span) -> Result<String, Memory> {
     let mut bytes = Vec::new(alloc);
     for (index, byte) in text.bytes().enumerate() {
@@ -266,8 +266,8 @@ fn with_type(alloc: Global, text: String, one: &StructNode) -> Result<String, Me
     }
 }
 
-/// A text without the declaration that has this violation. A struct type of another form takes the place of one that may have its
-/// name, so that nothing is undefined for that.
+/// A text without the declaration that has this violation. A struct type of another form replaces one that may have its name, so
+/// that nothing is undefined for that.
 fn without(
     alloc: Global,
     text: &str,

@@ -1,4 +1,4 @@
-//! Statements that are wrong whatever is visible where they stand.
+//! Statements that are wrong whatever is visible to them.
 
 use crate::text::Text;
 use diagnostic_scope::ends::default_node;
@@ -7,7 +7,7 @@ use go_text::Rule;
 use std::alloc::Global;
 use syntax::{ClauseNode, NodeId};
 
-/// Puts where the `select`'s default of this number, counted from 1, stands after what is there.
+/// Appends the line and column of the `select`'s default of this number, counted from 1.
 fn push_default(
     alloc: Global,
     said: &mut Words,

@@ -1,4 +1,4 @@
-//! A text, and where the nodes of its tree stand in it.
+//! A program's text, and the locations of the nodes of its tree.
 
 use diagnostic_words::words::Words;
 use go_text::Source;
@@ -22,7 +22,7 @@ impl<'a> Text<'a> {
         self.tree.file().tops.as_slice()
     }
 
-    /// Puts the line and the column where a node begins after what is there.
+    /// Appends the line and the column at which a node begins.
     pub(crate) fn push_position(&self, said: &mut Words, node: NodeId) {
         if node < self.tree.count() {
             let position = self.source.line_column(self.tree.span(node).from);

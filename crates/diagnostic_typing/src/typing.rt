@@ -41,7 +41,7 @@ fn push_condition(said: &mut Words, at: &Setting<'_, '_>) {
     at.push_operand(said, value.expression);
 }
 
-/// Reports a constant that can't stand where it does.
+/// Reports a constant that can't be used as it is.
 fn push_wrong_constant(said: &mut Words, at: &Setting<'_, '_>) {
     push_constant(said, at);
     if said.is_empty() {
@@ -94,7 +94,7 @@ impl Query {
     }
 }
 
-/// Puts how a rule is violated, or a limit exceeded, after what is there, if that is known.
+/// Appends how a rule is violated, or a limit exceeded, if that is known.
 fn push_at(said: &mut Words, flaw: Flaw, at: &Setting<'_, '_>) {
     match flaw {
         Flaw::Broken(rule, _) => push_rule(said, rule, at),
@@ -117,7 +117,7 @@ struct Declared<'s, 'a> {
     tops: &'a [TopNode],
 }
 
-/// Puts what is to be printed of a violation in the scene of a function, in this unit, after what is there.
+/// Appends what is to be printed of a violation in the scene of a function, in this unit.
 fn push_in_scene(
     alloc: Global,
     said: &mut Words,
@@ -175,7 +175,7 @@ fn push_in_file(alloc: Global, said: &mut Words, file: &FileNode, walk: &Walk<'_
     }
 }
 
-/// Puts what is to be printed of a violation that does not depend on what is visible after what is there.
+/// Appends what is to be printed of a violation that does not depend on what is visible.
 fn push_in_units(alloc: Global, said: &mut Words, text: &Text<'_>, walk: &Walk<'_>, query: Query) {
     match (query.aim, query.flaw) {
         (Aim::Sentence, flaw) => push_in_unit(alloc, said, text, walk, flaw),
@@ -188,7 +188,7 @@ fn push_in_units(alloc: Global, said: &mut Words, text: &Text<'_>, walk: &Walk<'
     }
 }
 
-/// Puts what is to be printed of a violation in a tree after what is there.
+/// Appends what is to be printed of a violation in a tree.
 fn push_in_tree(alloc: Global, said: &mut Words, text: &Text<'_>, query: Query) {
     let walk = units_at(alloc, text.tree.file(), query.node());
     if walk.is_cut {
@@ -200,7 +200,7 @@ fn push_in_tree(alloc: Global, said: &mut Words, text: &Text<'_>, query: Query) 
     }
 }
 
-/// Puts what is to be printed of a violation in a text after what is there, which is nothing.
+/// Writes what is to be printed of a violation in a text to `said`, which is empty.
 fn push_query(alloc: Global, said: &mut Words, text: &str, query: Query) {
     match read(alloc, text) {
         Ok(Some(read)) => {
@@ -211,14 +211,13 @@ fn push_query(alloc: Global, said: &mut Words, text: &str, query: Query) {
     }
 }
 
-/// Puts what is wrong with the tree of a text after what is there, which is nothing: nothing if no more is known of it than the
-/// rule or the limit.
+/// Writes what is wrong with the tree of a text to `said`, which is empty: nothing if only the rule or the limit is known.
 pub fn push_flaw(alloc: Global, said: &mut Words, text: &str, flaw: Flaw) {
     let aim = Aim::Sentence;
     push_query(alloc, said, text, Query { flaw, aim });
 }
 
-/// Puts the name that could be meant by one that is not visible after what is there, which is nothing: nothing if there is none.
+/// Writes the name that could be meant by one that is not visible to `said`, which is empty: nothing if there is none.
 pub fn push_near(alloc: Global, said: &mut Words, text: &str, flaw: Flaw) {
     let aim = Aim::NearName;
     push_query(alloc, said, text, Query { flaw, aim });

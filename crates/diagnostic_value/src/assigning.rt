@@ -74,7 +74,7 @@ fn push_filled(said: &mut Words, at: &Setting<'_, '_>, filled: &Filled<'_>) {
     said.text(" in struct literal");
 }
 
-/// Reports that what is received from a channel does not fit a place.
+/// Reports that a value received from a channel is not assignable to an lvalue.
 fn push_item(said: &mut Words, at: &Setting<'_, '_>, channel: &Given<'_>, place: &PlaceNode) {
     said.text("cannot use a value received from ");
     at.push_operand(said, channel.expression);
@@ -92,7 +92,7 @@ fn is_ranged(value: &Given<'_>) -> bool {
     matches!(value.role, Role::Ranged)
 }
 
-/// Reports an item of a range, or of a clause, that does not fit the first place.
+/// Reports an item of a range, or of a clause, that is not assignable to the first lvalue.
 fn push_received(said: &mut Words, at: &Setting<'_, '_>) {
     let Some(channel) = at.parts.values.first() else {
         return;
@@ -132,7 +132,7 @@ fn push_overflow(said: &mut Words, at: &Setting<'_, '_>, part: &ExpressionNode) 
     }
 }
 
-/// Reports a constant that is used as an int, and fits none, if such a one is at the node of the fault.
+/// Reports a constant at the node of the fault that is used as an int but not representable as one.
 pub fn push_constant(said: &mut Words, at: &Setting<'_, '_>) {
     let Some(part) = at.part() else {
         return;

@@ -112,14 +112,14 @@ pub fn push_numbers(said: &mut Words, at: &Setting<'_, '_>) {
     }
 }
 
-/// Reports a value that is returned where there is no result.
+/// Reports a value returned by a function that has no result.
 fn push_unwanted(said: &mut Words, at: &Setting<'_, '_>, value: &ExpressionNode) {
     said.text("too many return values (have (");
     push_given(said, at, value);
     said.text("), want ())");
 }
 
-/// Reports a `return` without a value where there is a result of this type.
+/// Reports a `return` without a value in a function that has a result of this type.
 fn push_nothing(said: &mut Words, at: &Setting<'_, '_>, kind: ValueType<'_>) {
     said.text("not enough return values (have (), want (");
     push_type(said, at.table, kind);
@@ -158,7 +158,7 @@ fn push_no_function(said: &mut Words, at: &Setting<'_, '_>, name: &Name) {
     }
 }
 
-/// Whether a name stands for a function where the fault is.
+/// Whether a name denotes a function at the error.
 fn is_function(at: &Setting<'_, '_>, name: &Name) -> bool {
     let bytes = name.bytes.as_slice();
     at.variable(bytes).is_none()

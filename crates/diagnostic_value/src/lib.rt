@@ -1,4 +1,4 @@
-//! Values and operations that do not fit where they stand, in the words of Go: the scene of a fault, and the sentences about
+//! Values and operations that do not fit their context, in the words of Go: the scene of a fault, and the sentences about
 //! the values there. No contract says what is printed.
 #![tactic(auto)]
 

@@ -100,7 +100,7 @@ fn push_unary(
     push_undefined_on(said, at, unary_text(operator), operand);
 }
 
-/// Reports a place of another type than int that is counted up or down.
+/// Reports `++` or `--` on an lvalue whose type is not int.
 fn push_step(said: &mut Words, at: &Setting<'_, '_>, place: &PlaceNode) {
     said.text("invalid operation: ");
     push_place(said, place);
@@ -112,7 +112,7 @@ fn push_step(said: &mut Words, at: &Setting<'_, '_>, place: &PlaceNode) {
     }
 }
 
-/// Puts that the operator of an assignment is not defined on a place of this value's type after what is there.
+/// Appends that the operator of an assignment is not defined on an lvalue of this value's type.
 fn push_undefined_at(
     said: &mut Words,
     at: &Setting<'_, '_>,
@@ -143,7 +143,7 @@ fn push_assigned(
     push_expression(said, value);
 }
 
-/// Puts the type of a place and that of a value, which do not go together, after what is there.
+/// Appends the type of an lvalue and that of a value, which do not match.
 fn push_types(said: &mut Words, at: &Setting<'_, '_>, kind: ValueType<'_>, value: &ExpressionNode) {
     said.text(" (mismatched types ");
     push_type(said, at.table, kind);
@@ -182,7 +182,7 @@ fn update_in<'a>(at: &Setting<'_, 'a>) -> Option<(BinaryOperator, &'a Expression
     }
 }
 
-/// Reports an operator of a statement, which does not fit its place.
+/// Reports an operator of a statement that does not fit its lvalue.
 fn push_operator_of(said: &mut Words, at: &Setting<'_, '_>) {
     let Some(place) = at.parts.places.first() else {
         return;
@@ -215,7 +215,7 @@ fn push_negative(said: &mut Words, at: &Setting<'_, '_>, count: &ExpressionNode)
     at.push_operand(said, count);
 }
 
-/// Reports an assignment with an operator, to the right of which stands zero, or a negative count.
+/// Reports an assignment with an operator whose right operand is zero, or a negative shift count.
 fn push_wrong_update(
     said: &mut Words,
     at: &Setting<'_, '_>,
@@ -230,7 +230,7 @@ fn push_wrong_update(
     push_assigned(said, place, operator, value);
 }
 
-/// Reports an operator in an expression, to the right of which stands zero, or a negative count.
+/// Reports an operator in an expression whose right operand is zero, or a negative shift count.
 fn push_wrong_right(
     said: &mut Words,
     at: &Setting<'_, '_>,
@@ -245,7 +245,7 @@ fn push_wrong_right(
     push_expression(said, whole);
 }
 
-/// Reports an assignment with an operator whose constant right operand can not stand there.
+/// Reports an assignment with an operator whose constant right operand is not allowed.
 fn push_operator_in(said: &mut Words, at: &Setting<'_, '_>) {
     let Some(place) = at.parts.places.first() else {
         return;
@@ -255,7 +255,7 @@ fn push_operator_in(said: &mut Words, at: &Setting<'_, '_>) {
     }
 }
 
-/// Reports an operator whose constant right operand can not stand there.
+/// Reports an operator whose constant right operand is not allowed.
 pub fn push_operator(said: &mut Words, at: &Setting<'_, '_>) {
     match at.part() {
         Some(whole @ ExpressionNode::Binary(operator, _, right)) => {

@@ -1,4 +1,4 @@
-//! The scene of a fault: what stands at its node, and what is visible there.
+//! The scene of a fault: what is at its node, and what is visible there.
 
 use checker_base::operand::worth;
 use checker_base::worth::Worth;
@@ -21,7 +21,7 @@ pub struct Setting<'s, 'a> {
     pub node: NodeId,
 }
 
-/// The last of these values in which a node stands.
+/// The last of these values that contains `node`.
 fn last_around<'s, 'a>(values: &'s [Given<'a>], node: NodeId) -> Option<&'s Given<'a>> {
     for value in values.iter().rev() {
         if value.first <= node && node < value.end {
@@ -32,7 +32,7 @@ fn last_around<'s, 'a>(values: &'s [Given<'a>], node: NodeId) -> Option<&'s Give
 }
 
 impl<'s, 'a> Setting<'s, 'a> {
-    /// The innermost value in which the node of the fault stands.
+    /// The innermost value that contains the node of the fault.
     pub fn around(&self) -> Option<&'s Given<'a>> {
         match last_around(self.parts.operands.as_slice(), self.node) {
             Some(operand) => Some(operand),
@@ -58,13 +58,13 @@ impl<'s, 'a> Setting<'s, 'a> {
         None
     }
 
-    /// The place whose node is that of the fault.
+    /// The lvalue whose node is that of the fault.
     pub fn place(&self) -> Option<&'a PlaceNode> {
         let number = self.node.checked_sub(self.parts.first)?;
         self.parts.places.get(number as usize).copied()
     }
 
-    /// The type in which the node of the fault stands.
+    /// The type that contains the node of the fault.
     pub fn written(&self) -> Option<&'a TypeNode> {
         for one in self.parts.types.as_slice() {
             if one.first <= self.node && self.node < one.end {
@@ -91,12 +91,12 @@ impl<'s, 'a> Setting<'s, 'a> {
         worth(self.table, &self.scene.visible, expression)
     }
 
-    /// The type of a place there, if it has one.
+    /// The type of an lvalue there, if it has one.
     pub fn place_type(&self, place: &PlaceNode) -> Option<ValueType<'a>> {
         place_type(self.table, &self.scene.visible, place)
     }
 
-    /// The variable for which a name stands there, if it stands for one.
+    /// The variable that a name denotes there, if it denotes one.
     pub fn variable(&self, name: &[u8]) -> Option<Entry<'a>> {
         variable_named(self.table, &self.scene.visible, name)
     }

@@ -4,7 +4,7 @@ use crate::words::Words;
 use go_text::Span;
 use unicode_width::UnicodeWidthStr;
 
-/// How many bytes of a line are shown before the place, and how many from it on.
+/// How many bytes of a line are shown before the span's beginning, and how many from it on.
 const MOST_BEFORE: usize = 60;
 
 const MOST_AFTER: usize = 60;
@@ -48,7 +48,7 @@ fn push_line(said: &mut Words, first: &str, rest: &str, marked: &str) {
     said.text("\n");
 }
 
-/// Puts the part of a long line that stands around the place at which `rest` begins.
+/// Puts the part of a long line around the point at which `rest` begins.
 fn push_cut(said: &mut Words, before: &str, rest: &str, marked: &str) {
     let first = end_of(before, MOST_BEFORE);
     let second = beginning_of(rest, MOST_AFTER);
@@ -97,7 +97,7 @@ fn end_of(piece: &str, most: usize) -> &str {
     ""
 }
 
-/// Whether nothing can be seen of a character, or it moves what stands next to it.
+/// Whether nothing can be seen of a character, or it moves what is next to it.
 fn is_hidden(one: char) -> bool {
     match one {
         '\t' => false,

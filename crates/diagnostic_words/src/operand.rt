@@ -101,7 +101,7 @@ fn is_receive(expression: &ExpressionNode) -> bool {
     }
 }
 
-/// What stands before the type of a value.
+/// What comes before the type of a value.
 fn sort_text(expression: &ExpressionNode) -> &'static str {
     if is_variable(expression) {
         " (variable of type "

@@ -199,7 +199,7 @@ fn push_make(said: &mut Words, written: &TypeNode, behind: &str) {
     said.text(behind);
 }
 
-/// Appends a place.
+/// Appends an lvalue.
 pub fn push_place(said: &mut Words, place: &PlaceNode) {
     said.name(&place.name);
     for field in place.fields.iter() {
@@ -228,7 +228,7 @@ fn push_channel(said: &mut Words, direction: Direction, element: &TypeNode) {
     said.text(if parted { ")" } else { "" });
 }
 
-/// Whether a channel's element stands in parentheses: `chan (<-chan int)`.
+/// Whether a channel's element type needs parentheses: `chan (<-chan int)`.
 fn needs_parentheses(direction: Direction, element: &TypeNode) -> bool {
     match element {
         TypeNode::Parenthesized(inner) => needs_parentheses(direction, inner),
@@ -237,7 +237,7 @@ fn needs_parentheses(direction: Direction, element: &TypeNode) -> bool {
     }
 }
 
-/// What stands before the element of a channel type.
+/// What comes before the element of a channel type.
 fn channel_text(direction: Direction) -> &'static str {
     match direction {
         Direction::Both => "chan ",

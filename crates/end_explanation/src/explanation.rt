@@ -15,7 +15,7 @@ use std::sync::Arc;
 use verifier::{Verified, verify};
 use word::end::End;
 
-/// Where the goroutines of a program stand at the end of its run up to the clock limit (1 to 2^62), in lines: of a deadlock each
+/// Where the goroutines of a program are at the end of its run up to the clock limit (1 to 2^62), in lines: of a deadlock each
 /// one, of a panic the one that panicked, with `cause`, of exhausted time the one whose turn it was, of a run that finished
 /// those that had not ended. After each line come the line of the source and the calls that led there. FILE is the path as it
 /// was typed.

@@ -11,7 +11,7 @@ use verifier::Verified;
 use word::request::Request;
 use word::value::Word;
 
-/// A function that runs, and the node of the operation or the statement at which it stands.
+/// A function that runs, and the node of the operation or the statement that it is at.
 #[derive(Clone, Copy)]
 pub(crate) struct Call {
     pub function: usize,
@@ -83,7 +83,7 @@ impl Goroutine {
     }
 }
 
-/// The functions that run, and where they stand. Each but the last one waits after its call.
+/// The functions that run, and where they are. Each but the last one waits after its call.
 fn calls_of(alloc: Global, map: &StatementMap, frames: &[Frame]) -> Result<Vec<Call>, Memory> {
     let mut calls = Vec::new(alloc);
     let callers = frames.len().saturating_sub(1);

@@ -1,4 +1,4 @@
-//! Where the goroutines of a program stand at the end of a run, in lines as Go prints them. The program is compiled and run once
+//! Where the goroutines of a program are at the end of a run, in lines as Go prints them. The program is compiled and run once
 //! more, on one thread, by the same machine, so the explanation is of the same run whatever its length.
 #![tactic(auto)]
 

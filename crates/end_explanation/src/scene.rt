@@ -1,4 +1,4 @@
-//! The program, and what stands where in it.
+//! The program, and the locations of its parts.
 
 use crate::goroutine::Call;
 use crate::notes::{Notes, Site};

@@ -1,4 +1,4 @@
-//! Where goroutines stand, in lines.
+//! Where goroutines are, in lines.
 
 use crate::cycle::push_cycles;
 use crate::goroutine::{Call, Goroutine};
@@ -152,14 +152,14 @@ fn push_goroutine(said: &mut Words, report: Report<'_>, goroutine: &Goroutine) {
     said.text(")");
 }
 
-/// Appends `FILE:LINE:COLUMN` of the operation or the statement at which a goroutine stands.
+/// Appends `FILE:LINE:COLUMN` of the operation or the statement that a goroutine is at.
 fn push_location(said: &mut Words, scene: Scene<'_>, goroutine: &Goroutine) {
     if let Some(call) = goroutine.last() {
         scene.push_location(said, call.node);
     }
 }
 
-/// Appends the line of the source at which a goroutine stands, with marks.
+/// Appends the line of the source that a goroutine is at, with marks.
 fn push_source(said: &mut Words, scene: Scene<'_>, goroutine: &Goroutine) {
     if let Some(call) = goroutine.last() {
         scene.push_line(said, call.node);
@@ -216,7 +216,7 @@ fn push_group(said: &mut Words, group: u64) {
     said.number(i128::from(group % 10));
 }
 
-/// Appends the calls that led a goroutine to where it stands, the last one first. Calls that repeat are printed once.
+/// Appends the calls that led a goroutine to where it is, the last one first. Calls that repeat are printed once.
 fn push_calls(said: &mut Words, scene: Scene<'_>, goroutine: &Goroutine) {
     let Ok(callers) = callers_of(scene.alloc, goroutine) else {
         said.refuse();
@@ -295,7 +295,7 @@ impl Repetition {
     }
 }
 
-/// How many times the first calls, as many as the period, stand in a row.
+/// How many times in a row the first `period` calls occur.
 fn times_of(calls: &[Call], period: usize) -> usize {
     let first = calls.get(..period).unwrap_or(&[]);
     let mut times: usize = 0;
@@ -312,7 +312,7 @@ fn times_of(calls: &[Call], period: usize) -> usize {
     times
 }
 
-/// Appends where a function was called from.
+/// Appends the location that a function was called from.
 fn push_call(said: &mut Words, scene: Scene<'_>, call: Call) {
     said.text("  called from ");
     scene.push_function(said, call.function);

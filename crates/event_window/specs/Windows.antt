@@ -37,6 +37,6 @@ Shows First most before count end = before ≡ 0
 Shows (From number) most before count end = (before ≡ number - 1) ⊎ ((before ≤ number - 1) × (count ≡ 0) × IsTrue (is_some end))
 Shows (Last number) most before count end = IsTrue (is_some end) × ((before ≡ 0) ⊎ (count ≡ min number most))
 
--- of these events, before which there were `before`, some at the front have gone, and the others are left after `later` events
+-- `left` is `events` without some at the front; `before` events came before `events`, `later` events before `left`
 abbrev pub Moves : ℕ → List Recorded → ℕ → List Recorded → Type 0
 Moves before events later left = (gone : List Recorded) × (before + length gone ≡ later) × (gone ++ left ≡ events)

@@ -69,10 +69,11 @@ pub data AreGroups : (follows_token : Bool) → List (List ℕ × List ℕ) → 
   Group : (follows_token : Bool) (comments : List (List ℕ × List ℕ)) (text : List ℕ) (size : ℕ) (groups : List (List ℕ)) → IsFirstGroup follows_token comments text size
       → AreGroups false (drop size comments) groups → AreGroups follows_token comments (text ∷ groups)
 
--- the bytes between two tokens; none if they would cut a character, which tokens don't
+-- the text can be cut at these two offsets: in order, and at the bounds of characters
 abbrev pub CanCut : (text : List ℕ) → (from to : ℕ) → Type 0
 CanCut text from to = (from ≤ to) × IsCharBoundary text from × IsCharBoundary text to
 
+-- the bytes from one token's end to the next one's beginning; none if the text cannot be cut at these offsets
 abbrev pub IsGap : (text : List ℕ) → (from to : ℕ) → (gap : List ℕ) → Type 0
 IsGap text from to gap = (gap ≡ slice_range text from to) ⊎ ((CanCut text from to → ⊥) × (gap ≡ []))
 

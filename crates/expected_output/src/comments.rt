@@ -54,7 +54,7 @@ fn comments_between(
     groups_of(alloc, comments.as_slice(), from > 0)
 }
 
-/// The bytes between two tokens; none if they would cut a character, which tokens don't.
+/// The bytes from one token's end to the next one's beginning; none if they would cut a character.
 fn gap(text: &str, from: usize, to: usize) -> &str
     ensures { IsGap text.entry.now from to result.now }
 {

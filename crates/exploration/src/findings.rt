@@ -31,7 +31,7 @@ pub struct Findings {
     pub shown: Vec<Shown>,
     /// How many ends were found that the ordinary run doesn't have.
     pub(crate) others: usize,
-    /// How many of these no run showed.
+    /// How many of the other ends no run showed.
     pub(crate) missed: usize,
 }
 

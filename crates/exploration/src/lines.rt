@@ -67,7 +67,7 @@ fn push_output(said: &mut Words, output: &[u8]) {
     said.text("\"");
 }
 
-/// Appends how an end comes: its pauses, and where the goroutines stand then.
+/// Appends how an end comes about: its pauses, and the statements that the goroutines are at then.
 pub(crate) fn push_shown_end(
     said: &mut Words,
     scene: Scene<'_>,
@@ -107,7 +107,7 @@ fn push_waiting(said: &mut Words, scene: Scene<'_>, locals: &LocalStates<'_>, sh
     }
 }
 
-/// Appends where a `time.Sleep` may show the end in real Go, if one pause does here.
+/// Appends the line before which a `time.Sleep` may show the end in real Go, if one pause does here.
 fn push_hint(said: &mut Words, scene: Scene<'_>, locals: &LocalStates<'_>, shown: &Shown) {
     let [delay] = shown.delays.as_slice() else {
         return;

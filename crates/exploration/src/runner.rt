@@ -187,7 +187,7 @@ impl Ran {
         }
     }
 
-    /// Whether the run ended so, with the output of this number if outputs distinguish such ends.
+    /// Whether the run ended as `ending`, with the output of number `output` if outputs distinguish such ends.
     ///
     /// Errors: out of memory.
     pub(crate) fn is(

@@ -1,4 +1,4 @@
-//! The program, and where its goroutines stand in it.
+//! The program, and the locations of its goroutines in it.
 
 use bytecode::Code;
 use diagnostic_words::excerpt::push_excerpt;
@@ -25,12 +25,12 @@ pub struct Scene<'a> {
 }
 
 impl Scene<'_> {
-    /// The node at which a function stands.
+    /// The node that a function is at.
     fn node(self, frame: &Frame) -> NodeId {
         self.map.node(frame.function(), frame.place()).unwrap_or(0)
     }
 
-    /// The bytes of the text that a node takes.
+    /// The bytes of the source that a node takes.
     fn span(self, node: NodeId) -> Span {
         if node < self.tree.count() {
             self.tree.span(node)
@@ -39,7 +39,7 @@ impl Scene<'_> {
         }
     }
 
-    /// The line and column at which a function stands.
+    /// The line and column that a function is at.
     pub(crate) fn position(self, frame: &Frame) -> Position {
         self.source.line_column(self.span(self.node(frame)).from)
     }
@@ -72,7 +72,7 @@ impl Scene<'_> {
         }
     }
 
-    /// Appends where the goroutine in the state of a number stands: `FILE:LINE:COLUMN: DOES`, and the line of the source with marks.
+    /// Appends the location of the goroutine in state `local`: `FILE:LINE:COLUMN: DOES`, and the line of the source with marks.
     pub(crate) fn push_place(self, said: &mut Words, locals: &LocalStates<'_>, local: u32) {
         let Some(frame) = locals.frames(local).last() else {
             return;

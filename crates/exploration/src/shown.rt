@@ -20,7 +20,7 @@ pub struct Shown {
     pub end: End,
     /// What the run printed.
     pub output: Vec<u8>,
-    /// The file of the plan with which it runs so.
+    /// The file of the plan that makes the run end like this.
     pub plan: Vec<u8>,
     /// Whether goroutines that are left are what differs.
     pub leaks: bool,
@@ -30,7 +30,7 @@ pub struct Shown {
 }
 
 impl Shown {
-    /// Whether it is another end than that of the ordinary run, if this has one.
+    /// Whether it differs from the end of the ordinary run, if that has one.
     pub(crate) fn is_other(&self, ordinary: &Option<Ran>) -> bool
         ensures { IsTrue result → IsOther ordinary.now (seen self.now) }
     {
@@ -43,7 +43,7 @@ impl Shown {
     }
 }
 
-/// Where the goroutines stand at an end.
+/// The state of the goroutines at an end.
 #[derive(Drop)]
 pub(crate) struct LastScene {
     pub world: World,
@@ -85,7 +85,7 @@ pub(crate) fn show_end(
     )
 }
 
-/// An end that the run with these delays shows; none if the run does not end as it is wanted.
+/// An end that the run with these delays shows; none if the run does not end as required.
 fn shown_by(
     alloc: Global,
     runner: &Runner<'_>,
@@ -115,7 +115,7 @@ fn shown_by(
     }))
 }
 
-/// How a run ends that shows an end, after which goroutines stand so, and `actor` was the last one.
+/// How a run ends that shows an end, given the state of the goroutines after it and the last one to act, `actor`.
 fn wanted_of(found: &Found, standing: Vec<Standing>, actor: Option<Standing>) -> Wanted {
     let (sleepers, last) = match found.ending {
         Ending::Deadlock | Ending::Leak => (Some(standing), None),

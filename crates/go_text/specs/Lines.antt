@@ -1,7 +1,7 @@
 use Rattle.std.specs.Prelude.{ℕ, ◌+◌, ◌==◌, if◌then◌else◌, List, [], ◌∷◌}
 use Rattle.go_text.specs.declared.place.Position.{Position}
 
--- The position after these bytes, the first of which stands at this line and column. A newline ends its line.
+-- The position after these bytes, the first of which is at this line and column. A newline ends its line.
 abbrev pub position_after : ℕ → ℕ → List ℕ → Position
 position_after line column [] = record { line = line; column = column }
 position_after line column (byte ∷ rest) =

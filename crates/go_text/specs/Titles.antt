@@ -2,7 +2,7 @@ use Rattle.std.specs.Prelude.{ℕ, List, codes}
 use Rattle.go_text.specs.declared.fault.Fault.{Fault}
 use Rattle.go_text.specs.declared.fault.Fault.TheVariants as fault
 
--- the number of a refusal, and what it is called
+-- the number and the name of a fault
 abbrev pub fault_title : Fault → List ℕ
 fault_title fault.TooLong = codes "1 TooLong"
 fault_title fault.NotUtf8 = codes "2 NotUtf8"

@@ -14,7 +14,7 @@ use std::fmt;
 #[error("13 Memory")]
 pub struct Memory;
 
-/// A lease or a piece of another program, limit or place.
+/// A piece of the output of another program or limit, or one that is not the next.
 #[derive(Clone, Copy, Debug, PartialEq, Eq, thiserror::Error)]
 #[error("12 NotYours")]
 pub struct NotYours;
@@ -26,7 +26,7 @@ pub enum Fault {
     TooLong,
     /// The source is not UTF-8.
     NotUtf8,
-    /// No token begins with this character, or a NUL or a byte-order mark stands in the string or comment that begins
+    /// No token begins with this character, or a NUL or a byte-order mark is in the string or comment that begins
     /// here.
     BadCharacter(Place),
     /// A number that is followed directly by a letter, a digit, `_` or `.`.
@@ -35,9 +35,9 @@ pub enum Fault {
     OpenString(Place),
     /// A general comment that is not closed.
     OpenComment(Place),
-    /// The tokens are spelt by no tree.
+    /// The tokens have no syntax tree.
     Syntax(Place),
-    /// The tokens are spelt by no tree of at most 200 levels.
+    /// The tokens have no syntax tree of at most 200 levels.
     TooDeep(Place),
     /// A typing rule is violated at this node of the tree.
     Typing {
@@ -45,7 +45,7 @@ pub enum Fault {
         node: u32,
         place: Place,
     },
-    /// A limit is exceeded, at this node of the tree where the check finds it.
+    /// A limit is exceeded, at this node of the tree if the check finds it.
     Limit {
         kind: LimitKind,
         node: Option<u32>,
@@ -57,7 +57,7 @@ pub enum Fault {
         function: usize,
         place: usize,
     },
-    /// A lease or a piece of another program, limit or place.
+    /// A piece of the output of another program or limit, or one that is not the next.
     NotYours,
     /// A request for memory was refused.
     Memory,

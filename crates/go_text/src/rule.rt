@@ -7,7 +7,7 @@ pub enum Rule {
     Main = 1,
     /// A name is declared once in its block, and no reserved name is declared.
     Declared = 2,
-    /// A used name is visible, and is what its place wants.
+    /// A used name is visible, and is what its context requires.
     Visible = 3,
     /// A struct has fields of different names and doesn't contain itself.
     Struct = 4,
@@ -15,7 +15,7 @@ pub enum Rule {
     Operands = 5,
     /// A constant used as int is representable, no constant divisor is zero, no constant shift count negative.
     Constant = 6,
-    /// A value is assignable to where it goes.
+    /// A value is assignable to the type it is used as.
     Assignable = 7,
     /// Numbers of names, values, arguments and fields agree.
     Numbers = 8,
@@ -27,7 +27,7 @@ pub enum Rule {
     Direction = 11,
     /// The operand is a value of channel type.
     Channel = 12,
-    /// `nil` stands only where a channel type is known from the other side.
+    /// `nil` is used only where the other side has a channel type.
     Nil = 13,
     /// Conditions are bool.
     Condition = 14,
@@ -35,7 +35,7 @@ pub enum Rule {
     Returned = 15,
     /// A function with a result ends in a terminating statement.
     Terminating = 16,
-    /// `break` stands within a `for` or `select`, `continue` within a `for`.
+    /// `break` is within a `for` or `select`, `continue` within a `for`.
     Branch = 17,
     /// A call names a function, and one used as a value has a result.
     Called = 18,

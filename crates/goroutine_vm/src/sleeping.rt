@@ -82,7 +82,7 @@ impl Sleeping {
         self.running.as_ref().as_slice()
     }
 
-    /// Writes the request that it sleeps at to `place`. Returns whether it stands at a request.
+    /// Writes the request that it sleeps at to `place`. Returns whether it is at a request.
     ///
     /// Errors: out of memory.
     pub fn ask(&self, alloc: Global, code: &Verified, place: &mut Request) -> Result<bool, Memory>

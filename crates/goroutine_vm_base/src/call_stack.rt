@@ -118,7 +118,7 @@ impl CallStack {
         Ok(())
     }
 
-    /// Drops `count` words of the operand stack of the last function called, or all if there are fewer, and moves it to instruction
+    /// Drops `count` words of the operand stack of the last function called, or all if there are fewer, and moves it to pc
     /// `place`.
     #[inline(always)]
     pub fn drop_to(&mut self, count: usize, place: usize)

@@ -1,4 +1,4 @@
-//! The program, and what stands where in it.
+//! The program, and what is where in it.
 
 use diagnostic_words::excerpt::push_shown;
 use diagnostic_words::words::Words;

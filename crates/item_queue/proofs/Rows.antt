@@ -1,4 +1,4 @@
--- Items that stand word by word.
+-- Items that are stored word by word.
 use Rattle.std.proofs.Common.{◌≡◌, ◌≢◌, ◌-◌, ℕ, zero, suc, ◌+◌, ◌*◌, ◌<◌, ◌≤◌, sym, ap, ◌∙◌, arith, refl, List, [], ◌∷◌, ◌++◌, length, append_assoc}
 use Rattle.std.specs.Prelude.{drop, slice_index_or, take}
 use Rattle.std.proofs.Math.Seq.{take-length}

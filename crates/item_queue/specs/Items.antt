@@ -1,4 +1,4 @@
--- Items that stand word by word.
+-- Items that are stored word by word.
 use Rattle.std.specs.Prelude.{ℕ, zero, suc, List, [], ◌∷◌, drop, take}
 use Rattle.word.specs.declared.value.Word.{Word}
 use Rattle.word.specs.Values.{Item}

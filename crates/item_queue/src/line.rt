@@ -11,7 +11,7 @@ use std::collections::VecDeque;
 use word::limits::MAX_WORDS;
 use word::value::{Item, Word};
 
-/// Items in order that have one number of words, which is not 0. They stand word by word, at 16 bytes each.
+/// Items in order that have one number of words, which is not 0. They are stored word by word, at 16 bytes each.
 #[derive(Drop)]
 pub(crate) struct Line {
     pub width: usize,

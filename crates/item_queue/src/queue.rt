@@ -11,7 +11,7 @@ use std::marker::Model;
 use word::limits::MAX_WORDS;
 use word::value::Item;
 
-/// Items as they stand in memory.
+/// Items as they are kept in memory.
 #[derive(Drop)]
 pub(crate) enum Kept {
     /// Items of one number of words.
@@ -68,7 +68,7 @@ impl ItemQueue {
     ///
     /// # Errors
     ///
-    /// `AllocError` if memory is refused; then nothing has changed.
+    /// `AllocError` if it is out of memory; then nothing has changed.
     pub fn push(&mut self, alloc: Global, item: &Item) -> Result<(), AllocError>
         ensures ok { OnOk result (self.new ≡ self.old ++ item.now ∷ []) }
         ensures err { OnErr result (self.new ≡ self.old) }

@@ -30,7 +30,7 @@ pub(crate) fn append(words: &mut VecDeque<Word>, more: &[Word])
     }
 }
 
-/// Copies the words from a place on.
+/// Copies the words from index `from` on.
 pub(crate) fn copy(words: &VecDeque<Word>, from: usize, room: &mut [Word])
     requires { from + length room.old ≤ deque_len words.now }
     ensures { room.new ≡ take (length room.old) (drop from words.now.items) }

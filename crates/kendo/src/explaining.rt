@@ -83,7 +83,7 @@ fn end_explained(
     }
 }
 
-/// Where the goroutines stand at the end of the run by a plan.
+/// Where the goroutines are at the end of the run by a plan.
 fn last_moment(
     alloc: Global,
     file: &str,

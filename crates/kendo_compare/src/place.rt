@@ -17,7 +17,7 @@ pub(crate) struct Place {
 }
 
 impl Place {
-    /// The place of an event of the run of a program, counted from 1.
+    /// The location of an event of the run of a program. Events are counted from 1.
     ///
     /// Errors: out of memory.
     pub(crate) fn of(alloc: Global, program: &Program<'_>, event: u64) -> Result<Place, Memory> {
@@ -28,7 +28,7 @@ impl Place {
         }
     }
 
-    /// The place of the only event of a recording.
+    /// The location of the only event of a recording.
     fn in_recording(recording: &Recording) -> Result<Place, Memory> {
         let Some(Some(site)) = recording.sites.first().copied() else {
             return Ok(Place::unknown());
@@ -44,7 +44,7 @@ impl Place {
         Ok(Place { function, line })
     }
 
-    /// No place is known.
+    /// A location of which nothing is known.
     pub(crate) fn unknown() -> Place {
         Place {
             function: None,

@@ -166,7 +166,7 @@ fn push_count(said: &mut Words, count: usize, one: &str, many: &str) {
     said.text(if count == 1 { one } else { many });
 }
 
-/// Appends the function of a place, if it is known.
+/// Appends the function of a location, if it is known.
 fn push_function(said: &mut Words, place: &Place) {
     if let Some(function) = &place.function {
         said.text(" (");

@@ -15,7 +15,7 @@ empty : (plans : List PlanFile) → length plans ≡ 0 → plans ≡ []
 empty [] is = refl
 empty (plan ∷ plans) is = absurd (omega (arith, is))
 
--- no plan shows an end where none was found
+-- no plan shows an end if none was found
 none : (shown : List Shown) (plans : List PlanFile) → ends_by plans ≡ map seen shown → shown ≡ [] → plans ≡ []
 none shown plans same is = empty plans (sym (length-map plans end_by) ∙ ap length same ∙ length-map shown seen ∙ ap length is)
 

@@ -16,8 +16,8 @@ end_by plan = record { plan = plan.bytes.items; output = plan.output.items; end 
 abbrev pub ends_by : List PlanFile → List ShownEnd
 ends_by plans = map end_by plans
 
--- the ordinary end is that of the one-thread run; the end that a plan shows is that of the run by it, and another one. There is another end, it says, where one
--- that a plan shows is no limit of kendo's own, and none only if there is no plan
+-- the ordinary end is that of the one-thread run; the end that a plan shows is that of the run by it, and another one. The
+-- verdict is `Other` if an end that a plan shows is no limit of kendo's own, and `Same` only if there is no plan
 pub record AreShown (file : File) (limit : ℕ) (explored : Explored) : Type 0 where
   pub ordinary : IfSome explored.ordinary (λ (ran : Ran). IsWhole (source_kind file) limit (Some []) (Some ran.output.items) ran.end)
   pub plans : All (IsEnd file limit) (ends_by explored.plans.items)

@@ -11,7 +11,7 @@ use kendo_report::text_of_panic;
 use std::alloc::Global;
 use word::end::End;
 
-/// Where the goroutines of a program stand at this end of its run up to the clock limit, in lines; of a run that finished those that
+/// Where the goroutines of a program are at this end of its run up to the clock limit, in lines; if the run finished, those that
 /// had not ended. FILE in them is the path as it was typed.
 ///
 /// Errors: `BadLimit`; by the numbers 1 to 10 why the source file is no program; `Memory`.

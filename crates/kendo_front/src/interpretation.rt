@@ -13,7 +13,7 @@ use std::alloc::Global;
 use word::Write;
 use word::end::End;
 
-/// Runs a source file as it stands, up to the clock limit (1 to 2^62 steps), and returns how it ended. Nothing
+/// Runs a source file as it is, up to the clock limit (1 to 2^62 steps), and returns how it ended. Nothing
 /// is compiled: a plain interpreter walks the tree. What is written begins the output of the one-thread run of the source; at
 /// an end it is all of it. A text without a reading is refused before anything is written.
 pub fn reference_bytes<O: Write>(

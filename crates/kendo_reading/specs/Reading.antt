@@ -1,4 +1,4 @@
--- The program that a text is.
+-- The program of a source.
 use Rattle.std.specs.Prelude.{◌≡◌, ℕ, ◌<◌, ◌≤◌, ◌⊎◌, List, Some, Ok, Err, length, take, IsUtf8}
 use Rattle.checker.specs.Faults.{Tells}
 use Rattle.typing_rules.specs.Files.{IsTyped}
@@ -18,7 +18,7 @@ use Rattle.syntax.specs.Spans.{tree_of, spans_of}
 use Rattle.syntax.specs.Tree.{File}
 use Rattle.syntax.specs.Measures.{height, most_entries, most_clauses}
 
--- the file spells the tokens of the text, within all limits, and violates no typing rule
+-- the file spells the tokens of the source, within all limits, and violates no typing rule
 pub record Reads (text : List ℕ) (file : File) : Type 0 where
   pub utf8 : IsUtf8 text
   pub short : length text ≤ MAX_LENGTH
@@ -30,11 +30,11 @@ pub record Reads (text : List ℕ) (file : File) : Type 0 where
   pub clauses : most_clauses file ≤ 64
   pub typed : IsTyped file
 
--- the text has no reading
+-- the source has no reading
 abbrev pub HasNoReading : List ℕ → Type 0
 HasNoReading text = (file : File) → Reads text file → ⊥
 
--- a refusal's number
+-- the number of a fault
 abbrev pub fault_number : Fault → ℕ
 fault_number faults.TooLong = 1
 fault_number faults.NotUtf8 = 2
@@ -53,29 +53,29 @@ fault_number faults.Write = 14
 fault_number faults.BadWorkers = 15
 fault_number faults.BadLimit = 16
 
--- a text without a reading is refused by the numbers 1 to 10
+-- a source without a reading is refused by the numbers 1 to 10
 abbrev pub IsRefusal : Fault → Type 0
 IsRefusal fault = fault_number fault ≤ 10
 
--- a refusal of the text, or out of memory
+-- a refusal of the source, or out of memory
 abbrev pub IsOfText : Fault → Type 0
 IsOfText fault = IsRefusal fault ⊎ (fault ≡ faults.Memory)
 
--- the text has no tokens
+-- the source has no tokens
 abbrev pub HasNoTokens : List ℕ → Type 0
 HasNoTokens text = (tokens : List Token) → tokens_of text ≡ Ok tokens → ⊥
 
--- no file within the limits spells these tokens
+-- no file within the limits has these tokens
 abbrev pub HasNoTree : List Lexeme → Type 0
 HasNoTree words = (file : File) → Spells words file → height file ≤ 200 → most_entries file ≤ 64 → most_clauses file ≤ 64 → ⊥
 
--- ---- why a text has no reading
+-- ---- why a source has no reading
 
--- a place with the line and the column of its first byte in the text
+-- a location with the line and the column of its first byte in the source
 abbrev pub placed : List ℕ → Place → Place
 placed text place = record { span = place.span; position = Some (position_after 1 1 (take place.span.from text)) }
 
--- a fault with its line and column in the text, if it has a place
+-- a fault with its line and column in the source, if it has a location
 abbrev pub located_in : List ℕ → Fault → Fault
 located_in text (faults.BadCharacter place) = faults.BadCharacter (placed text place)
 located_in text (faults.BadNumber place) = faults.BadNumber (placed text place)
@@ -87,7 +87,7 @@ located_in text (faults.Typing rule node place) = faults.Typing rule node (place
 located_in text (faults.Limit kind node place) = faults.Limit kind node (placed text place)
 located_in text fault = fault
 
--- no file spells these tokens: none at all, or none that is so low, or none whose lists are so short
+-- no file spells these tokens: none at all, or none of that height, or none with lists that short
 abbrev pub IsUnspelt : List Lexeme → Fault → Type 0
 IsUnspelt words (faults.Syntax place) = (file : File) → Spells words file → ⊥
 IsUnspelt words (faults.TooDeep place) = (file : File) → Spells words file → height file ≤ 200 → ⊥
@@ -95,7 +95,7 @@ IsUnspelt words (faults.Limit limits.ListEntries at place) = (file : File) → S
 IsUnspelt words (faults.Limit limits.SelectClauses at place) = (file : File) → Spells words file → most_clauses file ≤ 64 → ⊥
 IsUnspelt words fault = ⊥
 
--- the tree is that of the text, within the limits, and each of its nodes stands where its tokens do
+-- the tree is that of the source, within the limits, and each of its nodes has the location of its tokens
 pub record IsTreeOf (text : List ℕ) (tree : Tree) : Type 0 where
   pub tokens : List Token
   pub scanned : tokens_of text ≡ Ok tokens
@@ -105,17 +105,17 @@ pub record IsTreeOf (text : List ℕ) (tree : Tree) : Type 0 where
   pub few : most_entries (tree_of tree) ≤ 64
   pub clauses : most_clauses (tree_of tree) ≤ 64
 
--- why the text has no reading, by the first of these that is so
+-- why the source has no reading: the first of these that holds
 pub data Flaw (text : List ℕ) (fault : Fault) : Type 0 where
   IsLong : MAX_LENGTH < length text → fault ≡ faults.TooLong → Flaw text fault
   IsNoText : length text ≤ MAX_LENGTH → ¬ (IsUtf8 text) → fault ≡ faults.NotUtf8 → Flaw text fault
-  -- the first place where no token stands
+  -- no token begins at the fault's location
   HasFault : length text ≤ MAX_LENGTH → IsUtf8 text → tokens_of text ≡ Err fault → Flaw text fault
-  -- its tokens are no file's
+  -- no file spells its tokens
   IsUnread : length text ≤ MAX_LENGTH → IsUtf8 text → (tokens : List Token) → tokens_of text ≡ Ok tokens → IsUnspelt (lexemes text tokens) fault → Flaw text fault
   -- a rule is violated or a limit exceeded at a node of its tree
   IsWrong : length text ≤ MAX_LENGTH → IsUtf8 text → (tree : Tree) → IsTreeOf text tree → Tells tree fault → Flaw text fault
 
--- the fault says why the text has no reading, with line and column
+-- the fault says why the source has no reading, with line and column
 abbrev pub IsWhy : List ℕ → Fault → Type 0
 IsWhy text told = (fault : Fault) × Flaw text fault × (told ≡ located_in text fault)

@@ -1,4 +1,4 @@
-//! The check of a text.
+//! The check of a source file.
 
 ghost use Rattle.std.specs.Prelude.{IfErr, IfOk};
 ghost use Rattle.kendo_reading.specs.Reading.{HasNoReading, IsOfText, IsRefusal, IsWhy, Reads};
@@ -8,7 +8,7 @@ use crate::reading::read;
 use go_text::Fault;
 use std::alloc::Global;
 
-/// Checks a text: whether it is a program of the whole language. Nothing runs.
+/// Checks whether a source is a program of the whole language. Nothing runs.
 ///
 /// Errors: by the numbers 1 to 10 why it is none, with line and column; `Memory`.
 pub fn check_bytes(alloc: Global, bytes: Vec<u8>) -> Result<(), Fault>

@@ -23,7 +23,7 @@ use scanner::{Token, scan};
 use std::alloc::Global;
 use syntax::Tree;
 
-/// The text, and the checked program that it is.
+/// The source, and its checked program.
 ///
 /// Errors: by the numbers 1 to 10 why it is none, with line and column; `Memory`.
 pub fn read(alloc: Global, bytes: Vec<u8>) -> Result<(Source, Typed), Fault>
@@ -42,7 +42,7 @@ pub fn read(alloc: Global, bytes: Vec<u8>) -> Result<(Source, Typed), Fault>
     Ok((source, typed))
 }
 
-/// The tokens of a text.
+/// The tokens of a source.
 fn tokens(alloc: Global, source: &Source) -> Result<Vec<Token>, Fault>
     ensures tokens { IfOk result (λ v. spec_tokens_of (bytes_of source.now) ≡ Ok v.items) }
     ensures few { IfOk result (λ v. length v.items ≤ length (bytes_of source.now) + 1) }

@@ -49,7 +49,7 @@ abbrev pub position_text : Option Position → List ℕ
 position_text None = []
 position_text (Some p) = codes " at " ++ decimal p.line ++ codes ":" ++ decimal p.column
 
--- what stands after the title of a refusal: its details, and where it lies
+-- what follows the title of a fault: its details, and its location
 abbrev pub fault_details : Fault → List ℕ
 fault_details (fault.BadCharacter place) = position_text place.position
 fault_details (fault.BadNumber place) = position_text place.position
@@ -63,7 +63,7 @@ fault_details (fault.Unverified rule function place) =
     codes " " ++ (decimal rule ++ (codes " in function " ++ (decimal function ++ (codes " at " ++ decimal place))))
 fault_details _ = []
 
--- a refusal by its number and its name, and where it lies
+-- a fault by its number and its name, and its location
 abbrev pub fault_text : Fault → List ℕ
 fault_text refusal = fault_title refusal ++ fault_details refusal
 
@@ -100,7 +100,7 @@ report_line (Ok Deadlock) = codes "kendo: deadlock\n"
 report_line (Ok Exhausted) = codes "kendo: logical time exhausted\n"
 report_line (Err fault) = codes "kendo: " ++ fault_text fault ++ codes "\n"
 
--- the exit status of a refusal
+-- the exit status of a fault
 abbrev pub fault_status : Fault → ℕ
 fault_status fault.Memory = 5
 fault_status fault.Write = 6

@@ -9,7 +9,7 @@ use word::end::End;
 use word::panic::Panic;
 
 /// The line on standard error, with its newline (empty after a run that finished), and the exit status.
-/// For a fault that has a place, the line names line and column if the place has them.
+/// For a fault that has a location, the line names line and column if the location has them.
 pub fn report(alloc: Global, outcome: &Result<End, Fault>) -> Result<(Vec<u8>, u8), Memory>
     ensures line { IfOk result (λ r. r.0.items ≡ report_line outcome.now) }
     ensures status { IfOk result (λ r. r.1 ≡ report_status outcome.now) }
@@ -89,7 +89,7 @@ pub fn text_of_panic(cause: Panic) -> &'static str
     }
 }
 
-/// A place, as ` at LINE:COLUMN`, or nothing if its line and column are not known.
+/// A location, as ` at LINE:COLUMN`, or nothing if its line and column are not known.
 #[derive(Clone, Copy)]
 struct At(Place);
 
@@ -104,7 +104,7 @@ impl fmt::Display for At {
     }
 }
 
-/// A refusal by its number and its name, and where it lies.
+/// A fault by its number and its name, and its location.
 #[derive(Clone, Copy)]
 struct FaultText(Fault);
 

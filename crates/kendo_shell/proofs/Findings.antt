@@ -21,7 +21,7 @@ within low high n never = go (cases_lt n low) (cases_lt high n) where
   go (inr a) (inl b) = absurd (never (λ r. omega (arith, b, r.1)))
   go (inr a) (inr b) = (a, b)
 
--- a fault of the text or of a writer, which is told where workers and limit are within their bounds
+-- a fault of the source or of a writer, which is reported if the workers and the limit are within their bounds
 abbrev IsTold : Fault → Type 0
 IsTold fault = IsRefusal fault ⊎ (fault ≡ faults.Write)
 
@@ -37,7 +37,7 @@ abbrev fault_in : {T : Type 0} → Fault → Result T Fault → Fault
 fault_in other (Ok made) = other
 fault_in other (Err fault) = fault
 
--- what is told of a text or of a writer, workers and a limit within their bounds come before
+-- if a fault of the source or of a writer is reported, the workers and the limit are within their bounds
 limit_before : {T : Type 0} (limit : ℕ) (fault : Fault) → IsErrOf {T = T} (Err fault) faults.BadLimit ↔ (IsLimit limit → ⊥) → IsTold fault → IsLimit limit
 limit_before limit fault bad told = within 1 (2 ^ 62) limit (λ out. limit_untold (subst IsTold (ap (fault_in fault) (bad.1 out)) told))
 
@@ -50,7 +50,7 @@ both_before workers limit fault bad_workers bad_limit told =
 not_both : {T : Type 0} (made : T) (fault : Fault) → IsErrOf {T = T} (Ok made) fault → ⊥
 not_both made fault e = absurd cc
 
--- they are so too where something was made
+-- they are within their bounds too if something was made
 pub limit_ended : {T : Type 0} (limit : ℕ) (made : T) → IsErrOf {T = T} (Ok made) faults.BadLimit ↔ (IsLimit limit → ⊥) → IsLimit limit
 limit_ended limit made bad = within 1 (2 ^ 62) limit (λ out. not_both made faults.BadLimit (bad.1 out))
 
@@ -213,7 +213,7 @@ run_stops workers limit text fault bad_workers bad_limit (inr (inr (inr (inl is)
 run_stops workers limit text fault bad_workers bad_limit (inr (inr (inr (inr is)))) refused why read =
     subst (IsReason (subcommands.Run workers limit) text) (sym is) (bad_limit.0 (ap (λ (f : Fault). Err f) is))
 
--- ---- what is told
+-- ---- what is reported
 
 pub told : (subcommand : Subcommand) (text : List ℕ) (outcome : Result End Fault) (status : ℕ) → Finds subcommand text outcome → status ≡ report_status outcome
     → IsStatusOf subcommand text status

@@ -23,7 +23,7 @@ use Rattle.word.specs.declared.end.End.{End}
 use Rattle.word.specs.declared.end.End.TheVariants.{Finished}
 use Rattle.word.specs.Worlds.{end_of, moment}
 
--- the text has a reading
+-- the source has a reading
 abbrev pub HasReading : List ℕ → Type 0
 HasReading text = (file : File) × Reads text file
 
@@ -46,8 +46,9 @@ IsInBounds (subcommands.Inspect limit) = IsLimit limit
 IsInBounds (subcommands.Paused limit) = IsLimit limit
 IsInBounds subcommand = Unit {0}
 
--- why the command finds no end: out of memory; workers or a limit out of their bounds, the workers first; else a writer that refused bytes, of a text that
--- has a reading; or, by this fault, why the text has no reading. A test is reported in lines of its own, whatever the text is
+-- Why the command finds no end: out of memory; workers or a limit out of their bounds, the workers first; else a writer that
+-- refused bytes, of a source that has a reading; or, by this fault, why the source has no reading. A test is reported in
+-- lines of its own, whatever the source is.
 abbrev pub IsReason : Subcommand → List ℕ → Fault → Type 0
 IsReason subcommand text faults.Memory = Unit {0}
 IsReason (subcommands.Run workers limit) text faults.BadWorkers = IsWorkers workers → ⊥
@@ -67,8 +68,8 @@ IsReason subcommand text (faults.Unverified rule function place) = ⊥
 IsReason subcommand text faults.NotYours = ⊥
 IsReason subcommand text fault = IsInBounds subcommand × HasNoReading text × IsWhy text fault
 
--- what the command finds in the text: that it has a reading, or that a picture was made of its run, or that it was explored or tested, or a moment of its run shown, or how its run
--- ends, or why none of these
+-- What the command finds in the source: that it has a reading, or that a picture was made of its run, or that it was
+-- explored or tested, or a moment of its run shown, or how its run ends, or why none of these.
 abbrev pub Finds : Subcommand → List ℕ → Result End Fault → Type 0
 Finds subcommands.Check text (Ok end) = (end ≡ Finished) × HasReading text
 Finds subcommands.List text (Ok end) = (end ≡ Finished) × HasReading text
@@ -106,7 +107,7 @@ first_failed first second = if first == 0 then second else first
 abbrev pub IsStatus : ℕ → Type 0
 IsStatus status = (status ≤ 6) ⊎ ((status ≡ 64) ⊎ ((status ≡ 8) ⊎ (status ≡ 9)))
 
--- the exit status where help or the version was asked for, or the words are refused for another reason
+-- the exit status if help or the version was requested, or the words are refused for another reason
 abbrev pub ShowsAs : ErrorKind → ℕ → Type 0
 ShowsAs kinds.DisplayHelp status = (status ≡ 0) ⊎ (status ≡ 6)
 ShowsAs kinds.DisplayVersion status = (status ≡ 0) ⊎ (status ≡ 6)

@@ -1,4 +1,4 @@
-//! The check of a text.
+//! The check of a source file.
 
 ghost use Rattle.command_line.specs.declared.arguments.Subcommand.TheVariants as subcommands;
 ghost use Rattle.kendo_shell.specs.Answers.{Finds};
@@ -8,7 +8,7 @@ use kendo_reading::check_bytes;
 use std::alloc::Global;
 use word::end::End;
 
-/// Checks the text.
+/// Checks a source file.
 ///
 /// Errors: by the numbers 1 to 10 why it is no program, with line and column; `Memory`.
 pub fn check(alloc: Global, bytes: Vec<u8>) -> Result<End, Fault>

@@ -20,7 +20,7 @@ pub enum Reason {
     ReadOnly,
     /// The disk, or the user's part of it, is full.
     NoSpace,
-    /// The program that read the pipe is gone.
+    /// The reading end of the pipe is closed.
     ClosedPipe,
     /// It took no byte.
     TookNothing,

@@ -74,12 +74,12 @@ impl<W: io::Write + Drop> Write for Stream<W> {
     }
 }
 
-/// Writes a line on standard error. The status says what happened even if the line is lost.
+/// Writes a line to standard error. The exit status says what happened even if the line is lost.
 pub fn tell(rt: &HostRuntime, line: &[u8]) {
     let _told = rt.stderr().write_all(line);
 }
 
-/// Writes the line that reports this outcome on standard error, and returns its exit status. The line begins with `name` if there
+/// Writes the line that reports this outcome to standard error, and returns its exit status. The line begins with `name` if there
 /// is one, else with the program's name.
 ///
 /// Errors: `Memory`.
@@ -96,7 +96,7 @@ pub fn told(
     Ok(status)
 }
 
-/// Writes a line that begins with `kendo` on standard error, with `name`, if there is one, in place of that.
+/// Writes `line` to standard error. `name`, if there is one, replaces a `kendo` at its beginning.
 ///
 /// Errors: `Memory`.
 pub(crate) fn tell_as(

@@ -1,10 +1,10 @@
-//! What to type in place of a command line that lacks its command.
+//! What to type instead of a command line that lacks its command.
 
 use crate::streams::tell;
 use clap::error::ErrorKind;
 use std::alloc::Global;
 
-/// Tells how a program is run, where its file stands in place of a command.
+/// Prints how to run a program, if the command line has its file instead of a command.
 pub(crate) fn suggest(rt: &HostRuntime, alloc: Global, words: &[String], error: &clap::Error) {
     if error.kind() != ErrorKind::InvalidSubcommand {
         return;
@@ -14,7 +14,7 @@ pub(crate) fn suggest(rt: &HostRuntime, alloc: Global, words: &[String], error: 
     }
 }
 
-/// Tells how the program of this file is run, if it is one of Go.
+/// Prints how to run the program of the file `word`, if its name ends with `.go`.
 fn suggest_run(rt: &HostRuntime, alloc: Global, word: &str) {
     if !word.ends_with(".go") {
         return;

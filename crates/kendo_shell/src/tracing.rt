@@ -52,7 +52,7 @@ impl Trace {
     }
 }
 
-/// Where a command writes.
+/// An output that a command writes to.
 #[derive(Drop)]
 pub struct Outputs {
     /// Standard output.

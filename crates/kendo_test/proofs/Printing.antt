@@ -8,7 +8,7 @@ use Rattle.word.specs.declared.end.End.{End}
 pub all_printed : (old output new kept : List ℕ) → old ≡ [] → new ≡ old ++ output → kept ≡ new → output ≡ kept
 all_printed old output new kept empty grows same = sym (same ∙ (grows ∙ ap (λ (o : List ℕ). o ++ output) empty))
 
--- a run that ended as is expected, where no output is
+-- a run that ended as expected, if no output is expected
 pub met_alone : (expectation : Expectation) (text : List ℕ) (limit : ℕ) (end : End) → expectation.output ≡ None → end ≡ expectation.end
     → (output : List ℕ) × Prints text limit output end → Passes expectation text limit
 met_alone expectation text limit end none is (output, prints) =

@@ -1,4 +1,4 @@
-//! Where an output is not the expected one.
+//! The differences between an output and the expected one.
 
 use crate::lines::{Failure, push_line};
 use expected_output::{Expectation, ExpectedOutput, sorted_lines};
@@ -130,7 +130,7 @@ fn push_unordered(
     Ok(())
 }
 
-/// Appends which of two lines, that stand at one place of sorted lines, is too many or missing.
+/// Appends which of two lines, at the same index of sorted lines, is too many or missing.
 fn push_one(failure: &mut Failure, got: Option<&str>, want: Option<&str>) {
     failure.reason();
     let is_missing = match (got, want) {

@@ -23,7 +23,7 @@ slot_within heap places q e x =
     let has : slice_index_or x.keys e.slot None ≡ Some e.key = subst (λ (n : Entry). slice_index_or x.keys n.slot None ≡ Some n.key) at own.0 in
     omega (arith, some_within x.keys e.slot e.key has, x.index.slots, length-set places e.slot q)
 
--- the entry at place p moves into the hole at q, so that the hole is at p
+-- the entry at index p moves into the hole at q, so that the hole is at p
 module _ (heap : List Entry) (places : List ℕ) (q p : ℕ) (e m : Entry) (is : m ≡ slice_index_or heap p m) (ql : q < length heap) (pl : p < length heap) (apart : p ≢ q) where
   read : m ≡ entry_at heap p
   read = is ∙ get_or_default heap p m nobody pl
@@ -127,7 +127,7 @@ module _ (heap : List Entry) (places : List ℕ) (q p : ℕ) (e m : Entry) (is :
   pub moved_slot : IsHole heap places q e → m.slot < length places
   moved_slot x = let own = of_m x.keys x.index in omega (arith, some_within x.keys m.slot m.key own.0, size x.keys x.index)
 
-  -- the entry stands in its place, once it does past that move
+  -- the entry is filled in, if it is so after that move
   pub filled_on : (heap' : List Entry) (places' : List ℕ) → IsFilled (set heap q m) heap' (set places m.slot q) places' p e → IsFilled heap heap' places places' q e
   filled_on heap' places' f = record {
     index = λ keys x. f.index keys (moved_index keys x);

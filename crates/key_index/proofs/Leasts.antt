@@ -31,7 +31,7 @@ module _ (keys : List (Option Key)) (heap : List Entry) (places : List ℕ) (x :
     | inr e ↦ let p = stands s e.0 e.1 in absurd (omega (arith, p.0, empty))
   ]
 
-  -- the slots but the one at the first place, which are at the places after it
+  -- the slots but the one at index 0, which are at the indices after it
   module _ (slot : ℕ) (first : (entry_at heap 0).slot ≡ slot) where
     behind : (s : ℕ) (k : Key) → s ≢ slot → slice_index_or keys s None ≡ Some k → (0 < slice_index places s) × (slice_index places s < length heap) × (key_at heap (slice_index places s) ≡ k)
     behind s k ne h =

@@ -40,7 +40,7 @@ pub lift_old : (o : Option Key) (v : Key) → MatchOption o ⊥ (λ old. is_befo
 lift_old None v h = absurd h
 lift_old (Some k) v h = (k, refl, h)
 
--- the entry of a slot stands at q, where the heap had space or the slot's own entry
+-- the entry of a slot is at q, where the heap had space or the slot's own entry
 module _ (keys : List (Option Key)) (heap heap1 : List Entry) (places : List ℕ) (x : IsIndex keys heap places) (slot q : ℕ) (v : Key) (e : Entry) (is : e ≡ record { key = v; slot = slot }) (within : slot < length keys) (ql : q < length heap1) (le : length heap ≤ length heap1)
     (same : (i : ℕ) → i < length heap → i ≢ q → entry_at heap1 i ≡ entry_at heap i) (back : (i : ℕ) → i < length heap1 → i ≢ q → i < length heap)
     (own : (i : ℕ) → i < length heap → i ≢ q → (entry_at heap i).slot ≢ slot) (apart : (s : ℕ) (k : Key) → s ≢ slot → slice_index_or keys s None ≡ Some k → slice_index places s ≢ q) where
@@ -229,7 +229,7 @@ module _ (keys : List (Option Key)) (heap : List Entry) (places : List ℕ) (x :
       ])) in
       omega (arith, most, long)
 
--- a taken slot is freed, and the last entry leaves its place
+-- a taken slot is freed, and the last entry leaves its index
 module _ (keys : List (Option Key)) (init heap : List Entry) (places : List ℕ) (last : Entry) (parts : heap ≡ init ++ last ∷ []) (x : IsIndex keys heap places) (order : IsHeap (key_at heap) (length heap)) (slot q : ℕ) (at : q ≡ slice_index places slot) (old : Key) (was : slice_index_or keys slot None ≡ Some old) where
   pub heap_length : length heap ≡ length init + 1
   heap_length = ap (λ (l : List Entry). length l) parts ∙ length-append init (last ∷ [])
@@ -261,7 +261,7 @@ module _ (keys : List (Option Key)) (init heap : List Entry) (places : List ℕ)
   left_apart : (s : ℕ) (k : Key) → s ≢ slot → slice_index_or keys s None ≡ Some k → slice_index places s ≢ q
   left_apart s k ne h z = ne (ap (λ (n : Entry). n.slot) (sym (x.place s k h).1 ∙ ap (entry_at heap) z ∙ gone_entry))
 
-  -- where the slot stood last, nothing else moves
+  -- if the slot's entry was the last, nothing else moves
   pub removed_last : q ≡ length init → IsIndex (set keys slot None) init places
   removed_last end = record {
     slots = length-set keys slot None ∙ x.slots;

@@ -32,7 +32,7 @@ fn is_before(a: &Key, b: &Key) -> bool
     rank(*a) < rank(*b)
 }
 
-/// Whether the key at place `a` is before that at place `b`.
+/// Whether the key at index `a` is before that at index `b`.
 #[inline(always)]
 fn compare<L: Ledger>(heap: &[Entry], a: usize, b: usize, steps: &mut Steps<L>) -> bool
     requires a_in { a < length heap.now }
@@ -44,7 +44,7 @@ fn compare<L: Ledger>(heap: &[Entry], a: usize, b: usize, steps: &mut Steps<L>) 
     is_before(&heap[a].key, &heap[b].key)
 }
 
-/// Whether the key at `place` is before that of an entry.
+/// Whether the key at index `place` is before that of an entry.
 #[inline(always)]
 fn precedes<L: Ledger>(heap: &[Entry], place: usize, entry: &Entry, steps: &mut Steps<L>) -> bool
     requires { place < length heap.now }
@@ -55,7 +55,7 @@ fn precedes<L: Ledger>(heap: &[Entry], place: usize, entry: &Entry, steps: &mut 
     is_before(&heap[place].key, &entry.key)
 }
 
-/// Whether the key at `place` is after that of an entry.
+/// Whether the key at index `place` is after that of an entry.
 #[inline(always)]
 fn follows<L: Ledger>(heap: &[Entry], place: usize, entry: &Entry, steps: &mut Steps<L>) -> bool
     requires { place < length heap.now }
@@ -66,7 +66,7 @@ fn follows<L: Ledger>(heap: &[Entry], place: usize, entry: &Entry, steps: &mut S
     is_before(&entry.key, &heap[place].key)
 }
 
-/// Puts an entry at a place.
+/// Puts an entry at index `place`.
 #[inline(always)]
 fn put(heap: &mut [Entry], places: &mut [usize], place: usize, entry: Entry)
     requires place { place < length heap.old }
@@ -79,7 +79,7 @@ fn put(heap: &mut [Entry], places: &mut [usize], place: usize, entry: Entry)
     places[slot] = place;
 }
 
-/// Puts an entry at a hole or, if its key is before theirs, above those that stand there.
+/// Puts an entry at a hole, or further up as long as the parent's key is after the entry's.
 pub(crate) fn sift_up<L: Ledger>(
     heap: &mut [Entry],
     places: &mut [usize],
@@ -131,7 +131,7 @@ fn sift_last<L: Ledger>(
     put(heap, places, left, *entry);
 }
 
-/// The child of `place`, which has two, whose key is less.
+/// Of the two children of index `place`, the one whose key is less.
 #[inline(always)]
 fn lesser_child<L: Ledger>(heap: &[Entry], place: usize, steps: &mut Steps<L>) -> usize
     requires { 2 * place + 2 < length heap.now }
@@ -144,7 +144,7 @@ fn lesser_child<L: Ledger>(heap: &[Entry], place: usize, steps: &mut Steps<L>) -
     right - usize::from(compare(heap, right - 1, right, steps))
 }
 
-/// Puts an entry at a hole or, if its key is after theirs, below those that stand there.
+/// Puts an entry at a hole, or further down as long as a child's key is before the entry's.
 pub(crate) fn sift_down<L: Ledger>(
     heap: &mut [Entry],
     places: &mut [usize],
@@ -169,7 +169,7 @@ pub(crate) fn sift_down<L: Ledger>(
     sift_down(heap, places, child, entry, steps)
 }
 
-/// Puts an entry at a hole, or above or below those that stand there, by its key.
+/// Puts an entry at a hole, or further up or down, by its key.
 pub(crate) fn sift<L: Ledger>(
     heap: &mut [Entry],
     places: &mut [usize],
@@ -193,7 +193,7 @@ pub(crate) fn sift<L: Ledger>(
     sift_up(heap, places, parent, entry, steps)
 }
 
-/// Puts an entry that stood last at the place of one that left, unless that was its own place.
+/// Puts `last`, which was the last entry, at index `place`, unless that was its own index.
 #[inline(always)]
 pub(crate) fn refill<L: Ledger>(
     heap: &mut [Entry],

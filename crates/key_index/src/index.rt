@@ -19,7 +19,7 @@ pub struct KeyIndex {
     keys: Vec<Option<Key>>,
     /// The slots that are taken, as a heap: none has a key before that of its parent.
     heap: Vec<Entry>,
-    /// The place in the heap of each slot that is taken.
+    /// The index in the heap of each slot that is taken.
     places: Vec<usize>,
 }
 

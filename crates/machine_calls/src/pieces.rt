@@ -51,11 +51,11 @@ fn prints(alloc: Global, number: i64) -> Result<Arc<Verified>, Fault> {
     Ok(Arc::new(alloc, program(alloc, &[main])?)?)
 }
 
-/// The number that a program prints, the limit of its run, what the bytes of a piece are of, and where they stand.
+/// The number that a program prints, the limit of its run, what the bytes of a piece are of, and their offset.
 type Origin = (i64, u64, Kind, u64);
 
-/// What comes of a piece of four bytes for a progress that stands at the beginning of the output of the program that prints
-/// 3, at limit 9, where the writer fails at its n-th call: the fault, how many bytes were taken, and the progress's place.
+/// Drains a piece of four bytes to a progress at the beginning of the output of the program that prints 3, at limit 9, with a
+/// writer that fails at its call `fails_at`. Returns the fault, how many bytes were taken, and the progress's offset.
 fn drained(
     alloc: Global,
     (number, limit, kind, from): Origin,
@@ -79,7 +79,7 @@ fn drained(
     Ok((fault, out.taken.len(), progress.place()))
 }
 
-/// Whether this comes of it.
+/// Whether `drained` returns this fault and count, and the progress's offset is the count.
 fn is_drained(
     alloc: Global,
     origin: Origin,

@@ -9,10 +9,10 @@ use std::alloc::{AllocError, Global};
 use verifier::verify;
 use word::apply::Op;
 
-/// The rule, the function and the place that a code is refused with; none if it is accepted.
+/// The rule, the function and the pc that a code is refused with; none if it is accepted.
 type Refusal = Option<(u8, usize, usize)>;
 
-/// What is wrong with a `main`, its instructions, the rule that refuses it, and the place.
+/// What is wrong with a `main`, its instructions, the rule that refuses it, and the pc.
 const REFUSED: [(&str, &[Instr], u8, usize); 23] = [
     ("no return at the end", &[Int(1)], 1, 0),
     ("nil of no shape", &[Nil(3), Discard(1), Return], 1, 0),

@@ -115,7 +115,7 @@ const CLOSED: [Told; 6] = [
     (5, 2, 'p', 'p'),
 ];
 
-/// A schedule of `MEETS_TWICE` where goroutine 3 is parked before goroutine 2, whose key is less, and which publishes
+/// A schedule of `MEETS_TWICE` in which goroutine 3 is parked before goroutine 2, whose key is less, and which publishes
 /// where it is before it comes back.
 fn ahead_of_the_floor(alloc: Global) -> Result<Vec<Step>, AllocError> {
     let mut steps = Vec::new(alloc);
@@ -202,7 +202,7 @@ fn with_foolish_steps(alloc: Global, steps: &[Step]) -> Result<Vec<Step>, AllocE
     Ok(all)
 }
 
-/// Whether goroutines that hand over an item do so, whatever steps that nobody can make stand between theirs, and after the end.
+/// Whether goroutines that hand over an item do so, whatever steps that nobody can make come between theirs, and after the end.
 fn hands_over_among_foolish_steps(alloc: Global) -> Result<bool, Fault> {
     let steps = rounds(alloc, 2, 9)?;
     let steps = with_foolish_steps(alloc, &steps)?;

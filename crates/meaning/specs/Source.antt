@@ -102,7 +102,7 @@ module _ (globals : Globals) (blocks : Blocks) (rest : List Task) where
   abbrev pub value_at : Place → Value
   value_at place = words_at globals.structs (place_slot globals blocks place) (value_of (lookup blocks place.name))
 
-  -- a place gets the value of an operator between its own and this one
+  -- an lvalue gets the value of an operator between its own value and this one
   abbrev pub updates : Place → BinaryOperator → Worked Value → Worked Course
   updates place operator operand =
       and_then (binary operator (ready (value_at place)) operand) (λ v. stores (placed globals blocks place ∷ []) (v ∷ []))

@@ -114,7 +114,7 @@ module _ {S : Type 0} (K : GoroutineKind) (held : S → K.State) (limit : ℕ) w
     on_by : (mid : Places) (a : Option (Clocked K.State)) → Sets held old mid n a None → SleepOn held old mid
     on_by mid a set = sleep_on held old mid n a (awake_no_bed held (slice_index_or old n None) s up) set
 
-    -- one place of the awake is set
+    -- one index of the awake is set
     set_is : (mid : Places) (a b : Option (Clocked K.State)) → Sets held old mid n a b → awake_in held mid ≡ slice_set w.awake n a
     set_is mid a b set = set.awake ∙ ap (λ (x : List (Option (Clocked K.State))). slice_set x n a) fits.awake
 

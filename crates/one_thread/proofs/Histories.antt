@@ -62,7 +62,7 @@ module _ {S : Type 0} (K : GoroutineKind) (held : S → K.State) (limit : ℕ) w
     abbrev w : World (Clocked K.State) (Rest K.State)
     w = moment K limit h.moves
 
-    -- nobody is awake
+    -- no goroutine is awake
     pub deserted_history : least (keys clock_of 0 old) ≡ None → HasEnded K held limit old v events output Deadlock
     deserted_history none = record { moves = h.moves; world = h.world; events = h.events; output = h.output; end = ends K held limit None None old v st none }
 
@@ -156,7 +156,7 @@ module _ {S : Type 0} (K : GoroutineKind) (held : S → K.State) where
   gone_on run events output goes h = subst (λ (o : Option Ending). HasHadTo K held o run events output) (sym goes) h
 
   module _ (old : OpenValue S) (goes : old.end ≡ None) (ready : IsReady old) where
-    -- nobody is awake
+    -- no goroutine is awake
     pub deserted_adds : least (keys clock_of 0 old.places) ≡ None → Adds K held old None (record old { end = Some Deadlock })
     deserted_adds none = λ events output h. deserted_history K held old.limit old.places old.shared events output (going_on old events output goes h) (ready.going goes) none
 

@@ -1,4 +1,4 @@
--- The keys of the awake goroutines, in slot n that of the one at place n.
+-- The keys of the awake goroutines; slot n has the key of the goroutine at index n.
 use Rattle.std.proofs.Common.{◌≡◌, ◌∙◌, ℕ, zero, suc, ◌+◌, false, List, [], ◌∷◌, ◌++◌, length, Option, Some, None, refl, sym, ap, subst, arith, inl, inr, get_or-set_same, get_or-set_other, length-append}
 use Rattle.std.specs.Prelude.{option_map, slice_index_or, slice_set}
 use Rattle.std.proofs.lemmas.Bool.{cases_eq, cases_lt}
@@ -10,7 +10,7 @@ use Rattle.logical_clock.proofs.Keys.{IsNext, key, next_is}
 use Rattle.one_thread.specs.declared.goroutine.Goroutine.{Goroutine}
 use Rattle.one_thread.specs.Places.{AreKeyed, clock_of, key_of}
 
--- ---- one place changes
+-- ---- one index changes
 
 module _ {S : Type 0} (places : List (Option (Goroutine S))) (slots : List (Option Key)) (k : AreKeyed places slots) where
   set_there : (n : ℕ) (x : Option (Goroutine S)) → slice_index_or (slice_set slots n (key_of n x)) n None ≡ key_of n (slice_index_or (slice_set places n x) n None)

@@ -1,4 +1,4 @@
--- One place changes.
+-- One index changes.
 use Rattle.std.proofs.Common.{◌≡◌, ℕ, suc, zero, ◌<◌, ◌≤◌, Bool, true, false, cond, List, [], ◌∷◌, ◌++◌, length, Option, Some, None, refl, sym, ap, ◌∙◌, subst, arith, inl, inr, get_or-set_same, get_or-set_other}
 use Rattle.std.specs.Prelude.{slice_index_or, slice_set, Result, Ok, Err, IfOk, OnOk}
 use Rattle.std.proofs.lemmas.Bool.{cases_eq, cases_lt}
@@ -15,13 +15,13 @@ use Rattle.one_thread.specs.declared.goroutine.Turn.TheVariants as turns
 use Rattle.one_thread.specs.Steps.{Advances}
 use Rattle.one_thread.specs.Places.{AdvancesAt, AreWithin, IsLaid, IsWithin, Sets, SleepOn, StepsAt, Wakes, awake_in, awake_of, bed_at, bed_of, clocked, here, woken_to}
 
--- what was read at a place, whatever stands for one that is not there
+-- what was read at index n, whatever the default
 pub read_at : {A : Type 0} (xs : List A) (n : ℕ) (x d : A) → n < length xs → x ≡ slice_index_or xs n x → slice_index_or xs n d ≡ x
 read_at [] n x d lt is = absurd (omega (arith, lt))
 read_at (y ∷ ys) zero x d lt is = sym is
 read_at (y ∷ ys) (suc n) x d lt is = read_at ys n x d (omega (arith, lt)) is
 
--- clocks within the limit, where one goroutine changes
+-- clocks stay within the limit if one goroutine changes
 pub within_set : {S : Type 0} (limit : ℕ) (xs : List (Option (Goroutine S))) (n : ℕ) (x : Option (Goroutine S)) → IsWithin limit x → AreWithin limit xs → AreWithin limit (slice_set xs n x)
 within_set limit xs n x one all = All-set (IsWithin limit) xs n x one all
 
@@ -37,7 +37,7 @@ module _ {S H : Type 0} (held : S → H) where
   pub awake_is : (g : Goroutine S) → g.asleep ≡ false → awake_of held (Some g) ≡ Some (clocked held g)
   awake_is g e = ap (λ b. cond b None (Some (clocked held g))) e
 
-  -- the goroutine that is awake at a place
+  -- the goroutine that is awake at index n
   pub here_is : (xs : List (Option (Goroutine S))) (n : ℕ) → slice_index_or (awake_in held xs) n None ≡ here (awake_of held) xs n
   here_is [] n = refl
   here_is (x ∷ xs) zero = refl
@@ -60,7 +60,7 @@ module _ {S H : Type 0} (held : S → H) where
     | inr ne ↦ h.others k ne
   ]
 
-  -- a goroutine that is awake has no bed
+  -- `bed_of` a goroutine that is awake is `None`
   pub awake_no_bed : (x : Option (Goroutine S)) (s : Clocked H) → awake_of held x ≡ Some s → bed_of held x ≡ None
   awake_no_bed None s e = cc
   awake_no_bed (Some g) s e = go g.asleep e
@@ -155,7 +155,7 @@ module _ {S : Type 0} (K : GoroutineKind) (held : S → K.State) where
   wakes_more clock (v ∷ vs) w old mid new h set = (h.0, h.1, wakes_more clock vs w h.0 mid new h.2 set)
 
 module _ {S H : Type 0} (held : S → H) where
-  -- the awake goroutine at a place falls asleep
+  -- the awake goroutine at index n falls asleep
   pub laid : (old : List (Option (Goroutine S))) (n : ℕ) (g h : Goroutine S) (s : Clocked H) → slice_index_or old n None ≡ Some g → n < length old → h ≡ record g { asleep = true } → here (awake_of held) old n ≡ Some s → Sets held old (slice_set old n (Some h)) n None (Some s)
   laid old n g h s at lt is up =
       sets held old n (Some h) None (Some s) lt
@@ -166,14 +166,14 @@ module _ {S H : Type 0} (held : S → H) where
       who true e = cc
       who false e = e
 
-  -- the awake goroutine at a place has ended
+  -- the awake goroutine at index n has ended
   pub ended : (old : List (Option (Goroutine S))) (n : ℕ) → n < length old → Sets held old (slice_set old n None) n None None
   ended old n lt = sets held old n None None None lt refl refl
 
   pub beyond : (old : List (Option (Goroutine S))) (n : ℕ) (s : Clocked H) → length old ≤ n → here (awake_of held) old n ≡ Some s → ⊥
   beyond old n s le is = let none = get_or_past old n None le in let e : here (awake_of held) old n ≡ None = ap (awake_of held) none in cc
 
-  -- a goroutine that is awake has a place
+  -- a goroutine that is awake has an index
   pub within : (old : List (Option (Goroutine S))) (n : ℕ) (s : Clocked H) → here (awake_of held) old n ≡ Some s → n < length old
   within old n s up = elim (cases_lt n (length old)) [ inl lt ↦ lt | inr le ↦ absurd (beyond old n s le up) ]
 

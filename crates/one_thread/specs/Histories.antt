@@ -13,7 +13,7 @@ use Rattle.one_thread.specs.declared.goroutine.Goroutine.{Goroutine}
 use Rattle.one_thread.specs.Places.{AreWithin}
 use Rattle.one_thread.specs.Worlds.{IsWorldOf}
 
--- where the goroutines stand, what they share, the clock limit, and how the run has ended, if it has
+-- the goroutines, what they share, the clock limit, and how the run has ended, if it has
 pub record OpenValue (S : Type 0) : Type 0 where
   pub places : List (Option (Goroutine S))
   pub shared : SharedValue
@@ -37,7 +37,7 @@ Counts clock old None new = new.events ≡ old.events
 Counts clock old (Some event) new = (new.events ≡ old.events + 1) × (event.clock ≡ clock)
 
 module _ {S : Type 0} (K : GoroutineKind) (held : S → K.State) where
-  -- the goroutines and what they share are those of the run's world after some moves, and these are its events and its output so far
+  -- the goroutines and what they share are those of the run's world after some moves; `seen` and `printed` are its events and output
   pub record HasHistory (limit : ℕ) (places : List (Option (Goroutine S))) (v : SharedValue) (seen : List Event) (printed : List ℕ) : Type 0 where
     pub moves : ℕ
     pub world : IsWorldOf K held (moment K limit moves) places v
@@ -51,7 +51,7 @@ module _ {S : Type 0} (K : GoroutineKind) (held : S → K.State) where
   IsLastWorld Deadlock w places v = IsWorldOf K held w places v
   IsLastWorld (Panicked cause) w places v = IsWorldOf K held w places v
 
-  -- these are all of the run's events and its whole output, and it ends so
+  -- `seen` are all of the run's events, `printed` is its whole output, and it ends as `ending`
   pub record HasEnded (limit : ℕ) (places : List (Option (Goroutine S))) (v : SharedValue) (seen : List Event) (printed : List ℕ) (ending : Ending) : Type 0 where
     pub moves : ℕ
     pub world : IsLastWorld ending (moment K limit moves) places v
@@ -63,7 +63,7 @@ module _ {S : Type 0} (K : GoroutineKind) (held : S → K.State) where
   HasHadTo None run events output = HasHistory run.limit run.places run.shared events output
   HasHadTo (Some end) run events output = HasEnded run.limit run.places run.shared events output end
 
-  -- the run has had these events, which printed this; if it has ended, these are all
+  -- the run has had these events, which printed this output; if it has ended, it has no others
   abbrev pub HasHad : OpenValue S → List Event → List ℕ → Type 0
   HasHad run events output = HasHadTo run.end run events output
 

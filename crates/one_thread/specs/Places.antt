@@ -1,4 +1,4 @@
--- Goroutines in memory, goroutine n at place n, and what changes of them.
+-- Goroutines in memory, goroutine n at index n, and how they change.
 use Rattle.std.specs.Prelude.{◌≡◌, ◌≢◌, ◌≤◌, ℕ, ◌+◌, true, cond, List, [], ◌∷◌, length, map, Option, Some, None, option_map, slice_index_or, slice_set}
 use Rattle.std.specs.List.{All}
 use Rattle.logical_clock.specs.declared.key.Key.{Key}
@@ -16,11 +16,11 @@ abbrev pub clock_of : {S : Type 0} → Option (Goroutine S) → Option ℕ
 clock_of None = None
 clock_of (Some g) = cond g.asleep None (Some g.clock)
 
--- the key of the goroutine at place n, if it is awake
+-- the key of the goroutine at index n, if it is awake
 abbrev pub key_of : {S : Type 0} → ℕ → Option (Goroutine S) → Option Key
 key_of n place = option_map (λ (c : ℕ). record { clock = c; number = n }) (clock_of place)
 
--- slot n has the key of the goroutine at place n, if it is awake
+-- slot n has the key of the goroutine at index n, if it is awake
 pub record AreKeyed {S : Type 0} (places : List (Option (Goroutine S))) (slots : List (Option Key)) : Type 0 where
   pub size : length slots ≡ length places
   pub keys : (n : ℕ) → slice_index_or slots n None ≡ key_of n (slice_index_or places n None)
@@ -40,7 +40,7 @@ IsSoon limit turns.Ticked = Unit {0}
 IsSoon limit (turns.Asks request clock) = clock + 1 ≤ limit
 IsSoon limit turns.Exhausted = Unit {0}
 
--- what stands at a place
+-- the `view` of what is at index n
 abbrev pub here : {A B : Type 0} → (Option A → Option B) → List (Option A) → ℕ → Option B
 here view places n = view (slice_index_or places n None)
 
@@ -64,7 +64,7 @@ module _ {S H : Type 0} (held : S → H) where
   abbrev pub bed_at : List (Option (Goroutine S)) → ℕ → Option (Clocked H)
   bed_at places n = here bed_of places n
 
-  -- at place n stands this one now, if it is awake, or that one, if it is asleep; the others stay
+  -- the goroutine at index n is now `up` if it is awake, `down` if it is asleep; the others don't change
   pub record Sets (old new : List (Option (Goroutine S))) (n : ℕ) (up down : Option (Clocked H)) : Type 0 where
     pub awake : awake_in new ≡ slice_set (awake_in old) n up
     pub bed : bed_at new n ≡ down
@@ -90,12 +90,12 @@ module _ {S : Type 0} (K : GoroutineKind) (held : S → K.State) where
     pub here : here (awake_of held) places n ≡ Some s
     pub asks : local K limit s ≡ None
 
-  -- the goroutine at place n, if it is awake, makes its local step
+  -- the goroutine at index n, if it is awake, makes its local step
   abbrev pub StepsAt : ℕ → List (Option (Goroutine S)) → ℕ → List (Option (Goroutine S)) → Type 0
   StepsAt limit old n new =
       ((w : Rest K.State) → move_at (rules K limit) (record { awake = awake_in held old; shared = w }) n (here (awake_of held) old n) ≡ record { awake = awake_in held new; shared = w }) × SleepOn held old new
 
-  -- the goroutine at place n, if it is awake, makes its local step, or has none and makes a request
+  -- the goroutine at index n, if it is awake, makes its local step, or has none and makes a request
   abbrev pub AdvancesAt : ℕ → Turn → List (Option (Goroutine S)) → ℕ → List (Option (Goroutine S)) → Type 0
   AdvancesAt limit turns.Slid old n new = StepsAt limit old n new
   AdvancesAt limit turns.Ticked old n new = StepsAt limit old n new
@@ -103,6 +103,6 @@ module _ {S : Type 0} (K : GoroutineKind) (held : S → K.State) where
       (s : Clocked K.State) × IsAt limit old n s × (asks K limit s ≡ Some (request_of request)) × (clock ≡ s.clock) × (awake_in held new ≡ awake_in held old) × SleepOn held old new
   AdvancesAt limit turns.Exhausted old n new = (s : Clocked K.State) × IsAt limit old n s × (asks K limit s ≡ Some Exhausted)
 
--- whatever their states mean: the goroutine at place n, if it was awake, has fallen asleep
+-- whatever their states mean: the goroutine at index n, if it was awake, has fallen asleep
 abbrev pub IsLaid : {S : Type 0} → List (Option (Goroutine S)) → ℕ → List (Option (Goroutine S)) → Type 0
 IsLaid {S} old n new = (g : Goroutine S) → slice_index_or old n None ≡ Some g → new ≡ slice_set old n (Some (record g { asleep = true }))

@@ -17,7 +17,7 @@ use Rattle.whole_run.specs.Runs.{IsWhole}
 use Rattle.one_thread.specs.declared.goroutine.Goroutine.{Goroutine}
 use Rattle.one_thread.specs.Places.{IsAt, Sets, Wakes, awake_in, bed_at, clock_of, clocked}
 
--- none of these numbers is n; each of them stands there once
+-- n is not among these numbers
 abbrev pub Misses : ℕ → List ℕ → Type 0
 Misses n [] = Unit {0}
 Misses n (m ∷ ms) = (m ≢ n) × Misses n ms
@@ -30,7 +30,7 @@ abbrev pub numbers : List Sleeper → List ℕ
 numbers ss = map (λ (s : Sleeper). s.number) ss
 
 module _ {S : Type 0} (K : GoroutineKind) (held : S → K.State) where
-  -- each of these sleeps in the state that is kept for it
+  -- the state in `beds` of each sleeper is the one that is kept for it
   abbrev pub LieIn : List (Option (Goroutine S)) → List (Bed K.State) → List Sleeper → Type 0
   LieIn places beds [] = Unit {0}
   LieIn places beds (x ∷ xs) = (in_bed x.number beds ≡ bed_at held places x.number) × LieIn places beds xs

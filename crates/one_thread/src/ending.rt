@@ -1,4 +1,4 @@
-//! Where all goroutines stand when a run has ended.
+//! The state of all goroutines at the end of a run.
 
 ghost use Rattle.std.specs.Prelude.{◌≡◌, ◌^◌, ◌≤◌, IfOk, IfSome, None, Some};
 ghost use Rattle.word.specs.Related.{kind_of};
@@ -22,11 +22,11 @@ pub struct Ended<S: Drop> {
     pub end: End,
     /// The goroutine that had the last turn, and at which clock; none if no goroutine was awake.
     pub turn: Option<Key>,
-    /// All goroutines that had not ended, goroutine n at place n.
+    /// All goroutines that had not ended, goroutine n at index n.
     pub goroutines: Vec<Option<Goroutine<S>>>,
 }
 
-/// Like `run`, but makes at most `most` moves, and returns where all goroutines stand when the run has ended; none if it has not
+/// Like `run`, but makes at most `most` moves, and returns the state of all goroutines at the end of the run; none if it has not
 /// ended by then.
 ///
 /// Errors: `Write`; `Memory`.

@@ -21,7 +21,7 @@ use std::marker::Model;
 use word::end::End;
 use word::request::{Event, Request};
 
-/// A run that was begun: where all goroutines stand after some of its events, and how it has ended, if it has.
+/// A run that was begun: the state of all goroutines after some of its events, and how it has ended, if it has.
 pub struct OpenRun<S: Drop> {
     pub(crate) goroutines: Places<S>,
     pub(crate) shared: Shared,
@@ -78,7 +78,7 @@ impl<S: Drop> OpenRun<S> {
         self.goroutines.get(number as usize)
     }
 
-    /// All goroutines, goroutine n at place n, and what they share.
+    /// All goroutines, goroutine n at index n, and what they share.
     pub(crate) fn into_parts(self) -> (Vec<Option<Goroutine<S>>>, Shared)
         ensures goroutines { result.0.items ≡ self.places }
         ensures shared { result.1 ≡ self.shared }

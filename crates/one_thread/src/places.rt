@@ -1,4 +1,4 @@
-//! All goroutines, goroutine n at place n.
+//! All goroutines, goroutine n at index n.
 
 ghost use Rattle.std.specs.Prelude.{◌≡◌, ℕ, ◌^◌, ◌≤◌, ◌∷◌, ◌++◌, [], IfNone, IfSome, None, OnOk, Some, IfOk, slice_index_or, slice_set};
 ghost use Rattle.logical_clock.specs.Order.{keys, least};
@@ -20,8 +20,8 @@ use std::sync::ledger::{Blank, Ledger};
 use steps::Steps;
 use word::request::Reply;
 
-/// All goroutines, goroutine n at place n; place 0 is empty. The keys of those that are awake stand in a heap, so the least one
-/// is found without a walk.
+/// All goroutines, goroutine n at index n; index 0 is empty. A heap has the keys of those that are awake, so the least key
+/// is found without a scan.
 pub(crate) struct Places<S: Drop> {
     all: Vec<Option<Goroutine<S>>>,
     /// Slot n has the key of goroutine n, if it is awake.

@@ -1,4 +1,4 @@
-//! Where all goroutines stand at a moment of a run.
+//! The state of all goroutines at a moment of a run.
 
 ghost use Rattle.std.specs.Prelude.{◌≡◌, ◌↔◌, ◌^◌, ◌≤◌, IfOk, IsTrue, None, option_map};
 ghost use Rattle.word.specs.Related.{kind_of};
@@ -42,7 +42,7 @@ pub struct Snapshot<S: Drop> {
     pub end: Option<End>,
     /// The last event, if there was one.
     pub event: Option<Event>,
-    /// All goroutines that have not ended, goroutine n at place n.
+    /// All goroutines that have not ended, goroutine n at index n.
     pub goroutines: Vec<Option<Goroutine<S>>>,
     /// The channels, the goroutines that sleep there, and how many events there were.
     pub shared: Shared,
@@ -62,8 +62,8 @@ impl<S: Drop> Drop for Snapshot<S> {
     }
 }
 
-/// Like `run`, but only goes as far as `until`, and returns where all
-/// goroutines stand then. What they print is dropped. At the clock limit nothing is claimed about where they stand.
+/// Like `run`, but only goes as far as `until`, and returns the state of all
+/// goroutines then. Their output is dropped. At the clock limit nothing is claimed about their state.
 ///
 /// Errors: out of memory, as which 2^64 moves count.
 pub fn run_until<P: Interpreter>(

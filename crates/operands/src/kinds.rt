@@ -39,7 +39,7 @@ fn as_kind(kind: WordKind, word: Word) -> Word
     }
 }
 
-/// The word of a kind that stands at an index of these, a zero if there is none.
+/// The word of this kind at `index` of `words`, a zero if there is none.
 pub fn word_at(kind: WordKind, words: &[Word], index: usize) -> Word
     ensures { result ≡ word_for kind (drop index words.now) }
 {
@@ -49,7 +49,7 @@ pub fn word_at(kind: WordKind, words: &[Word], index: usize) -> Word
     }
 }
 
-/// Words of these kinds over as many others: those given, and zeros where there are no more.
+/// Overwrites `made` with as many words of these kinds: those of `words`, then zeros.
 #[inline(always)]
 fn overwrite(made: &mut [Word], kinds: &[WordKind], words: &[Word])
     requires { length made.old ≡ length kinds.now }
@@ -60,7 +60,7 @@ fn overwrite(made: &mut [Word], kinds: &[WordKind], words: &[Word])
     }
 }
 
-/// Words of these kinds in place of more or fewer others: those given, and zeros where there are no more.
+/// Replaces `made`, of another length, by words of these kinds: those of `words`, then zeros.
 #[inline(never)]
 fn refill(made: &mut Vec<Word>, kinds: &[WordKind], words: &[Word]) -> Result<(), AllocError>
     ensures { OnOk result (made.new.items ≡ fitted_of kinds.now words.now) }
@@ -72,7 +72,7 @@ fn refill(made: &mut Vec<Word>, kinds: &[WordKind], words: &[Word]) -> Result<()
     Ok(())
 }
 
-/// Words of these kinds in place of others: those given, and zeros where there are no more.
+/// Replaces `made` by words of these kinds: those of `words`, then zeros.
 #[inline(always)]
 pub fn fit(made: &mut Vec<Word>, kinds: &[WordKind], words: &[Word]) -> Result<(), AllocError>
     ensures { OnOk result (made.new.items ≡ fitted_of kinds.now words.now) }

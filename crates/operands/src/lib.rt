@@ -1,4 +1,4 @@
-//! What the machine's instructions take and make of words, whatever frames they stand in.
+//! What the machine's instructions take and make of words, whatever their frames are.
 #![tactic(auto)]
 
 pub mod kinds;

@@ -34,7 +34,7 @@ pub record IsNext (p : Progress) (piece : Piece) : Type 0 where
   pub kind : piece.kind ≡ p.kind
   pub from : piece.from ≡ p.place
 
--- the refusal of the product that it is
+-- the `Fault` of a `DrainFault`
 abbrev pub fault_of : DrainFault → Fault
 fault_of drained.NotYours = faults.NotYours
 fault_of drained.Write = faults.Write

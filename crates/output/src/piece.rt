@@ -12,7 +12,7 @@ pub enum Kind {
     Trace,
 }
 
-/// Bytes that stand at a place of the output, or of the trace, of a program's run.
+/// Bytes of the output, or of the trace, of a program's run, from an offset on.
 pub struct Piece {
     /// The program that runs.
     pub program: Arc<Verified>,
@@ -20,7 +20,7 @@ pub struct Piece {
     pub limit: u64,
     /// What they are bytes of.
     pub kind: Kind,
-    /// How many bytes stand before these.
+    /// How many bytes come before these.
     pub from: u128,
     pub bytes: Vec<u8>,
     ghost ends: { from + vec_len bytes < 2 ^ 128 },

@@ -33,7 +33,7 @@ pub fn parse(alloc: Global, source: &Source, tokens: &[Token]) -> Result<Tree, F
     ensures low { IfOk result (λ tree. height (tree_of tree) ≤ MAX_HEIGHT) }
     ensures few { IfOk result (λ tree. most_entries (tree_of tree) ≤ MAX_ENTRIES) }
     ensures clauses { IfOk result (λ tree. most_clauses (tree_of tree) ≤ MAX_CLAUSES) }
-    // Each node stands where its own tokens do.
+    // Each node has the span of its own tokens.
     ensures spans { IfOk result (λ tree. spans_of tree ≡ file_spans tokens.now (tree_of tree)) }
     // No tree at all has them.
     ensures syntax { IfErr result (λ fault. refusal_of fault ≡ Some Syntax → (file : File) → Spells (lexemes (bytes_of source.now) tokens.now) file → ⊥) }

@@ -19,7 +19,7 @@ use std::alloc::Global;
 use syntax::limits::{MAX_ENTRIES, MAX_HEIGHT};
 use syntax::{FunctionNode, StatementNode, StructNode, TopNode, TypeNode};
 
-/// The most levels of a function's statements: above them stand the file, its function and the function's block.
+/// The most levels of a function's statements: above them are the file, its function and the function's block.
 pub const STATEMENT_ROOM: u32 = MAX_HEIGHT - 3;
 
 /// A declaration of a struct type.

@@ -151,7 +151,7 @@ binding_up a b ws (Some s) le e =
       | inr ge ↦ let t : leb a (strength s) ≡ true = le-leb a (strength s) (omega arith) in let bad = rw t at e in absurd cc
     ]
 
--- where nothing binds so strongly, nothing binds more strongly
+-- if nothing binds so strongly, nothing binds more strongly
 pub none_above : (a b : ℕ) (ws : List Lexeme) → a ≤ b → step_at a ws ≡ None → step_at b ws ≡ None
 unfolding step_at
 none_above a b [] le e = refl
@@ -197,7 +197,7 @@ past_step least s ws lt = rw (step_again s, lt-leb least (strength s) lt) refl
 
 -- ---- what follows
 
--- no parenthesis follows, and no brace where that would begin a composite literal
+-- no parenthesis follows, and no brace if that would begin a composite literal
 abbrev pub Shut : (literals : Bool) → List Lexeme → Type 0
 Shut literals [] = Unit {0}
 Shut literals (Literal value ∷ rest) = Unit {0}
@@ -285,7 +285,7 @@ last_in (Behind v vs) trailing last = tt
 
 -- ---- trees
 
--- how a tree is read where nothing goes on
+-- how a tree is read if nothing goes on after it
 abbrev pub IsRead : (literals : Bool) (most : ℕ) → Expression → Type 0
 IsRead literals most t = (room least : ℕ) (rest : List Lexeme) → least ≤ outer_precedence t → step_at least rest ≡ None → Shut literals rest
     → ReadBack (expression literals most room least (expression_words t ++ rest)) t rest (expression_height t) room (λ listing. expression_longest listing t) most
@@ -566,14 +566,14 @@ pub closing_ends : (literals : Bool) (close : TokenKind) (trailing : Bool) (rest
 closing_ends literals close true rest is = comma_ends literals (Mark close ∷ rest)
 closing_ends literals close false rest is = close_ends literals close rest is
 
--- a list's end is read, where no entry starts with its closing mark
+-- a list's end is read, if no entry starts with its closing mark
 pub ending_again : (separator : TokenKind) (starts : List Lexeme → Bool) (close : TokenKind) (trailing : Bool) (rest : List Lexeme) → is_kind close separator ≡ false → starts (Mark close ∷ rest) ≡ false
     → entry_next separator starts close (closing separator close trailing rest) ≡ Ok (End trailing, rest)
 unfolding entry_next
 ending_again separator starts close true rest other none = rw (is_kind_same separator, none, expect_again close rest) refl
 ending_again separator starts close false rest other none = rw (other, expect_again close rest) refl
 
--- another entry is read after a separator, where one starts so
+-- another entry is read after a separator, if one starts so
 pub more_entries : (separator : TokenKind) (starts : List Lexeme → Bool) (close : TokenKind) (words : List Lexeme) → starts words ≡ true → entry_next separator starts close (Mark separator ∷ words) ≡ Ok (More, words)
 unfolding entry_next
 more_entries separator starts close words is = rw (is_kind_same separator, is) refl
@@ -679,7 +679,7 @@ mutual
 pub reads : (literals : Bool) (most : ℕ) (t : Expression) → IsGrouped literals t → IsRead literals most t
 reads literals most t g = is_read literals most t (goes_on literals most t g)
 
--- calls and receives, which may also stand alone
+-- calls and receives, which may also be statements
 abbrev pub IsLone : Expression → Type 0
 IsLone (Call function values trailing) = Unit {0}
 IsLone (Receive channel) = Unit {0}

@@ -89,7 +89,7 @@ step_is least (Mark kind ∷ ws) s after e =
     let b = binding_is least ws (infix_of kind) s after e in
     ((λ i. Mark (step_mark_is kind (is_kind kind kinds.Period) s refl b.0 i) ∷ b.1 i), b.2)
 
--- where nothing binds more strongly than so, the next step doesn't
+-- if nothing binds more strongly than `n`, the next step doesn't
 order_of : (n : ℕ) (ws : List Lexeme) (s : Infix) (after : List Lexeme) → ws ≡ Mark (step_kind s) ∷ after → step_at (suc n) ws ≡ None → strength s ≤ n
 order_of n ws s after is none =
     elim (cases_lt n (strength s)) [
@@ -104,7 +104,7 @@ pub record IsSound (literals : Bool) (most room least : ℕ) (ws : List Lexeme) 
   pub grouped : IsGrouped literals t
   pub low : expression_height t ≤ room
   pub few : AreFew (λ listing. expression_longest listing t) most
-  -- a unary operator is read even where only a selection binds so strongly
+  -- a unary operator is read even if only a selection binds so strongly
   pub strong : min least 6 ≤ outer_precedence t
   pub none : step_at least rest ≡ None
 

@@ -27,12 +27,12 @@ in_turn r f y e goes =
     let step = bind_ok r f y e in
     goes step.0 step.1 step.2
 
--- where a test that holds refuses
+-- a test that refuses if it holds
 pub unless_ok : {A : Type 0} (b : Bool) (d : Refusal) (r : Result A Refusal) (y : A) → cond b (Err d) r ≡ Ok y → (b ≡ false) × (r ≡ Ok y)
 unless_ok true d r y e = absurd cc
 unless_ok false d r y e = (refl, e)
 
--- where a test that fails refuses
+-- a test that refuses if it fails
 pub when_ok : {A : Type 0} (b : Bool) (d : Refusal) (r : Result A Refusal) (y : A) → cond b r (Err d) ≡ Ok y → (b ≡ true) × (r ≡ Ok y)
 when_ok true d r y e = (refl, e)
 when_ok false d r y e = absurd cc

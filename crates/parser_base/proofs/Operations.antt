@@ -19,7 +19,7 @@ opens literals most (suc room) least ws left rest h e =
     let first = rw same at e in
     ap (λ (r : Reading Expression). r >>= λ x. operations (expression literals most room) (suc room) least (suc room) x.0 x.1) first
 
--- and fails where that fails
+-- and fails if that fails
 pub opens_fails : (fault : ParseFault) (literals : Bool) (most room least : ℕ) (ws : List Lexeme) → 1 ≤ room → Fails fault (operand literals (expression literals most (room - 1)) (room - 1) most ws) → Fails fault (expression literals most room least ws)
 unfolding expression
 opens_fails fault literals most zero least ws h e = absurd (omega arith)

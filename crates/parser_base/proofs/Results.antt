@@ -7,11 +7,11 @@ fails_with : {A B : Type 0} (fault : ParseFault) (refusal : Option Refusal) (rea
 fails_with fault None read all fails on = fails
 fails_with fault (Some r) read all fails on = on r fails
 
--- where all of a reading fails as its step does
+-- if all of a reading fails as its step does
 pub fails_on : {A B : Type 0} (fault : ParseFault) (read : Result A Refusal) (all : Result B Refusal) → Fails fault read → ((r : Refusal) → read ≡ Err r → all ≡ Err r) → Fails fault all
 fails_on fault read all fails on = fails_with fault (named_by fault) read all fails on
 
--- where the first of two steps fails
+-- if the first of two steps fails
 pub step_fails : {A B : Type 0} (fault : ParseFault) (read : Result A Refusal) (next : A → Result B Refusal) → Fails fault read → Fails fault (read >>= next)
 step_fails fault read next fails = fails_on fault read (read >>= next) fails (λ r e. rw e refl)
 

@@ -53,7 +53,7 @@ begun_alone literals e rest first g none is_shut = record {
   goes = inl (refl, refl);
 }
 
--- what begins with the first operand of a step, whose words stand before what follows the mark of the step
+-- what begins with the first operand of a step, whose words are before what follows the mark of the step
 begun_within : (literals : Bool) (e left : Expression) (s : Infix) (ws rest : List Lexeme) → before e rest ≡ before left (Mark (step_kind s) ∷ ws) → expression_height left ≤ expression_height e → ((listing : Listing) → expression_longest listing left ≤ expression_longest listing e)
     → outer_precedence e ≤ outer_precedence left → outer_precedence e ≤ strength s → Begun literals left (Mark (step_kind s) ∷ ws) → Begun literals e rest
 begun_within literals e left s ws rest same low few strong strong_step b = record {

@@ -14,11 +14,11 @@ lexeme_of (words.Name bytes) = Name bytes.now
 lexeme_of (words.Text bytes) = Text (text bytes.now)
 lexeme_of (words.Mark kind) = Mark kind
 
--- the lexemes from the cursor's place on
+-- the lexemes from the cursor on
 abbrev pub ahead : Cursor → List Lexeme
 ahead cursor = lexemes (bytes_of cursor.source.now) cursor.tokens.now
 
--- the place of the first token, or the end of a source of `end` bytes
+-- the span of the first token, or the end of a source of `end` bytes
 abbrev pub place_at : ℕ → List Token → Span
 place_at end [] = record { from = end; to = end }
 place_at end (token ∷ rest) = token.span

@@ -9,7 +9,7 @@ use Rattle.go_text.specs.declared.rule.LimitKind.TheVariants as limits
 use Rattle.parser_base.specs.declared.fault.ParseFault.{ParseFault}
 use Rattle.parser_base.specs.declared.fault.ParseFault.TheVariants as parse
 
--- a place whose line and column are added by the code that has the source
+-- a location as a span; the code that has the source adds its line and column
 abbrev pub at : Span → Place
 at span = record { span = span; position = None }
 

@@ -40,7 +40,7 @@ literal text = if nat_le (integer_value text) (2 ^ 100) then Some (integer_value
 abbrev pub escape : ℕ → ℕ
 escape letter = if letter == 110 then 10 else (if letter == 116 then 9 else letter)
 
--- the bytes that a string stands for to its quote, where a backslash may stand before it
+-- the bytes that a string stands for, up to its quote; `escaped` if a backslash is before it
 abbrev pub text_behind : (escaped : Bool) → List ℕ → List ℕ
 text_behind escaped [] = []
 text_behind true (byte ∷ rest) = escape byte ∷ text_behind false rest

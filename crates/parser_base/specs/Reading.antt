@@ -115,7 +115,7 @@ abbrev pub followed : {A : Type 0} → A → (List Lexeme → Reading (List A ×
 followed first others (More, words) = others words >>= λ found. Ok ((first ∷ found.0.0, found.0.1), found.1)
 followed first others (End trailing, words) = Ok ((first ∷ [], trailing), words)
 
--- the entries of a list, at most n, to its end, and whether a separator stands before that
+-- the entries of a list, at most n, to its end, and whether a separator is before that
 unfoldable pub listed : {A : Type 0} → (List Lexeme → Reading A) → (List Lexeme → Reading Next) → Refusal → ℕ → List Lexeme → Reading (List A × Bool)
 listed one next full zero words = Err full
 listed one next full (suc most) words = one words >>= λ first. next first.1 >>= λ after. followed first.0 (listed one next full most) after

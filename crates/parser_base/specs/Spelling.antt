@@ -17,7 +17,7 @@ use Rattle.parser_base.specs.Lexemes.{Lexeme, Literal, Name, Mark}
 abbrev pub makes_value : List ℕ → Bool
 makes_value name = bytes_eq name (codes "make") || bytes_eq name (codes "len") || bytes_eq name (codes "cap")
 
--- the names that stand only in calls of their own
+-- the names that occur only in calls of their own
 abbrev pub is_builtin : List ℕ → Bool
 is_builtin name = makes_value name || bytes_eq name (codes "close") || bytes_eq name (codes "print") || bytes_eq name (codes "println")
 
@@ -27,7 +27,7 @@ is_builtin name = makes_value name || bytes_eq name (codes "close") || bytes_eq 
 abbrev pub behind : TokenKind → List Lexeme → List Lexeme
 behind kind rest = Mark kind ∷ rest
 
--- each of a list after a separator, and then these; `each x` and `separator` say what stands before what follows
+-- each of a list after a separator, and then these; `each x` and `separator` say what is before what follows
 abbrev pub separated : {A : Type 0} → (A → List Lexeme → List Lexeme) → (List Lexeme → List Lexeme) → List A → List Lexeme → List Lexeme
 separated each separator [] rest = rest
 separated each separator (first ∷ others) rest = separator (each first (separated each separator others rest))
@@ -47,12 +47,12 @@ abbrev pub AreSome : {A : Type 0} → (A → Type 0) → List A → Type 0
 AreSome P [] = ⊥
 AreSome P (first ∷ rest) = P first × AreAll P rest
 
--- what closes a list, after whose last entry a separator may stand, and then these
+-- what closes a list, whose last entry a separator may follow, and then these
 abbrev pub closing : (separator close : TokenKind) → (trailing : Bool) → List Lexeme → List Lexeme
 closing separator close true rest = Mark separator ∷ Mark close ∷ rest
 closing separator close false rest = Mark close ∷ rest
 
--- A separator stands only after an entry.
+-- A separator follows only an entry.
 abbrev pub IsTrailing : {A : Type 0} → List A → (trailing : Bool) → Type 0
 IsTrailing [] trailing = trailing ≡ false
 IsTrailing (first ∷ rest) trailing = Unit {0}
@@ -75,7 +75,7 @@ abbrev pub is_receiver : TypeExpression → Bool
 is_receiver (Channel directions.Receive element) = true
 is_receiver kind = false
 
--- `chan` `<-` always begins a channel to send on, so that what `chan` alone stands before doesn't begin with `<-`
+-- `chan` `<-` always begins a channel to send on, so that what follows `chan` alone doesn't begin with `<-`
 abbrev pub IsElement : Direction → TypeExpression → Type 0
 IsElement directions.Both element = is_receiver element ≡ false
 IsElement direction element = Unit {0}
@@ -170,7 +170,7 @@ abbrev mutual
   more_words NoMore = []
   more_words (Behind first rest) = Mark kinds.Comma ∷ (expression_words first ++ more_words rest)
 
--- A comma stands only after a value of a literal or a call.
+-- A comma follows only a value of a literal or a call.
 abbrev pub HasLast : Expressions → (trailing : Bool) → Type 0
 HasLast NoMore trailing = trailing ≡ false
 HasLast (Behind first rest) trailing = Unit {0}
@@ -179,8 +179,8 @@ HasLast (Behind first rest) trailing = Unit {0}
 abbrev pub before : Expression → List Lexeme → List Lexeme
 before expression rest = expression_words expression ++ rest
 
--- Operators of equal precedence associate to the left, and weaker operands stand in parentheses. Composite literals
--- stand only where `literals` holds: not in the header of an if or a for.
+-- Operators of equal precedence associate to the left, and weaker operands are in parentheses. Composite literals
+-- occur only if `literals` holds: not in the header of an if or a for.
 abbrev mutual
   pub IsGrouped : (literals : Bool) → Expression → Type 0
   IsGrouped literals (Integer value) = Unit {0}

@@ -46,7 +46,7 @@ pub fn makes_value(name: &[u8]) -> bool
     is_word(name, b"make") || is_word(name, b"len") || is_word(name, b"cap")
 }
 
-/// Whether a name stands only in calls of its own.
+/// Whether a name occurs only in calls of its own.
 pub fn is_builtin(name: &[u8]) -> bool
     ensures { result ≡ is_builtin name.now }
 {
@@ -59,7 +59,7 @@ pub fn is_builtin(name: &[u8]) -> bool
 impl<'a> Cursor<'a> {
     ghost use Rattle.parser_base.specs.Cursor.{ahead, lexeme_of, place_at};
 
-    /// The place before all tokens.
+    /// The cursor before all tokens.
     pub fn new(source: &'a Source, tokens: &'a [Token]) -> Cursor<'a>
         ensures { ahead result ≡ lexemes (bytes_of source.now) tokens.now }
     {
@@ -73,7 +73,7 @@ impl<'a> Cursor<'a> {
         self.tokens.len()
     }
 
-    /// The place of the first token, or the end of the text.
+    /// The span of the first token, or the end of the source.
     pub fn place(self) -> Span
         ensures { result ≡ place_at (length (bytes_of self.entry.source.now)) self.entry.tokens.now }
     {
@@ -106,7 +106,7 @@ impl<'a> Cursor<'a> {
         ))
     }
 
-    /// The cursor after a mark that must stand here.
+    /// The cursor after a mark that must be here.
     #[tactic(auto, unfolding(crate::specs::Reading::expect))]
     pub fn expect(self, kind: TokenKind) -> Result<Cursor<'a>, ParseFault>
         ensures gives { Gives (λ x. ahead x) result (expect kind (ahead self.entry)) }
@@ -118,7 +118,7 @@ impl<'a> Cursor<'a> {
         }
     }
 
-    /// The cursor after a name that must stand here.
+    /// The cursor after a name that must be here.
     #[tactic(auto, unfolding(crate::specs::Reading::expect_name))]
     pub fn expect_name(self, name: &[u8]) -> Result<Cursor<'a>, ParseFault>
         ensures gives { Gives (λ x. ahead x) result (expect_name name.now (ahead self.entry)) }

@@ -274,7 +274,7 @@ pub fn argument(
     to_parenthesis(alloc, literals, room, inside)
 }
 
-/// An expression in parentheses, after the opening one, which stands at `first`.
+/// An expression in parentheses, after the opening one, which is at `first`.
 #[cycle(expression)]
 #[tactic(auto, unfolding(crate::specs::Reading::to_parenthesis, crate::specs::Reading::expression))]
 fn parenthesized<'a>(
@@ -409,7 +409,7 @@ fn cap_call(
     })
 }
 
-/// A call of a built-in function that makes or measures a channel, after its name, which stands at `first`.
+/// A call of a built-in function that makes or measures a channel, after its name, which is at `first`.
 #[cycle(expression)]
 #[tactic(auto, unfolding(crate::specs::Reading::builtin))]
 fn builtin_call<'a>(
@@ -439,7 +439,7 @@ fn builtin_call<'a>(
     Err(ParseFault::Syntax(first.place()))
 }
 
-/// A receive, after its arrow, which stands at `first`.
+/// A receive, after its arrow, which is at `first`.
 #[cycle(expression)]
 #[tactic(auto, unfolding(crate::specs::Reading::expression))]
 fn receive<'a>(
@@ -465,7 +465,7 @@ fn receive<'a>(
     })
 }
 
-/// The operand of a unary operator, which stands at `first`.
+/// The operand of a unary operator, which is at `first`.
 #[cycle(expression)]
 #[tactic(auto, unfolding(crate::specs::Reading::expression))]
 fn unary_expression<'a>(
@@ -654,7 +654,7 @@ pub fn measured_expression(
 }
 
 /// An expression of at most `room` levels, whose outermost operator binds at least as strongly as `least`. Composite literals
-/// stand in it only if `literals` holds.
+/// occur in it only if `literals` holds.
 pub fn expression(
     alloc: Global,
     literals: bool,

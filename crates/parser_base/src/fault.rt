@@ -7,7 +7,7 @@ ghost use Rattle.parser_base.specs.Faults.{fault_of, many};
 use go_text::{Fault, LimitKind, Place, Span};
 use std::alloc::{AllocError, AllocFailed};
 
-/// Why nothing is read, with the token where that shows, or the end of the source. All that reads passes it on, so it is small:
+/// Why nothing is read, with the token that shows it, or the end of the source. All that reads passes it on, so it is small:
 /// `Fault`, which a source file is refused with, is made of it once nothing more is tried.
 #[derive(Clone, Copy)]
 pub enum ParseFault {

@@ -7,7 +7,7 @@ use crate::cursor::Cursor;
 pub enum Next {
     /// Another entry.
     More,
-    /// The list's end, and whether a separator stands before it.
+    /// The list's end, and whether a separator is before it.
     End(bool),
 }
 
@@ -15,7 +15,7 @@ pub enum Next {
 #[derive(Drop)]
 pub struct List<'a, T: Drop> {
     pub entries: Vec<T>,
-    /// Whether a separator stands after the last entry.
+    /// Whether a separator follows the last entry.
     pub trailing: bool,
     pub rest: Cursor<'a>,
 }

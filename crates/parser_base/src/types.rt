@@ -56,7 +56,7 @@ fn channel_node(
     Ok(TypeNode::Channel(direction, Box::new(alloc, element)?))
 }
 
-/// A type in parentheses, after the opening one, which stands at `first`.
+/// A type in parentheses, after the opening one, which is at `first`.
 #[cycle(type_at)]
 #[tactic(auto, unfolding(crate::specs::Reading::parenthesized_type, crate::specs::Reading::type_at))]
 fn parenthesized_type<'a>(
@@ -77,7 +77,7 @@ fn parenthesized_type<'a>(
     Ok(Found { node, rest })
 }
 
-/// A channel type of this direction, from the type of its elements on; its first token stands at `first`.
+/// A channel type of this direction, from the type of its elements on; its first token is at `first`.
 #[cycle(type_at)]
 #[tactic(auto, unfolding(crate::specs::Reading::type_at))]
 fn channel_type<'a>(
@@ -101,7 +101,7 @@ fn channel_type<'a>(
     })
 }
 
-/// A channel type after `chan`, which stands at `first`: send-only if `<-` follows.
+/// A channel type after `chan`, which is at `first`: send-only if `<-` follows.
 #[cycle(type_at)]
 #[tactic(auto, unfolding(crate::specs::Reading::behind_chan))]
 fn behind_chan<'a>(
@@ -121,7 +121,7 @@ fn behind_chan<'a>(
     channel_type(alloc, room, Direction::Both, first, cursor)
 }
 
-/// A receive-only channel type, after `<-`, which stands at `first`.
+/// A receive-only channel type, after `<-`, which is at `first`.
 #[cycle(type_at)]
 #[tactic(auto, unfolding(crate::specs::Reading::behind_arrow))]
 fn behind_arrow<'a>(

@@ -76,7 +76,7 @@ step_no_semicolon (Operator binaries.GreaterEqual) = refl
 step_no_semicolon (Operator binaries.LogicalAnd) = refl
 step_no_semicolon (Operator binaries.LogicalOr) = refl
 
--- the first operand of an expression that no semicolon follows doesn't stand before one
+-- no semicolon follows the first operand of an expression that no semicolon follows
 tail_no_semicolon : (literals : Bool) (c : Expression) (rest : List Lexeme) (b : Begun literals c rest) → begins_with kinds.Semicolon rest ≡ false → begins_with kinds.Semicolon b.tail ≡ false
 unfolding begins_with
 tail_no_semicolon literals c rest b none =
@@ -356,7 +356,7 @@ head_sound most room ws h rest e =
 
 -- ---- if
 
--- what stands before a condition, and the condition
+-- the statement before a condition, and the condition
 abbrev pub if_header_words : IfHead × Expression → List Lexeme → List Lexeme
 if_header_words header rest = if_head_words header.0 (before header.1 rest)
 
@@ -587,7 +587,7 @@ no_ranges : (b : Bool) (f : Form) → ranges f ≡ false → ranges (cond b f fo
 no_ranges true f none = none
 no_ranges false f none = refl
 
--- and so not where a place comes next
+-- and so not if an lvalue comes next
 no_place_range : (ws : List Lexeme) → ranges (form_of true ws) ≡ false → ranges (place_form ws) ≡ false
 no_place_range ws none = no_ranges (begins_name ws) (form_of true ws) none
 

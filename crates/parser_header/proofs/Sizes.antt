@@ -1,4 +1,4 @@
--- What stands after `if`, `for` or `case` has no more nodes than lexemes.
+-- What comes after `if`, `for` or `case` has no more nodes than lexemes.
 use Rattle.std.proofs.Common.{ℕ, ◌+◌, ◌≤◌, List, ◌∷◌, length, arith, Option, Some, None}
 use Rattle.scanner.specs.declared.kind.TokenKind.TheVariants as kinds
 use Rattle.syntax.specs.Tree.{Place, IfHead, Bare, Semicolon, First, Target, NoTarget, DefineTarget, AssignTarget, ForHead, Forever, While, ForClauses, Range, Comm, CommSend, CommReceive, CommDefine, CommAssign}
@@ -9,7 +9,7 @@ use Rattle.parser_simple.specs.Spelling.{simple_words}
 use Rattle.parser_header.specs.Spelling.{second_name_words, second_place_words, comm_words, if_head_words, optional, target_words, for_head_words}
 use Rattle.parser_simple.proofs.Sizes.{value_size, place_grows, simple_grows}
 
--- ---- what stands after `if`, `for`, `case`, `return` and `var`
+-- ---- what comes after `if`, `for`, `case`, `return` and `var`
 
 pub if_head_grows : (h : IfHead) (rest : List Lexeme) → if_head_size h + length rest ≤ length (if_head_words h rest)
 if_head_grows Bare rest = omega arith

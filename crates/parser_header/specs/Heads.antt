@@ -1,4 +1,4 @@
--- What stands after `if` or `for`.
+-- What comes after `if` or `for`.
 use Rattle.syntax.specs.View.{expression_of, simple_of}
 use Rattle.parser_header.specs.declared.header.HeadNode.{HeadNode}
 use Rattle.parser_header.specs.declared.header.HeadNode.TheVariants as heads

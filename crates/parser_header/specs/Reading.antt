@@ -14,7 +14,7 @@ use Rattle.parser_simple.specs.Reading.{behind_mark, before_mark, begins_with, b
 
 -- ---- headers
 
--- what stands after `if` or `for`
+-- what comes after `if` or `for`
 pub data Head : Type 0 where
   HeadSimple : (simple : Simple) → Head
   HeadCondition : (condition : Expression) → Head
@@ -91,7 +91,7 @@ comm_defined most room words = do
   channel ← received_behind kinds.Define most room ok.1
   Ok (CommDefine item.0 ok.0 channel.0, channel.1)
 
--- a receive with an assignment to one place or two
+-- a receive with an assignment to one lvalue or two
 unfoldable pub comm_assigned : ℕ → ℕ → List Lexeme → Reading Comm
 comm_assigned most room words = do
   item ← place words
@@ -120,16 +120,16 @@ condition most room words = expression false most room 0 words
 abbrev pub behind_semicolon : ℕ → ℕ → List Lexeme → Reading Expression
 behind_semicolon most room words = expect kinds.Semicolon words >>= condition most room
 
--- the same, with what stands before that
+-- like `behind_semicolon`, with the statement before it
 abbrev pub behind_head : IfHead → ℕ → ℕ → List Lexeme → Reading (IfHead × Expression)
 behind_head first most room words = as_one (λ test. (first, test)) (behind_semicolon most room words)
 
--- what stands before the condition, and the condition
+-- the statement before the condition, and the condition
 abbrev pub if_headed : ℕ → ℕ → Head × List Lexeme → Reading (IfHead × Expression)
 if_headed most room (HeadSimple simple, rest) = behind_head (First simple) most room rest
 if_headed most room (HeadCondition test, rest) = Ok ((Bare, test), rest)
 
--- what stands between an `if` and its block
+-- what is between an `if` and its block
 unfoldable pub if_header : ℕ → ℕ → List Lexeme → Reading (IfHead × Expression)
 if_header most room words =
     if begins_with kinds.Semicolon words then behind_head Semicolon most room words else (head most room words >>= if_headed most room)
@@ -169,13 +169,13 @@ ranges (forms.Assign is) = is
 ranges (forms.Define is) = is
 ranges form = false
 
--- what stands between a `for` and its block, if that is no mark
+-- what is between a `for` and its block, if that is no mark
 unfoldable pub for_begun : ℕ → ℕ → List Lexeme → Reading ForHead
 for_begun most room words =
     if ranges (place_form words) then (if defines true words then range_defined most room words else range_assigned most room words)
     else (head most room words >>= for_headed most room)
 
--- what stands between a `for` and its block
+-- what is between a `for` and its block
 unfoldable pub for_header : ℕ → ℕ → List Lexeme → Reading ForHead
 for_header most room words =
     if begins_with kinds.LeftBrace words then Ok (Forever, words)

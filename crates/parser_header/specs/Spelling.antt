@@ -1,6 +1,6 @@
--- The one list of lexemes that spells what stands after `if` or `for`, or what a clause of a select waits for.
+-- The one list of lexemes that spells what comes after `if` or `for`, or what a clause of a select waits for.
 --
--- Each of the words below is what stands before what follows: `name_words name rest` is the name, and then `rest`.
+-- Each of the words below takes what follows: `name_words name rest` is the name, and then `rest`.
 use Rattle.std.specs.Prelude.{ℕ, true, false, List, ◌∷◌, Option, Some, None}
 use Rattle.scanner.specs.declared.kind.TokenKind.TheVariants as kinds
 use Rattle.syntax.specs.Tree.{Place, Comm, CommSend, CommReceive, CommDefine, CommAssign, IfHead, Bare, Semicolon, First, Target, NoTarget, DefineTarget, AssignTarget, ForHead, Forever, While, ForClauses, Range}

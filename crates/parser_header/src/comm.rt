@@ -85,7 +85,7 @@ fn defining_receive(
     Ok((CommNode::Define(item, ok, channel.node), channel.rest))
 }
 
-/// A receive with an assignment to one place or two.
+/// A receive with an assignment to one lvalue or two.
 #[tactic(auto, unfolding(crate::specs::Reading::comm_assigned))]
 fn assigning_receive(
     alloc: Global,
@@ -132,7 +132,7 @@ fn lone_receive(
     Ok((CommNode::Receive(channel.node), channel.rest))
 }
 
-/// What begins with a place in this form, or with the operand of a send.
+/// A statement that begins with an lvalue in this form, or with the operand of a send.
 #[tactic(auto, unfolding(crate::specs::Reading::comm_formed))]
 fn form_statement(
     alloc: Global,

@@ -1,4 +1,4 @@
-//! What stands after `if` or `for`.
+//! What comes after `if` or `for`.
 
 ghost use Rattle.std.specs.Prelude.{◌≡◌, ◌<◌, ◌^◌, true, false, option_map, map};
 ghost use Rattle.syntax.specs.Measures.{highest, expression_height};
@@ -26,7 +26,7 @@ use std::alloc::Global;
 use syntax::limits::MAX_ENTRIES;
 use syntax::{ExpressionNode, ForHeader, IfHeader, RangeTarget, SimpleNode};
 
-/// What stands after `if` or `for`: a simple statement, or a condition.
+/// What comes after `if` or `for`: a simple statement, or a condition.
 #[derive(Drop)]
 pub enum HeadNode {
     Simple(SimpleNode),
@@ -173,7 +173,7 @@ pub fn simple_or_condition(
     }
 }
 
-/// What stands between an `if` and its block ("If statements" of the Go specification), with at most `room` levels below it.
+/// What is between an `if` and its block ("If statements" of the Go specification), with at most `room` levels below it.
 #[tactic(auto, unfolding(crate::specs::Reading::if_header))]
 pub fn if_header(
     alloc: Global,
@@ -241,7 +241,7 @@ fn post_behind_semicolon(
     optional_post(alloc, room, rest)
 }
 
-/// The clauses of a `for` after the first semicolon, before which `first` stands.
+/// The clauses of a `for` after the first semicolon, before which `first` was read.
 #[tactic(auto, unfolding(crate::specs::Reading::for_clauses))]
 fn for_clauses(
     alloc: Global,
@@ -259,7 +259,7 @@ fn for_clauses(
     Ok((ForHeader::Clauses(first, condition, post), rest))
 }
 
-/// The `range` of a `for` from its word on, which stands after `target`.
+/// The `range` of a `for` from its word on, which comes after `target`.
 #[tactic(auto, unfolding(crate::specs::Reading::ranged))]
 fn range_clause(
     alloc: Global,
@@ -290,7 +290,7 @@ fn defining_range(
     range_clause(alloc, room, RangeTarget::Define(name), rest)
 }
 
-/// A `range` that assigns to a place.
+/// A `range` that assigns to an lvalue.
 #[tactic(auto, unfolding(crate::specs::Reading::range_assigned))]
 fn assigning_range(
     alloc: Global,
@@ -310,7 +310,7 @@ fn ranges(form: Form) -> bool
     matches!(form, Form::Assign(true) | Form::Define(true))
 }
 
-/// What stands between a `for` and its block, if that begins with no mark of its own.
+/// What is between a `for` and its block, if that begins with no mark of its own.
 #[tactic(auto, unfolding(crate::specs::Reading::for_begun))]
 fn unmarked_for_header(
     alloc: Global,
@@ -335,7 +335,7 @@ fn unmarked_for_header(
     }
 }
 
-/// What stands between a `for` and its block ("For statements" of the Go specification), with at most `room` levels below it.
+/// What is between a `for` and its block ("For statements" of the Go specification), with at most `room` levels below it.
 #[tactic(auto, unfolding(crate::specs::Reading::for_header))]
 pub fn for_header(
     alloc: Global,

@@ -1,4 +1,4 @@
--- Calls and receives that stand alone, or begin an expression that goes on: what is spelt is read, and what is read is
+-- Calls and receives that are statements, or begin an expression that goes on: what is spelt is read, and what is read is
 -- spelt so.
 use Rattle.std.proofs.Common.{◌≡◌, ℕ, suc, ◌<◌, ◌≤◌, Bool, true, false, cond, max, min, List, [], ◌∷◌, Err, nat_le, inl, inr, refl, sym, ap, ◌∙◌, subst, arith}
 use Rattle.std.proofs.lemmas.Bool.{lt-leb, leb-true}

@@ -63,7 +63,7 @@ literal_goes false = refl
 
 -- ---- values
 
--- a value fits, or is too high, where that is so of each name and selection before what follows
+-- a value fits, or is too high, if each name and selection before what follows does
 pub value_fits : (header literals : Bool) (high room : ℕ) (e : Expression) (ws : List Lexeme) → IsGrouped literals e → (header ≡ true) ⊎ (outer_precedence e ≡ 7) → expression_height e ≤ high
     → Fits high room (fits header literals false (expression_height e) room ws) → Fits high room (fits header literals true 0 room (before e ws))
 unfolding fits

@@ -141,7 +141,7 @@ form_strong false (Text bytes ∷ ws) o e = absurd cc
 form_strong false (Name name ∷ ws) o e = absurd cc
 form_strong false (Mark kind ∷ ws) o e = period_strong kind (is_kind kind kinds.Period) ws o (form_strong true ws o) e
 
--- ---- places
+-- ---- lvalues
 
 pub fields_form : (fs : List (List ℕ)) (ws : List Lexeme) → form_of false (separated name_words (behind kinds.Period) fs ws) ≡ form_of false ws
 unfolding form_of
@@ -165,14 +165,14 @@ plain_makes_none name plain =
     let println = bytes_eq name (codes "println") in
     first_false (makes_value name) close (first_false (makes_value name || close) print (first_false (makes_value name || close || print) println plain))
 
--- a statement that begins with a place has the form of what follows that
+-- a statement that begins with an lvalue has the form of what follows that
 pub led_formed : (literals defining : Bool) (most room : ℕ) (p : Place) (ws : List Lexeme) → IsPlace p
     → led literals defining most room (place_words p ws) ≡ formed literals defining most room (form_of false ws) (place_words p ws)
 unfolding led form_of
 led_formed literals defining most room p ws is =
     rw (is.0, plain_makes_none p.name is.0, fields_form p.fields ws) refl
 
--- ---- names and places before a mark
+-- ---- names and lvalues before a mark
 
 pub defines_names : (name : List ℕ) (ns : List (List ℕ)) (ws : List Lexeme) → defines true (joined name_words (behind kinds.Comma) (name ∷ ns) (Mark kinds.Define ∷ ws)) ≡ true
 unfolding defines
@@ -227,7 +227,7 @@ led_none literals defining most room (Text bytes ∷ ws) begun form = refl
 led_none literals defining most room (Mark kind ∷ ws) begun form = refl
 led_none literals defining most room (Name name ∷ ws) begun form = named_none literals defining most room name (is_builtin name) ws refl form begun
 
--- ---- what begins with a place
+-- ---- what begins with an lvalue
 
 other_form : (b : Bool) (f : Form) → f ≡ forms.Other → cond b f forms.Other ≡ forms.Other
 other_form true f is = is

@@ -1,4 +1,4 @@
--- Names and places: what is spelt is read, and what is read is spelt so.
+-- Names and lvalues: what is spelt is read, and what is read is spelt so.
 use Rattle.std.proofs.Common.{◌≡◌, ℕ, ◌<◌, ◌≤◌, Bool, true, false, cond, List, [], ◌∷◌, length, Ok, Err, refl, ap, ◌∙◌, subst, arith}
 use Rattle.scanner.specs.declared.kind.TokenKind.{TokenKind}
 use Rattle.scanner.specs.declared.kind.TokenKind.TheVariants as kinds
@@ -132,7 +132,7 @@ names_sound separator most ws found e =
     let s = listed_sound (listed_names separator most) (TooMany EntriesLimit) (names_soundly separator most) most ws found e in
     record { parts = s.parts; are = s.are; count = s.count }
 
--- ---- places
+-- ---- lvalues
 
 pub length_separated : {A : Type 0} (each : A → List Lexeme → List Lexeme) (separator : List Lexeme → List Lexeme) (xs : List A) (rest : List Lexeme)
     → ((x : A) (ws : List Lexeme) → length ws ≤ length (each x ws)) → ((ws : List Lexeme) → length ws < length (separator ws)) → length xs ≤ length (separated each separator xs rest)

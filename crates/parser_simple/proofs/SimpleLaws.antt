@@ -249,14 +249,14 @@ led_define literals defining most room n (m ∷ ns) r rest is_defining all is st
     (behind_place_again (record { name = n; fields = [] }) (Mark kinds.Comma ∷ joined name_words (behind kinds.Comma) (m ∷ ns) (Mark kinds.Define ∷ right_words r rest)) (all.0, tt) refl (λ none. omega (arith, none, right_positive literals r is))
     (some_again most room _ (Define (n ∷ m ∷ ns) r) rest (defined_again literals most room n (m ∷ ns) r rest all is stops)))
 
--- what begins with a place or a name of its own
+-- what begins with an lvalue or a name of its own
 abbrev pub is_led : Simple → Bool
 is_led (CallAlone f all) = false
 is_led (ReceiveAlone c) = false
 is_led (Send c v) = false
 is_led s = true
 
--- what is spelt is read, where it is so
+-- what is spelt is read, if `is_led` is true of it
 pub led_again : (literals defining : Bool) (most room : ℕ) (s : Simple) (rest : List Lexeme) → IsSimple literals defining s → is_led s ≡ true → Stops literals rest
     → LedOutcome most room (led literals defining most room (simple_words s rest)) s rest
 led_again literals defining most room (CallAlone f all) rest is begins stops = absurd cc

@@ -100,7 +100,7 @@ form_of false words = forms.Other
 abbrev pub place_form : List Lexeme → Form
 place_form words = if begins_name words then form_of true words else forms.Other
 
--- names with commas between them stand before a `:=`; a name comes next where `named` holds
+-- names with commas between them come before a `:=`; a name comes next if `named` is true
 unfoldable pub defines : (named : Bool) → List Lexeme → Bool
 defines true (Name name ∷ rest) = defines false rest
 defines true words = false
@@ -113,8 +113,8 @@ abbrev pub is_operator : Option BinaryOperator → Bool
 is_operator None = false
 is_operator (Some operator) = true
 
--- whether a name or, where `alone` doesn't hold, a selection goes on as a value with this mark: as the operand of a send, as
--- a call, in a condition where `header` holds, or as a composite literal where `literals` does
+-- whether a name or, if `alone` is false, a selection goes on as a value with this mark: as the operand of a send, as
+-- a call, in a condition if `header` is true, or as a composite literal if `literals` is
 abbrev pub goes_on : (header literals alone : Bool) → TokenKind → Bool
 goes_on header literals alone kinds.Arrow = true
 goes_on header literals alone kinds.LeftParenthesis = alone
@@ -255,7 +255,7 @@ formed literals defining most room forms.List words =
     behind_place room words (as_one (λ s. Some s) (if defining && defines true words then defined literals most room words else assigned literals most room words))
 formed literals defining most room forms.Other words = Ok (None, words)
 
--- a simple statement that begins with a place or with the name of a built-in function, or None if a value comes next, or
+-- a simple statement that begins with an lvalue or with the name of a built-in function, or None if a value comes next, or
 -- no statement
 unfoldable pub led : (literals defining : Bool) → ℕ → ℕ → List Lexeme → Reading (Option Simple)
 led literals defining most room (Name name ∷ rest) =
@@ -275,7 +275,7 @@ sent make literals most room words = do
   value ← behind_mark kinds.Arrow (expression literals most room 0) channel.1
   Ok (make channel.0 value.0, value.1)
 
--- a simple statement, or a send where none was read yet
+-- a simple statement, or a send if none was read yet
 abbrev pub led_or_sent : Bool → ℕ → ℕ → Option Simple × List Lexeme → Reading Simple
 led_or_sent literals most room (Some simple, rest) = Ok (simple, rest)
 led_or_sent literals most room (None, rest) = sent Send literals most room rest
@@ -312,8 +312,8 @@ called literals most room words = do
   all ← arguments literals most room function.1
   alone_or_sent literals most room function.0 all
 
--- a simple statement below which there are at most `room` levels, whose lists have at most `most` entries. Composite literals may stand
--- in it only if `literals` holds, and it may be a `:=` only if `defining` does.
+-- a simple statement below which there are at most `room` levels, whose lists have at most `most` entries. Composite literals are
+-- allowed in it only if `literals` is true, and it may be a `:=` only if `defining` is.
 unfoldable pub simple : (literals defining : Bool) → ℕ → ℕ → List Lexeme → Reading Simple
 simple literals defining most room words =
     if begins_with kinds.Arrow words then as_one ReceiveAlone (received literals most room words)

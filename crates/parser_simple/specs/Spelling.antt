@@ -1,6 +1,6 @@
 -- The one list of lexemes that spells a simple statement.
 --
--- Each of the words below is what stands before what follows: `name_words name rest` is the name, and then `rest`.
+-- Each of the words below takes what follows: `name_words name rest` is the name, and then `rest`.
 use Rattle.std.specs.Prelude.{◌≡◌, ℕ, ◌≤◌, Bool, true, false, List, ◌∷◌, IsTrue, codes}
 use Rattle.scanner.specs.declared.kind.TokenKind.{TokenKind}
 use Rattle.scanner.specs.declared.kind.TokenKind.TheVariants as kinds
@@ -64,7 +64,7 @@ abbrev pub IsPart : (literals : Bool) → Part → Type 0
 IsPart literals (Value value) = IsGrouped literals value
 IsPart literals (TextPart bytes) = Unit {0}
 
--- `println` where `line` holds, else `print`
+-- `println` if `line` is true, else `print`
 abbrev pub print_name : (line : Bool) → List ℕ
 print_name true = codes "println"
 print_name false = codes "print"
@@ -97,7 +97,7 @@ simple_words (Assign places right) rest = joined place_words (behind kinds.Comma
 simple_words (Define names right) rest = joined name_words (behind kinds.Comma) names (Mark kinds.Define ∷ right_words right rest)
 simple_words (Update place operator value) rest = place_words place (Mark (update_kind operator) ∷ before value rest)
 
--- Composite literals stand only where `literals` holds, and a `:=` where `defining` does. The operators that assign are
+-- Composite literals are allowed only if `literals` is true, and a `:=` only if `defining` is. The operators that assign are
 -- those of arithmetic, whose precedence is 4 or 5.
 abbrev pub IsSimple : (literals defining : Bool) → Simple → Type 0
 IsSimple literals defining (CallAlone function arguments) = IsName function × AreArguments literals arguments

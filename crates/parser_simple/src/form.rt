@@ -195,7 +195,7 @@ pub fn place_form(cursor: Cursor<'_>) -> Form
     }
 }
 
-/// Whether names with commas between them stand here before a `:=`.
+/// Whether names with commas between them come next, and then a `:=`.
 #[tactic(auto, unfolding(crate::specs::Reading::defines))]
 pub fn defines(cursor: Cursor<'_>) -> bool
     ensures { result ≡ defines true (ahead cursor.entry) }
@@ -219,8 +219,8 @@ pub fn defines(cursor: Cursor<'_>) -> bool
     false
 }
 
-/// Whether a name or, where `alone` doesn't hold, a selection goes on as a value with this mark: as the operand of a send,
-/// as a call, in a condition where `header` holds, or as a composite literal where `literals` does.
+/// Whether a name or, if `alone` is false, a selection goes on as a value with this mark: as the operand of a send,
+/// as a call, in a condition if `header` is true, or as a composite literal if `literals` is.
 fn goes_on(header: bool, literals: bool, alone: bool, kind: TokenKind) -> bool
     ensures { result ≡ goes_on header literals alone kind }
 {

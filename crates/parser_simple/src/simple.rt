@@ -163,7 +163,7 @@ fn close_call(
     })
 }
 
-/// A call of a built-in function as a statement, after its name, which stands at `first`.
+/// A call of a built-in function as a statement, after its name, which is at `first`.
 #[tactic(auto, unfolding(crate::specs::Reading::builtin_call))]
 fn builtin_call<'a>(
     alloc: Global,

@@ -1,4 +1,4 @@
--- Statements in which no other stands: what is spelt is read, and what is read is spelt so.
+-- Statements that contain no other: what is spelt is read, and what is read is spelt so.
 use Rattle.std.proofs.Common.{◌≡◌, ℕ, zero, suc, ◌<◌, ◌≤◌, Bool, true, false, cond, Option, Some, None, max, List, [], ◌∷◌, ◌++◌, length, Err, inl, inr, refl, ap, ◌∙◌, subst, arith}
 use Rattle.std.proofs.lemmas.Bool.{false≢true}
 use Rattle.scanner.specs.declared.kind.TokenKind.{TokenKind}

@@ -40,7 +40,7 @@ unfoldable pub clause_next : List Lexeme → Reading Next
 clause_next (Mark kinds.Semicolon ∷ rest) = Ok (More, rest)
 clause_next words = if ends_statement words then Ok (End false, words) else Err Syntax
 
--- ---- statements in which none stands
+-- ---- statements that contain none
 
 -- a value after `return`, at most `room` levels deep
 unfoldable pub returned_value : ℕ → ℕ → List Lexeme → Reading Returned
@@ -80,7 +80,7 @@ variables most room words =
 abbrev pub variable : ℕ → ℕ → List Lexeme → Reading Statement
 variable most room words = needing 1 room (variables most room words)
 
--- a statement after this mark, in which no other stands, with at most `room` levels below it
+-- a statement after this mark, which contains no other, with at most `room` levels below it
 abbrev pub leaf : ℕ → ℕ → TokenKind → List Lexeme → Reading Statement
 leaf most room kinds.Go rest = started most room rest
 leaf most room kinds.Var rest = variable most room rest
@@ -89,7 +89,7 @@ leaf most room kinds.Break rest = Ok (Break, rest)
 leaf most room kinds.Continue rest = Ok (Continue, rest)
 leaf most room kind rest = if is_end kind then Ok (Empty, Mark kind ∷ rest) else as_one Alone (simple true true most room (Mark kind ∷ rest))
 
--- ---- statements in which others stand
+-- ---- statements that contain others
 
 -- a block, whose statements `one` reads
 unfoldable pub braced : (one : List Lexeme → Reading Statement) → List Lexeme → Reading Statements

@@ -1,6 +1,6 @@
 -- The one list of lexemes that spells a statement.
 --
--- Each of the words below is what stands before what follows: `statement_words statement rest` is the statement, and
+-- Each of the words below is what is before what follows: `statement_words statement rest` is the statement, and
 -- then `rest`.
 use Rattle.std.specs.Prelude.{ℕ, true, false, List, ◌∷◌, ◌++◌, Option, Some, None}
 use Rattle.scanner.specs.declared.kind.TokenKind.TheVariants as kinds

@@ -1,4 +1,4 @@
-//! Statements in which no other one stands.
+//! Statements that contain no other statement.
 
 ghost use Rattle.std.specs.Prelude.{◌≡◌, ◌∷◌, ◌<◌, true, IfErr, map, option_map};
 ghost use Rattle.parser_base.specs.declared.fault.ParseFault.TheVariants as faults;
@@ -185,7 +185,7 @@ fn var_spec(
     typed_var(alloc, room, names.entries, names.rest)
 }
 
-/// A `var` ("Variable declarations" of the Go specification), after its word, which stands at `first`, with at most `room` levels
+/// A `var` ("Variable declarations" of the Go specification), after its word, which is at `first`, with at most `room` levels
 /// below it.
 pub(crate) fn var_declaration(
     alloc: Global,
@@ -202,8 +202,8 @@ pub(crate) fn var_declaration(
     var_spec(alloc, room, cursor)
 }
 
-/// A statement that begins with this mark, in which no other one stands and below which there are at most so
-/// many levels.
+/// A statement that begins with this mark and contains no other statement, with at most `room`
+/// levels below it.
 pub(crate) fn leaf<'a>(
     alloc: Global,
     room: u32,

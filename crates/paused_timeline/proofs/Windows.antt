@@ -26,7 +26,7 @@ module _ {S : Type 0} (K : GoroutineKind) (held : S → K.State) where
   pub still_kept : (old new : OpenValue S) (before : ℕ) (kept : List Recorded) → Adds K held old None new → HasKept old before kept → HasKept new before kept
   still_kept old new before kept adds h = record { gone = h.gone; output = h.output; count = h.count; had = adds (h.gone ++ map event_of kept) h.output h.had }
 
-  -- one event more, with which others may have gone
+  -- one event more, with which others may have been removed
   pub taken_kept : (old new : OpenValue S) (before later : ℕ) (kept left : List Recorded) (event : Recorded) → Adds K held old (Some event) new → HasKept old before kept → Moves before (kept ++ event ∷ []) later left → HasKept new later left
   taken_kept old new before later kept left event adds h moves =
       let more : (h.gone ++ map event_of kept) ++ event_of event ∷ [] ≡ (h.gone ++ map event_of moves.0) ++ map event_of left =

@@ -1,4 +1,4 @@
-//! Where in the source the goroutines of a run stand.
+//! The locations of a run's goroutines in the source.
 
 use crate::functions::Functions;
 use one_thread::OpenRun;
@@ -8,7 +8,7 @@ use timeline::Site;
 use watched_goroutine::Placed;
 use word::request::{Event, Request};
 
-/// A goroutine that is known to stand at a statement.
+/// A goroutine that is known to be at a statement.
 pub(crate) trait Sited {
     /// The node of that statement.
     fn node(&self) -> NodeId;

@@ -1,4 +1,4 @@
--- A select of some clauses has the other ones in their places, and misses none if it is thinned.
+-- A select of some clauses has the other ones on nil, and misses none if it is thinned.
 use Rattle.std.proofs.Common.{◌≡◌, ℕ, zero, suc, ◌+◌, ◌==◌, Bool, true, false, ◌&&◌, ◌||◌, ◌⊎◌, cond, List, [], ◌∷◌, Option, Some, None, slice_get, refl, inl, inr, arith, sym, ◌∙◌, ap, subst, add-zero}
 use Rattle.std.proofs.lemmas.Bool.{and_from, and_parts, cond-true, eq-eqb, eqb-true, false_from_ne_true, false≢true, not_from_false, or_left, or_right}
 use Rattle.std.specs.List.{list_any}
@@ -9,7 +9,7 @@ use Rattle.pauses.specs.declared.select.Mask.TheVariants.{Alone, Thinned}
 use Rattle.pauses.specs.Laws.{ArePart, OffersAlike, is_on}
 use Rattle.pauses.specs.Selects.{alone, case_at, is_same_channel, is_same_direction, keeps, masked_from, off, thinned, thinned_by}
 
--- one of the two stands there
+-- the clause stays, or is on nil
 stays : (x : Case) (b : Bool) (y : Case) → y ≡ cond b x (off x) → (y ≡ x) ⊎ (y ≡ off x)
 stays x true y e = inl e
 stays x false y e = inr e
@@ -30,12 +30,12 @@ module _ (c : ℕ) (sends : Bool) where
       let away : is_on c sends x ≡ false = false_from_ne_true _ (λ on. absurd (false≢true (h on))) in
       same ∙ sym (ap (λ v. v || more) away)
 
-  -- where all clauses on the channel stay
+  -- if all clauses on the channel stay
   kept_all : (m : Mask) (number : ℕ) (xs : List Case) → ((n : ℕ) (x : Case) → is_on c sends x ≡ true → keeps m n x ≡ true) → list_any (is_on c sends) (masked_from m number xs) ≡ list_any (is_on c sends) xs
   kept_all m number [] h = refl
   kept_all m number (x ∷ xs) h = kept_one x _ _ (keeps m number x) (h number x) (kept_all m (number + 1) xs h)
 
-  -- where clause k from here is on the channel, and stays
+  -- if clause k from here is on the channel, and stays
   there : (xs : List Case) (k : ℕ) (y : Case) → slice_get xs k ≡ Some y → is_on c sends y ≡ true → list_any (is_on c sends) xs ≡ true
   there [] k y e h = cc
   there (x ∷ xs) zero y e h = or_left _ _ (let same : x ≡ y = cc in subst (λ v. is_on c sends v ≡ true) (sym same) h)
@@ -65,7 +65,7 @@ same_directions true false s p q = absurd (false≢true q)
 same_directions false true s p q = absurd (false≢true q)
 same_directions false false s p q = p
 
--- a clause on the channel, in the direction of a third, stays where clause y is not on that
+-- a clause on the channel, in the direction of a third, stays if clause y is not on that
 not_rival : (c : ℕ) (sends : Bool) (y x : Case) → is_on c sends y ≡ false → is_on c sends x ≡ true → (is_same_channel x.chan y.chan && is_same_direction (is_some x.item) (is_some y.item)) ≡ false
 not_rival c sends y x away on = false_from_ne_true _ (λ rival.
     let at = and_parts _ _ on in

@@ -55,7 +55,7 @@ abbrev pub said : Option Pause → Line
 said None = Broken
 said (Some p) = Says p
 
--- an empty line and a comment say nothing; the words of others stand apart by one space
+-- an empty line and a comment say nothing; the words of others are separated by one space
 abbrev pub line_of : List ℕ → Line
 line_of [] = Silent
 line_of (c ∷ cs) = cond (c == 35) Silent (said (pause_in (slice_split (λ b. b == 32) (c ∷ cs))))

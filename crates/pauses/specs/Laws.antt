@@ -17,7 +17,7 @@ pub data Story {S : Type 0} (K : Parts S) : S → List (Request × Reply) → S 
   ticks : {s t u : S} {story : List (Request × Reply)} → K.next s ≡ Ticks t → Story K t story u → Story K s story u
   asks : {s u : S} {q : Request} {reply : Reply} {story : List (Request × Reply)} → K.next s ≡ Asks q → Suits q reply → Story K (K.answer s reply) story u → Story K s ((q, reply) ∷ story) u
 
--- each clause is one of the select, or is on nil in its place
+-- each clause is the select's, or is on nil instead
 abbrev pub ArePart : List Case → List Case → Type 0
 ArePart [] [] = Unit {0}
 ArePart [] (y ∷ ys) = ⊥

@@ -63,7 +63,7 @@ abbrev pub way_to : List Pause → Option (List ℕ) → (number : ℕ) → Opti
 way_to ps None number = None
 way_to ps (Some way) number = known ps (way ++ number ∷ [])
 
--- ---- a way as words, which stand in front of the arguments of a `go`
+-- ---- a way as words, which come before the arguments of a `go`
 
 abbrev pub number_word : ℕ → Word
 number_word n = Int (pos n)

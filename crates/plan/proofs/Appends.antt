@@ -17,7 +17,7 @@ Appends leave again old new p = new ≡ old ++ flat leave again (length old) p
 onto : (a b c x y : List Instr) → b ≡ a ++ x → c ≡ b ++ y → c ≡ a ++ (x ++ y)
 onto a b c x y e f = f ∙ ap (λ (l : List Instr). l ++ y) e ∙ append_assoc a x y
 
--- at the place where they stand, and how many there are then
+-- at the pc at which they begin, and how many there are then
 at : (leave again place : ℕ) (old new : List Instr) (p : Plan) → length old ≡ place → Appends leave again old new p → (new ≡ old ++ flat leave again place p) × (length new ≡ place + size p)
 at leave again place old new p n e =
     let x : new ≡ old ++ flat leave again place p = e ∙ ap (λ m. old ++ flat leave again m p) n in (x, omega (arith, ap length x, length-append old (flat leave again place p), flat_size leave again place p, n))

@@ -10,7 +10,7 @@ use Rattle.plan.proofs.Tables.{Tabled}
 use Rattle.plan.proofs.Places.{On, stands_on}
 use Rattle.plan.proofs.Typed.{outside, Typed, break_allowed, continue_allowed}
 
--- its plan stands at its first place, and nothing leads out of it
+-- its plan is at pc 0, and nothing leads out of it
 pub function_on : (code : Code) (f : Function) (p : Plan) (out : List WordKind) → Tabled code.selects 0 p → f.instrs ≡ flat 0 0 0 p → Typed code f outside [] p out → reaches_end p ≡ false → On code.selects f.instrs None None p 0 None
 function_on code f p out tab is t ends =
     stands_on code.selects f.instrs None None p 0 None 0 0 (size p) tab (subst (λ (l : List Instr). Stand f.instrs 0 l) is (whole f.instrs)) (omega arith) (λ r. absurd (false≢true (sym ends ∙ r)))

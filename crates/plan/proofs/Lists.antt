@@ -1,9 +1,9 @@
--- What stands in a list from a place on.
+-- What is in a list from an index on.
 use Rattle.std.proofs.Common.{◌≡◌, ℕ, zero, suc, ◌+◌, Bool, true, false, cond, List, [], ◌∷◌, ◌++◌, length, drop, Some, IsTrue, refl, sym, ap, ◌∙◌, subst, arith, slice_get}
 use Rattle.std.proofs.lemmas.List.{drop-drop}
 use Rattle.std.proofs.Math.Seq.{drop-append_seam}
 
--- these stand there from a place on
+-- these are in the list from an index on
 abbrev pub Stand : {A : Type 0} → List A → ℕ → List A → Type 0
 Stand xs p [] = Unit {0}
 Stand xs p (y ∷ ys) = (slice_get xs p ≡ Some y) × Stand xs (p + 1) ys
@@ -28,9 +28,9 @@ pub length_if : {A : Type 0} (b : Bool) (ys : List A) (n : ℕ) → length ys �
 length_if true ys n e = e
 length_if false ys n e = refl
 
--- ---- what is left of a list from a place on
+-- ---- what is left of a list from an index on
 
--- the first of what is left stands at the place
+-- the first of what is left is at the index
 pub first_left : {A : Type 0} (xs : List A) (place : ℕ) (x : A) (rest : List A) → drop place xs ≡ x ∷ rest → slice_get xs place ≡ Some x
 first_left [] zero x rest left = cc
 first_left [] (suc place) x rest left = cc

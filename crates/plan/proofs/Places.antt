@@ -1,4 +1,4 @@
--- Where a plan stands in instructions, and where it leads.
+-- The pc of a plan in a function's instructions, and the pc to which it leads.
 use Rattle.std.proofs.Common.{◌≡◌, ℕ, ◌+◌, Bool, true, false, cond, ◌||◌, List, [], ◌∷◌, ◌++◌, length, Option, Some, None, IfSome, IsSomeAnd, IsTrue, refl, subst, arith, slice_get, length-append}
 use Rattle.std.proofs.lemmas.Bool.{false≢true, and_from, or_left, or_right, cond-true, OnTrue_at}
 use Rattle.bytecode.specs.declared.instr.Instr.{Instr}
@@ -8,12 +8,12 @@ use Rattle.plan.specs.Plan.{Plan, Skip, Do, Seq, IfElse, IfThen, Cycle, Endless,
 use Rattle.plan.proofs.Lists.{Stand, split, stand_if, length_if}
 use Rattle.plan.proofs.Tables.{Tabled}
 
--- jumps alone lead from the one place to the other
+-- jumps alone lead from the one pc to the other
 pub data JumpsTo (is : List Instr) : ℕ → ℕ → Type 0 where
   at_once : {p : ℕ} → JumpsTo is p p
   by_jump : {p to q : ℕ} → slice_get is p ≡ Some (instrs.Jump to) → JumpsTo is to q → JumpsTo is p q
 
--- nothing leads to no place
+-- there is a pc `out`, and jumps alone lead to it
 abbrev pub Leads : List Instr → ℕ → Option ℕ → Type 0
 Leads is p out = IsSomeAnd out (JumpsTo is p)
 
@@ -21,13 +21,13 @@ pub jumps_through : (is : List Instr) (p q r : ℕ) → JumpsTo is p q → Jumps
 jumps_through is p q r at_once next = next
 jumps_through is p q r (by_jump at on) next = by_jump at (jumps_through is _ q r on next)
 
--- an instruction stands there
+-- the instruction at a pc
 abbrev pub At : List Instr → ℕ → Instr → Type 0
 At is p i = slice_get is p ≡ Some i
 
 module _ (selects : List SelectTable) (is : List Instr) where
-  -- a plan stands at a place; its end leads to `out`, a break in it to `leave`, and a continue to `again`. What is never reached has no
-  -- place, and stands nowhere
+  -- a plan is at a pc; its end leads to `out`, a break in it to `leave`, and a continue to `again`. What is never reached has no
+  -- pc, and is nowhere
   abbrev pub On : (leave again : Option ℕ) → Plan → (place : ℕ) → (out : Option ℕ) → Type 0
   On leave again Skip place out = Leads is place out
   On leave again (Do i rest) place out = At is place i × On leave again rest (place + 1) out
@@ -111,8 +111,8 @@ reached_at : (is : List Instr) (b : Bool) (m : ℕ) (A : Option ℕ → Type 0) 
 reached_at is true m A B first rest = (Some m, first (Some m) (λ e. at_once), rest refl)
 reached_at is false m A B first rest = (None, first None (λ e. absurd (false≢true e)), tt)
 
--- a plan whose instructions stand at a place and end before `end`. The places to which its breaks and continues jump lead to `leave` and
--- `again`, and `end` to `out`, where they are reached
+-- a plan whose instructions are at a pc and end before `end`. The pcs to which its breaks and continues jump lead to `leave` and
+-- `again`, and `end` to `out`, if they are reached
 pub stands_on : (selects : List SelectTable) (is : List Instr) (leave again : Option ℕ) (p : Plan) (place : ℕ) (out : Option ℕ) (leave_at again_at end : ℕ) → Tabled selects place p → Stand is place (flat leave_at again_at place p) → end ≡ place + size p → (IsTrue (reaches_end p) → Leads is end out) → (IsTrue (has_break p) → Leads is leave_at leave) → (IsTrue (has_continue p) → Leads is again_at again)
     → On selects is leave again p place out
 stands_on selects is leave again Skip place out leave_at again_at end tab h e l b c = let z : end ≡ place = omega (arith, e) in subst (λ n. Leads is n out) z (l refl)

@@ -21,7 +21,7 @@ bodies (Way ks body others) = body ∷ bodies others
 bodies (LastWay ks body) = body ∷ []
 bodies plan = []
 
--- each way's body stands where the way begins, and leads where all of them do
+-- each way's body is at the pc at which the way begins, and leads to where all of them lead
 pub way_on : (selects : List SelectTable) (is : List Instr) (leave again out : Option ℕ) (ways : Plan) (place : ℕ) → On selects is leave again ways place out → (k to : ℕ) → slice_get (starts place ways) k ≡ Some to
     → (body : Plan) × (slice_get (bodies ways) k ≡ Some body) × On selects is leave again body to out
 way_on selects is leave again out (Way ks body others) place on zero to at = (body, refl, subst (λ n. On selects is leave again body n out) (same_Some place to at) on.0)

@@ -1,4 +1,4 @@
--- The kinds on the operand stack at each place of a typed plan, and the verifier's rules.
+-- The kinds on the operand stack at each pc of a typed plan, and the verifier's rules.
 use Rattle.std.proofs.Common.{◌≡◌, ℕ, zero, suc, ◌+◌, ◌<◌, ◌≤◌, Bool, true, false, cond, List, [], ◌∷◌, ◌++◌, length, Some, IsTrue, refl, sym, ap, ◌∙◌, subst, arith, slice_get, length-append}
 use Rattle.std.specs.Bool.{OnTrue}
 use Rattle.std.proofs.lemmas.List.{append-nil}
@@ -40,7 +40,7 @@ module _ (code : Code) (f : Function) where
   abbrev IsTyped : Allowed → List WordKind → Plan → List WordKind → Type 0
   IsTyped = Typed code f
 
-  -- the stack at each place of a plan
+  -- the stack at each pc of a plan
   abbrev stacks : (a : Allowed) (ks : List WordKind) (p : Plan) (out : List WordKind) → IsTyped a ks p out → List (List WordKind)
   stacks a ks Skip out t = []
   stacks a ks (Do i rest) out t = ks ∷ stacks a (afterwards code f i 0 ks) rest out t.3
@@ -94,7 +94,7 @@ module _ (code : Code) (f : Function) where
   stacks_size a ks Again out t = refl
 
   module _ (T : List (List WordKind)) where
-    -- what stands at a place fits the stack there, and each of its ways leads to a place of the stack that it leaves
+    -- the instruction at a pc fits the stack there, and each pc to which it may lead has the stack that it leaves
     record Good (place : ℕ) (i : Instr) (ks : List WordKind) : Type 0 where
       named : Named code f i
       inside : Inside f place i
@@ -102,7 +102,7 @@ module _ (code : Code) (f : Function) where
       fits : Fits code f i ks
       leads : (k to : ℕ) → slice_get (ways_of code i place) k ≡ Some to → slice_get T to ≡ Some (afterwards code f i k ks)
 
-    -- these instructions, from a place on, are good for these stacks
+    -- these instructions, from a pc on, are good for these stacks
     abbrev Covers : ℕ → List Instr → List (List WordKind) → Type 0
     Covers place [] [] = Unit {0}
     Covers place (i ∷ is) (ks ∷ ts) = Good place i ks × Covers (place + 1) is ts
@@ -266,7 +266,7 @@ module _ (code : Code) (f : Function) where
       entered a ks (LastWay js body) out t place end e s exit zero to at = let z = same_Some place to at in (js, refl, ap (slice_get T) (sym z) ∙ entry a js body out t.1 place end e s exit, omega (arith, z))
       entered a ks p out t place end e s exit k to at = absurd cc
 
-      -- each place of a plan is good where its end, breaks and continues lead to places of the stack that they leave
+      -- each pc of a plan is good if its end, breaks and continues lead to pcs that have the stack that they leave
       covers : (a : Allowed) (ks : List WordKind) (p : Plan) (out : List WordKind) (t : IsTyped a ks p out) (leave again place end : ℕ) → Tabled code.selects place p → end ≡ place + size p → Stand T place (stacks a ks p out t) → (IsTrue (reaches_end p) → slice_get T end ≡ Some out) → Reached a p leave again end
           → Covers place (flat leave again place p) (stacks a ks p out t)
       covers a ks Skip out t leave again place end tab e s exit loop = tt

@@ -35,7 +35,7 @@ slips_more next a b c here t = t
 slips_more next a b c (more e s) t = more e (slips_more next _ b c s t)
 
 module _ (code : Code) (g : ℕ) (f : Function) (there : slice_get code.functions g ≡ Some f) (callers : Frames) where
-  -- the function at a place, with these locals and this stack
+  -- the function at a pc, with these locals and this stack
   abbrev pub spot : ℕ → List Word → List Word → Frame
   spot place locals stack = record { function = g; place = place; locals = locals; stack = stack; told = [] }
 
@@ -43,7 +43,7 @@ module _ (code : Code) (g : ℕ) (f : Function) (there : slice_get code.function
   abbrev pub spots : ℕ → List Word → List Word → Frames
   spots place locals stack = spot place locals stack ∷ callers
 
-  -- the instruction at a place, whose operands are these
+  -- the instruction at a pc, whose operands are these
   pub step : (place : ℕ) (locals low xs : List Word) (i : Instr) → slice_get f.instrs place ≡ Some i → pops code f i ≡ length xs → code_next code (spots place locals (low ++ xs)) ≡ instr_next code (spot place locals (low ++ xs)) callers low xs i
   step place locals low xs i at n =
       let c = spot place locals (low ++ xs) in

@@ -57,7 +57,7 @@ tables_size Leave place = omega arith
 tables_size Again place = omega arith
 
 module _ (selects : List SelectTable) where
-  -- each select of a plan that stands at a place finds its table under its number
+  -- each select of a plan at a pc finds its table under its number
   abbrev pub Tabled : ℕ → Plan → Type 0
   Tabled place Skip = Unit {0}
   Tabled place (Do i rest) = Tabled (place + 1) rest
@@ -146,7 +146,7 @@ module _ (selects : List SelectTable) where
 -- ---- what is said of each table
 
 module _ (P : SelectTable → Type 0) where
-  -- each select of a plan makes such a table, wherever it stands
+  -- each select of a plan makes such a table, at whatever pc it is
   abbrev pub Makes : Plan → Type 0
   Makes Skip = Unit {0}
   Makes (Do i rest) = Makes rest

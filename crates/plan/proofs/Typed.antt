@@ -99,7 +99,7 @@ module _ (code : Code) (f : Function) where
   pub typed_none : (a : Allowed) (ks : List WordKind) (i : Instr) (rest : Plan) (out : List WordKind) → IsPlain i → Named code f i → count (wants code f i) ≡ 0 → Meets (wants code f i) [] → Typed a (ks ++ gives code f i []) rest out → Typed a ks (Do i rest) out
   typed_none a ks i rest out p named n meets typed = subst (λ (xs : List WordKind). Typed a xs (Do i rest) out) (append-nil ks) (typed_step a ks [] i rest out p named n meets typed)
 
-  -- ---- where a break or a continue can be reached it is allowed
+  -- ---- a break or a continue that can be reached is allowed
 
   -- which of three parts it is in, the second of which is there on a condition
   one_of_three : {P A : Type 0} (x b y z : Bool) → OnTrue b P → (IsTrue x → A) → (P → IsTrue y → A) → (IsTrue z → A) → IsTrue (x || (b && y || z)) → A

@@ -28,7 +28,7 @@ put_length zero ws ls le = ap length (put_zero ws ls) ∙ length-append ws (drop
 put_length (suc p) ws [] le = absurd (omega (arith, le))
 put_length (suc p) ws (v ∷ ls) le = ap length (put_suc p ws v ls) ∙ ap suc (put_length p ws ls (omega (arith, le)))
 
--- the words stand there
+-- the words that were put are there
 pub put_there : (p : ℕ) (ws ls : Words) → p + length ws ≤ length ls → part p (length ws) (put_at p ws ls) ≡ ws
 put_there zero ws ls le = ap (λ (l : Words). take (length ws) l) (put_zero ws ls) ∙ take-append_seam ws (drop (length ws) ls)
 put_there (suc p) ws [] le = absurd (omega (arith, le))
@@ -100,7 +100,7 @@ abbrev pub Rising : ℕ → ℕ → List Slot → Type 0
 Rising b next [] = b ≤ next
 Rising b next (s ∷ sc) = (b ≤ s.local) × Rising (end_of s) next sc
 
--- each variable's words stand in its locals, and are of its kinds
+-- each variable's words are in its locals, and are of its kinds
 abbrev pub Holds : Words → List Words → List Slot → Type 0
 Holds ls [] [] = Unit {0}
 Holds ls (ws ∷ env) (s ∷ sc) = (part s.local (length s.kinds) ls ≡ ws) × AllHave ws s.kinds × Holds ls env sc

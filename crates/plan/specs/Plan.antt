@@ -21,7 +21,7 @@ pub data Plan : Type 0 where
   Cycle : (test body post exit : Plan) → Plan
   -- a loop without a test
   Endless : (body post : Plan) → Plan
-  -- a select: its table's number, the table by where its ways begin, and its ways, the default's last
+  -- a select: its table's number, the table for the pcs at which its ways begin, and its ways, the default's last
   Choose : (q : ℕ) → (make : List ℕ → SelectTable) → (ways : Plan) → Plan
   -- a way of a select, the kinds with which it begins, and the ways after it
   Way : (ks : List WordKind) → (body others : Plan) → Plan
@@ -146,7 +146,7 @@ flat leave again place Again = instrs.Jump again ∷ []
 
 -- ---- selects
 
--- where the ways of a select begin
+-- the pcs at which the ways of a select begin
 abbrev pub starts : ℕ → Plan → List ℕ
 starts place (Way ks body others) = place ∷ starts (place + size body + jump_size body) others
 starts place (LastWay ks body) = place ∷ []

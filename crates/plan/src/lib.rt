@@ -1,2 +1,2 @@
-//! Code with its blocks: what stands between a statement and its instructions. It has definitions and lemmas alone.
+//! Code with its blocks, which is between a statement and its instructions. This crate has only definitions and lemmas.
 #![tactic(auto)]

@@ -1,4 +1,4 @@
-//! The variables of a function by name, in blocks; their words, parts of these, and where values go.
+//! The variables of a function by name, in blocks; their words, parts of their words, and where values go.
 #![tactic(auto)]
 
 pub mod part;

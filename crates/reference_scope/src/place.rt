@@ -121,7 +121,7 @@ pub fn all_defined<'a, 't>(
     with_first(defined(scope, name.bytes.as_slice(), *kind), others)
 }
 
-/// The part of a variable that a place is.
+/// The part of a variable that an lvalue is.
 fn place_slot<'t>(table: &TypeTable<'t>, scope: &Scope<'t>, place: &PlaceNode) -> Slot<'t>
     ensures { slot_of (types_of table.now) result ≡ place_slot (globals_in table.now) (blocks_of (types_of table.now) scope.now) (place_of place.now) }
 {
@@ -132,7 +132,7 @@ fn place_slot<'t>(table: &TypeTable<'t>, scope: &Scope<'t>, place: &PlaceNode) -
     slot_in(table, kind, place.fields.as_slice())
 }
 
-/// Where the value of a place goes.
+/// Where the value assigned to an lvalue goes.
 pub fn placed<'t>(table: &TypeTable<'t>, scope: &Scope<'t>, place: &'t PlaceNode) -> Destination<'t>
     ensures { destination_of (types_of table.now) result ≡ placed (globals_in table.now) (blocks_of (types_of table.now) scope.now) (place_of place.now) }
 {
@@ -144,7 +144,7 @@ pub fn placed<'t>(table: &TypeTable<'t>, scope: &Scope<'t>, place: &'t PlaceNode
     }
 }
 
-/// Where the values of places go.
+/// Where the values assigned to lvalues go.
 pub fn all_placed<'a, 't>(
     alloc: Global,
     table: &'a TypeTable<'t>,
@@ -160,7 +160,7 @@ pub fn all_placed<'a, 't>(
     with_first(placed(table, scope, first), others)
 }
 
-/// What a place holds.
+/// The value of an lvalue.
 pub fn value_at(
     alloc: Global,
     table: &TypeTable<'_>,

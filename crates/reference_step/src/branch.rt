@@ -42,7 +42,7 @@ pub(crate) fn branch<'t>(
     Ok(Course::Goes)
 }
 
-/// What stands after the block of an if.
+/// What comes after the block of an `if`.
 fn otherwise<'t>(
     alloc: Global,
     program: &Program<'t>,

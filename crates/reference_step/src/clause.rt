@@ -81,7 +81,7 @@ pub(crate) fn case_of<'g, 't>(
     }
 }
 
-/// Where a receive with a `:=` puts what it receives.
+/// The destinations of what a receive with a `:=` receives.
 fn defined_destinations<'t>(
     alloc: Global,
     table: &TypeTable<'t>,
@@ -104,7 +104,7 @@ fn defined_destinations<'t>(
     }
 }
 
-/// Where a receive with an assignment puts what it receives.
+/// The destinations of what a receive with an assignment receives.
 fn assigned_destinations<'t>(
     alloc: Global,
     table: &TypeTable<'t>,
@@ -125,7 +125,7 @@ fn assigned_destinations<'t>(
     }
 }
 
-/// Where a clause puts what it receives.
+/// The destinations of what a clause receives.
 pub(crate) fn comm_destinations<'t>(
     alloc: Global,
     table: &TypeTable<'t>,

@@ -63,7 +63,7 @@ fn keep_in<'t>(
     scope.declare(alloc, variable)
 }
 
-/// Where the items of a loop over a channel go.
+/// The destinations of the items of a loop over a channel.
 fn item_destinations<'t>(
     alloc: Global,
     table: &TypeTable<'t>,

@@ -1,4 +1,4 @@
-//! Where the values of right sides go.
+//! The destinations of the values of right sides.
 
 ghost use Rattle.std.specs.Prelude.{◌≡◌, IfOk, length, map};
 ghost use Rattle.syntax.specs.View.{expression_of, name_of, type_of};
@@ -16,7 +16,7 @@ use std::alloc::{AllocError, Global};
 use syntax::{ExpressionNode, Name, TypeNode};
 use type_table::table::TypeTable;
 
-/// Where the names of a `:=` put their values.
+/// The destinations for the names of a `:=`.
 pub(crate) fn defined<'t>(
     alloc: Global,
     table: &TypeTable<'t>,
@@ -30,7 +30,7 @@ pub(crate) fn defined<'t>(
     all_defined(alloc, table, scope, names, kinds.as_slice())
 }
 
-/// Where the names of a `var` without a type put their values.
+/// The destinations for the names of a `var` without a type.
 pub(crate) fn untyped<'t>(
     alloc: Global,
     table: &TypeTable<'t>,
@@ -44,7 +44,7 @@ pub(crate) fn untyped<'t>(
     all_new(alloc, table, scope, names, kinds.as_slice())
 }
 
-/// Where the names of a `var` with a type put their values.
+/// The destinations for the names of a `var` with a type.
 pub(crate) fn typed<'t>(
     alloc: Global,
     table: &TypeTable<'t>,

@@ -145,7 +145,7 @@ pub(crate) fn gives<'t>(
     Ok(Course::Moves)
 }
 
-/// The word that a place holds.
+/// The word that an lvalue holds.
 fn held<'t>(
     alloc: Global,
     program: &Program<'t>,
@@ -158,7 +158,7 @@ fn held<'t>(
     Ok(word_in(words.as_slice()))
 }
 
-/// A place gets a value.
+/// Stores a value in an lvalue.
 fn stores<'t>(
     alloc: Global,
     program: &Program<'t>,
@@ -185,7 +185,7 @@ fn counted(operator: BinaryOperator, a: Word) -> Result<Word, Panic>
     }
 }
 
-/// A place gets the value of an operator between its own and 1.
+/// Stores in an lvalue what an operator makes of its value and 1.
 fn counts<'t>(
     alloc: Global,
     program: &Program<'t>,
@@ -204,7 +204,7 @@ fn counts<'t>(
     Ok(Course::Moves)
 }
 
-/// A place gets the value of an operator between its own and an operand.
+/// Stores in an lvalue what an operator makes of its value and an operand.
 fn update<'t>(
     alloc: Global,
     program: &Program<'t>,

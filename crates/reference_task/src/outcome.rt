@@ -1,4 +1,4 @@
-//! What becomes of a task.
+//! The outcome of a task.
 
 use word::value::Word;
 

@@ -1,4 +1,4 @@
--- Right sides that are no lone receive for two places.
+-- Right sides that are not one receive that gives two values.
 use Rattle.std.proofs.Common.{◌≡◌, ℕ, zero, suc, ◌==◌, false, ◌&&◌, List, [], ◌∷◌, refl}
 use Rattle.syntax.specs.Tree.{Expression, Integer, Named, Parenthesized, Selection, Composite, Unary, Binary, Call, Receive, Make, MakeSized, Length, Capacity, expressions}
 use Rattle.type_table.specs.Scopes.{Globals}

@@ -94,7 +94,7 @@ fn kinds_in<'a, 't>(
     with_first(kind_in(table, scope, first), others)
 }
 
-/// The channel of a right side that is one receive and gives two places both the item and whether it was sent.
+/// The channel of a right side that is one receive and gives both the item and whether it was sent.
 pub(crate) fn received_from(count: usize, right: &[ExpressionNode]) -> Option<&ExpressionNode>
     ensures count { IfSome result (λ _. count ≡ 2) }
     ensures some { IfSome result (λ channel. map expression_of right.now ≡ Receive (expression_of channel.now) ∷ []) }

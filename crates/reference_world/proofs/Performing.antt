@@ -34,7 +34,7 @@ shown_after h n c q did.Leaves v k is e d = record { asleep = refl; channels = r
 shown_after h n c q (did.Panics cause clause) v k is e d = record { asleep = refl; channels = refl; live = refl; made = refl; events = e ∙ one_more h.events _ k is; ending = d }
 shown_after h n c q (did.Ends end) v k is e d = record { asleep = refl; channels = refl; live = refl; made = refl; events = e ∙ one_more h.events _ k is; ending = d }
 
--- the request that is meant, where the event is not the last one
+-- the request that is meant, if the event is not the last one
 meant_so : (w : Shared) (n k : ℕ) (q : Request) → k ≡ length w.events → (k + 1 == 2 ^ 62) ≡ false → meant w n q ≡ asked n q
 meant_so w n k q is e = rw (← is, e) refl
 

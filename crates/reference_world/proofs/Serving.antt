@@ -1,4 +1,4 @@
--- A receive where one sleeps that sends, a send that is ready, and a close.
+-- A receive when a sender sleeps, a send that is ready, and a close.
 use Rattle.std.proofs.Common.{◌≡◌, ℕ, true, false, Option, None, option_map, List, [], ◌∷◌, ◌++◌, map, drop, length, slice_set, Some, unwrap_or, refl, sym, ap, ◌∙◌}
 use Rattle.std.specs.Global.{Vec}
 use Rattle.std.specs.Vec.{with_items}

@@ -12,7 +12,7 @@ use Rattle.reference_world.specs.declared.deed.Deed.{Deed as Did}
 use Rattle.reference_world.specs.declared.deed.Deed.TheVariants as did
 use Rattle.reference_world.specs.declared.sleeper.Partner.{Partner}
 
--- those asleep, in the order in which they fell asleep; channel c stands at place c, and place 0 is no channel's
+-- those asleep, in the order in which they fell asleep; channel c is at index c, and index 0 is no channel's
 pub record MeetingValue : Type 0 where
   pub asleep : List Sleeper
   pub channels : List Channel
@@ -134,7 +134,7 @@ met p = record { number = p.0.number; offer = p.1 }
 abbrev pub closed_for : Item → List (Sleeper × Offer) → List (ℕ × Reply)
 closed_for z ps = map (λ (p : Sleeper × Offer). (p.0.number, close_reply z p.1)) ps
 
--- the clause at place i of a select, counted from 0
+-- the clause at index i of a select
 abbrev pub clause_at : List Case → ℕ → Case
 clause_at cases i = slice_index_or cases i (record { chan = None; item = None })
 

@@ -1,4 +1,4 @@
-//! Channels: channel c at place c of a list, in which place 0 is no channel's.
+//! Channels: channel c at index c of a list, in which index 0 is no channel's.
 
 ghost use Rattle.std.specs.Prelude.{◌≡◌, ◌++◌, ◌∷◌, [], true, IfNone, IfOk, IfSome, OnOk, slice_set};
 ghost use Rattle.word.specs.Requests.{channel_of};

@@ -27,7 +27,7 @@ pub(crate) struct Meeting {
     alloc: Global,
     /// In the order in which they fell asleep.
     asleep: Vec<Sleeper>,
-    /// Channel c is at place c; place 0 is no channel's.
+    /// Channel c is at index c; index 0 is no channel's.
     channels: Vec<Channel>,
 }
 
@@ -69,7 +69,7 @@ impl Meeting {
         self.asleep.as_slice()
     }
 
-    /// The channels: channel c is at place c, and place 0 is no channel's.
+    /// The channels: channel c is at index c, and index 0 is no channel's.
     pub(crate) fn all_channels(&self) -> &[Channel]
         ensures { result.now ≡ self.now.channels }
     {
@@ -234,7 +234,7 @@ impl Meeting {
         }
     }
 
-    /// A receive when a sender sleeps: of the buffer's front item, whose place the sender's item takes at the
+    /// A receive when a sender sleeps: of the buffer's front item, after which the sender's item enters at the
     /// buffer's back, or of the sender's item if the buffer is empty.
     fn receive_from(&mut self, chan: u32, clause: usize, partner: Partner) -> Result<Deed, Memory>
         ensures { IfOk result (λ deed. IsServed self.old chan clause partner deed self.new) }
@@ -269,7 +269,7 @@ impl Meeting {
         Ok(Deed::Sleeps)
     }
 
-    /// The place, counted from 0, of the clause that a select at this clock does; none if no clause is ready. Of k ready clauses,
+    /// The index of the clause that a select at this clock does; none if no clause is ready. Of k ready clauses,
     /// in source order, it is the one of index clock mod k.
     fn choose(&self, cases: &[Case], clock: Clock) -> Option<usize>
         ensures within { IfSome result (λ i. i < length cases.now) }
@@ -296,7 +296,7 @@ impl Meeting {
         count
     }
 
-    /// The place of the ready clause that `turn` ready ones precede.
+    /// The index of the ready clause that `turn` ready ones precede.
     fn nth_ready(&self, cases: &[Case], turn: usize) -> Option<usize>
         ensures within { IfSome result (λ i. i < length cases.now) }
         ensures nth { (h : History) (v : SharedValue) (n c : ℕ) (q : AnyRequest) → slice_get (ready_clauses (shared_with h v self.now) n c q 1 cases.now) turn ≡ option_map (λ i. (suc i, clause_at cases.now i)) result }

@@ -108,7 +108,7 @@ impl Shared {
         self.meeting.sleepers()
     }
 
-    /// The channels: channel c is at place c, and place 0 is no channel's.
+    /// The channels: channel c is at index c, and index 0 is no channel's.
     pub fn channels(&self) -> &[Channel]
         ensures { result.now ≡ self.now.meeting.channels }
     {

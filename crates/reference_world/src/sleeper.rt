@@ -29,7 +29,7 @@ impl Model for Sleeper {
     ghost view = { λ s. record { number = s.number; request = request_of s.request } };
 }
 
-/// A way to serve a sleeper: by its clause of this number, counted from 1, or 0 outside a select; a send where there is an
+/// A way to serve a sleeper: by its clause of this number, counted from 1, or 0 outside a select; a send if there is an
 /// item.
 #[derive(Drop)]
 pub(crate) struct Offer {
@@ -177,7 +177,7 @@ fn first_clause_on(cases: &[Case], chan: u32) -> Option<Offer>
     None
 }
 
-/// A second item that is the same.
+/// A copy of the item, if there is one.
 pub(crate) fn copy_of(item: &Option<Item>) -> Option<Item>
     ensures { result ≡ item.now }
 {

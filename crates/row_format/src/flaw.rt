@@ -8,7 +8,7 @@ use thiserror::Error;
 /// How many bytes of what was wanted, and of what came, are shown.
 const SHOWN: usize = 80;
 
-/// How many of them stand before the first byte that differs.
+/// How many of them are before the first byte that differs.
 const BEFORE: usize = 20;
 
 /// Why a file of rows fails.
@@ -102,7 +102,7 @@ pub fn same(alloc: Global, what: &str, wanted: &[u8], came: &[u8]) -> Result<(),
     })
 }
 
-/// Some bytes in quotes, from shortly before a place on.
+/// Some bytes in quotes, from shortly before offset `at` on.
 pub fn shown(alloc: Global, bytes: &[u8], at: usize) -> Result<String, AllocError> {
     let from = at.saturating_sub(BEFORE).min(bytes.len());
     let rest = &bytes[from..];

@@ -1,4 +1,4 @@
-//! The folders of rows, and what lies in them.
+//! The folders of rows, and what is in them.
 
 use crate::flaw::Flaw;
 use crate::row::Row;
@@ -189,7 +189,7 @@ pub fn utf8(bytes: Vec<u8>) -> Result<String, Flaw> {
     String::from_utf8(bytes).map_err(|_| Flaw::NotUtf8)
 }
 
-/// The names of what lies in a folder, sorted.
+/// The names of what is in a folder, sorted.
 pub fn names<R: Files + AllocGlobal + Clone + Drop>(
     rt: &R,
     folder: &str,

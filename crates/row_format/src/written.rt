@@ -3,8 +3,8 @@
 use crate::flaw::Flaw;
 use std::alloc::Global;
 
-/// The bytes that a written source stands for: `
-/// `, `\t` and `\\`, `\xHH` for one byte, `\N<PIECE>` for N times the piece as it stands, and all else for itself.
+/// The bytes that a written source stands for: `\n`, `\t` and `\\`, `\xHH` for one byte, `\N<PIECE>` for `N` times the piece
+/// as it is, and all else for itself.
 pub fn bytes_of(alloc: Global, written: &str) -> Result<Vec<u8>, Flaw> {
     let mut bytes = Vec::new(alloc);
     let mut is_escape = false;

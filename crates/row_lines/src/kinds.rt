@@ -35,7 +35,7 @@ fn statement_keyword(kind: TokenKind) -> Option<&'static str> {
     }
 }
 
-/// The name of a keyword of a declaration or a type, or of what is written in its place.
+/// The name of a keyword of a declaration or a type, or of a token written instead of it.
 fn declaration_word(kind: TokenKind) -> Option<&'static str> {
     match kind {
         TokenKind::Chan => Some("Chan"),

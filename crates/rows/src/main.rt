@@ -5,7 +5,7 @@
 //! its tokens, `NAME.explained` what `--explain` says of it. A `NAME.texts` is a table of small programs, a `NAME.words` one of command
 //! lines. docs/TESTING.md has the forms.
 //!
-//! The rows lie in the folders of `data`, where the program is run. The repository's examples are rows too: those of
+//! The rows are in the folders of this crate's `data`. The repository's examples are rows too: those of
 //! `data/examples` are copies of the folder `examples` at the top.
 #![tactic(auto)]
 

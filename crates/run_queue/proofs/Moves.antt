@@ -108,7 +108,7 @@ notes {T} pass v items views h at =
           (at_snoc (set views pass v) (note v) u j e),
     )
 
--- two passes become one, where what they know together fits
+-- two passes become one, if what they know together fits
 joins : {T : Type 0} (pass : ℕ) (v : View T) (other : ℕ) (w both : View T) → ((writer taker : ℕ) (single : Bool) (gone : ℕ) (put : List T) → Fits writer taker single gone put pass v → Fits writer taker single gone put other w → Fits writer taker single gone put pass both) → Merges Kept pass v other w both spent
 joins {T} pass v other w both fit items views h at two at' =
     let vs : List (View T) = set views pass both in let F : ℕ → View T → Type 0 = Fits h.0 h.1 h.2 (length h.4) h.3 in

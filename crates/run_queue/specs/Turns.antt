@@ -13,7 +13,7 @@ module _ {T : Type 0} where
   abbrev pub longer : List T → List T → List T
   longer a b = cond (nat_lt (length a) (length b)) b a
 
-  -- one pass puts, and knows all that was put; where only one takes, a pass that takes alone is that one, and knows how many were taken
+  -- one pass puts, and knows all that was put; if only one takes, a pass that takes alone is that one, and knows how many were taken
   abbrev pub Fits : ℕ → ℕ → Bool → ℕ → List T → ℕ → View T → Type 0
   Fits writer taker single gone put pass v =
       Begins v.put put

@@ -91,8 +91,8 @@ impl<T: Drop> RunQueue<T> {
         self.line.absorb::<Gone>(&mut puts.pass, gone);
     }
 
-    /// Puts an item at the back. It comes back only if the queue was full at one moment of the call, so that as many as its
-    /// capacity were put and not yet taken, or where 2^62 had been put.
+    /// Puts an item at the back. Returns it only if the queue was full at one moment of the call, so that as many as its
+    /// capacity were put and not yet taken, or if 2^62 had been put.
     pub fn put<R: Wait>(&self, rt: &R, pass: &mut PutPass<T>, item: T) -> Result<(), T>
         requires { IsPutOf self.now pass.old }
         ensures queue { IsPutOf self.now pass.new }

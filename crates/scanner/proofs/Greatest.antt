@@ -120,7 +120,7 @@ longest_number (x ∷ xs) pos unlike is other =
 abbrev is_tail : List ℕ → Bool
 is_tail xs = is_empty xs || is_hexadecimal xs
 
--- the length after the 0, by whether an x stands there and how many digits follow it
+-- the length after the 0, by whether an x is there and how many digits follow it
 abbrev tail_len : Bool → ℕ → ℕ
 tail_len x run = cond (x && not (eqb run 0)) (run + 1) 0
 

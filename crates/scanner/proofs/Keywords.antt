@@ -7,7 +7,7 @@ use Rattle.scanner.specs.declared.kind.TokenKind.{TokenKind}
 use Rattle.scanner.specs.Keywords.{choice_keyword, jump_keyword, loop_or_call_keyword}
 use Rattle.scanner.specs.Lexical.{statement_keyword}
 
--- what holds of a word holds of the text that is that word, and of another where it holds of one that differs
+-- P holds of a text if it holds of `word`, and of the text if that differs from `word`
 word_or : (P : List ℕ → Type 0) (text word : List ℕ) → P word → (bytes_eq text word ≡ false → P text) → P text
 word_or P text word one others = tested (bytes_eq text word) refl
   where

@@ -21,7 +21,7 @@ abbrev Fits : (from to : ℕ) → Scanned → Type 0
 Fits from to (Ok ts) = IsInOrder from to ts
 Fits from to (Err e) = LiesWithin to e
 
--- the semicolon of a line's end lies between these places
+-- the semicolon of a line's end lies between these offsets
 abbrev Ends : (from to : ℕ) → Option ℕ → Type 0
 Ends from to None = Unit {0}
 Ends from to (Some place) = (from ≤ place) × (place ≤ to)
@@ -169,7 +169,7 @@ front_fits : (from to : ℕ) (token : Token) (r : Scanned) → from ≤ token.sp
 front_fits from to token (Ok ts) le len fits = (le, len, fits)
 front_fits from to token (Err e) le len fits = fits
 
--- what follows an element of n bytes, from a place on at which a line's end may put a semicolon
+-- what follows an element of n bytes, from an offset on at which a line's end may put a semicolon
 abbrev Follows : (place to most : ℕ) → (ℕ → Option ℕ → Scanned) → Type 0
 Follows place to most rest = (n from : ℕ) (after : Option ℕ) → 1 ≤ n → n ≤ most → from ≤ place + n → Ends from (place + n) after → Fits from to (rest (n - 1) after)
 

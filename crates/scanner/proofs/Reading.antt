@@ -9,15 +9,15 @@ longer_longer : (m n : ℕ) (r : Result ℕ Fault) → longer m (longer n r) ≡
 longer_longer m n (Ok k) = let same : m + (n + k) ≡ m + n + k = omega arith in ap (λ (x : ℕ). Ok x) same
 longer_longer m n (Err e) = refl
 
--- a slice from a place on
+-- a slice from an offset on
 pub rest_is : (at : ℕ) (text : List ℕ) → take (length text - at) (drop at text) ≡ drop at text
 rest_is at text = take_all (length text - at) (drop at text) (omega (arith, length-drop at text))
 
--- one byte more, where the bytes from a place on are read
+-- one byte more, if the bytes from an offset on are read
 one_more : (at : ℕ) (r s total : Result ℕ Fault) → r ≡ longer 1 s → longer at r ≡ total → longer (at + 1) s ≡ total
 one_more at r s total is so_far = sym (longer_longer at 1 s) ∙ ap (longer at) (sym is) ∙ so_far
 
--- the byte at a place
+-- the byte at an offset
 first_of_drop : (at : ℕ) (text : List ℕ) → get_or (drop at text) 0 0 ≡ get_or text at 0
 first_of_drop at text = let none : at + 0 ≡ at = omega arith in rw (get_or-drop at text 0 0, none) refl
 

@@ -38,7 +38,7 @@ over at n after text some le =
     ∙ ap (λ (us : List ℕ). tokens 0 (at + 1 + (n - 1)) after us) (ap (drop (n - 1)) (drop-drop 1 at text) ∙ drop-drop (n - 1) (at + 1) text)
     ∙ ap (λ (m : ℕ). tokens 0 m after (drop m text)) sum
 
--- the text from a place on begins with this element, or fault
+-- the text from an offset on begins with this element, or fault
 abbrev pub Begins : (at : ℕ) → (text : List ℕ) → Result Element Fault → Type 0
 Begins at text r = r ≡ element_at at (get_or (drop at text) 0 0) (drop 1 (drop at text))
 

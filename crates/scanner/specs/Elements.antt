@@ -1,4 +1,4 @@
--- What stands at the front of a text: white space, a comment, a token, or a fault.
+-- What is at the front of a text: white space, a comment, a token, or a fault.
 use Rattle.std.specs.Prelude.{ℕ, ◌+◌, Bool, false, ◌&&◌, ◌||◌, not, ◌==◌, List, [], ◌∷◌, length, take, drop, slice_index, Option, Some, None, Result, Ok, Err, if◌then◌else◌}
 use Rattle.std.specs.Str.{byte}
 use Rattle.std.specs.List.{list_any}
@@ -18,11 +18,11 @@ length_of (Blank len) = len
 length_of (LineEnd len) = len
 length_of (Token len kind) = len
 
--- where a fault lies, before it has line and column
+-- the location of a fault, before it has line and column
 abbrev pub place_between : (from to : ℕ) → Place
 place_between from to = record { span = record { from = from; to = to }; position = None }
 
--- the place of one byte
+-- the location of one byte
 abbrev pub byte_place : ℕ → Place
 byte_place at = place_between at (at + 1)
 
@@ -30,7 +30,7 @@ byte_place at = place_between at (at + 1)
 abbrev pub is_newline : ℕ → Bool
 is_newline b = b == 10
 
--- The text begins with a character that stands nowhere, not even in a comment or a string: NUL, or a byte-order mark,
+-- The text begins with a character that is allowed nowhere, not even in a comment or a string: NUL, or a byte-order mark,
 -- which is these three bytes.
 abbrev pub is_forbidden : List ℕ → Bool
 is_forbidden (a ∷ b ∷ c ∷ rest) = (a == 0) || ((a == 0xEF) && ((b == 0xBB) && (c == 0xBF)))

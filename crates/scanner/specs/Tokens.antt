@@ -18,12 +18,12 @@ abbrev pub behind : List Token → Scanned → Scanned
 behind front (Ok tokens) = Ok (front ++ tokens)
 behind front (Err fault) = Err fault
 
--- The semicolon of a line's end, if one belongs there. It is empty, and stands directly after the token that it follows.
+-- The semicolon of a line's end, if one belongs there. It is empty, and is directly after the token that it follows.
 abbrev pub line_end : Option ℕ → List Token
 line_end None = []
 line_end (Some place) = record { kind = kinds.Semicolon; span = record { from = place; to = place } } ∷ []
 
--- where a line's end would put a semicolon after a token that ends here
+-- the offset at which a line's end would put a semicolon after a token that ends here
 abbrev pub ender : TokenKind → ℕ → Option ℕ
 ender kind place = if ends_line kind then Some place else None
 
@@ -52,7 +52,7 @@ abbrev pub IsInOrder : (from to : ℕ) → List Token → Type 0
 IsInOrder from to [] = from ≤ to
 IsInOrder from to (token ∷ rest) = (from ≤ token.span.from) × (token.span.from ≤ token.span.to) × IsInOrder token.span.to to rest
 
--- the place lies within a text of `end` bytes
+-- the location lies within a text of `end` bytes
 abbrev pub IsWithin : (end : ℕ) → Place → Type 0
 IsWithin end place = (place.span.from ≤ place.span.to) × (place.span.to ≤ end)
 

@@ -7,7 +7,7 @@ use crate::element::{Element, byte_place};
 use crate::lexical::is_forbidden;
 use go_text::Fault;
 
-/// How many bytes of a line comment stand before its line's end.
+/// How many bytes of a line comment are before its line's end.
 fn line_comment_rest(opened: u32, text: &[u8]) -> Result<usize, Fault>
     requires { opened ≤ 1048576 }
     ensures rest { result ≡ line_comment_rest opened text.now }

@@ -1,4 +1,4 @@
-//! What stands at the front of a text.
+//! The element at the front of a text.
 
 ghost use Rattle.std.specs.Prelude.{◌≡◌, ◌+◌, ◌≤◌, length, slice_index, drop, IfOk};
 ghost use Rattle.scanner.specs.Elements.{length_of, byte_place, goes_on, token_at, element_at};
@@ -37,7 +37,7 @@ impl Element {
     }
 }
 
-/// The place of one byte of a text.
+/// The location of one byte of a text.
 pub(crate) fn byte_place(at: u32) -> Place
     requires { at ≤ 1048576 }
     ensures { result ≡ byte_place at }

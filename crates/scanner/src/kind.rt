@@ -32,7 +32,7 @@ pub enum TokenKind {
     Name,
     /// `0`, decimal digits that don't begin with `0`, or `0x` or `0X` and hexadecimal digits.
     Integer,
-    /// What stands between two double quotes, and the quotes.
+    /// What is between two double quotes, and the quotes.
     String,
     /// `+`
     Plus,

@@ -29,7 +29,7 @@ pub(crate) fn is_space(byte: u8) -> bool
     byte == b' ' || byte == b'\t' || byte == b'\r'
 }
 
-/// Whether the text begins with a character that stands nowhere: NUL or a byte-order mark.
+/// Whether the text begins with a character that is allowed nowhere: NUL or a byte-order mark.
 pub(crate) fn is_forbidden(text: &[u8]) -> bool
     ensures { result ≡ is_forbidden text.now }
 {

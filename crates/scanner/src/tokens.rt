@@ -72,7 +72,7 @@ fn scan_bytes(alloc: Global, text: &[u8]) -> Result<Vec<Token>, Fault>
 ///
 /// Errors, of which the first in the text counts: `BadCharacter` with the character with which no token begins, `BadNumber`
 /// with the number that goes on wrongly; with the first byte of a string or a comment, `BadCharacter` if NUL or a
-/// byte-order mark stands in it, `OpenString` if it has no closing quote on its line or an unknown escape,
+/// byte-order mark is in it, `OpenString` if it has no closing quote on its line or an unknown escape,
 /// `OpenComment` if the text ends in it, whichever is met first in reading it. `Memory`.
 pub fn scan(alloc: Global, source: &Source) -> Result<Vec<Token>, Fault>
     ensures tokens { IfOk result (λ v. tokens_of (bytes_of source.now) ≡ Ok v.items) }

@@ -13,7 +13,7 @@ pub struct Delay {
     /// The number of the request among those that the goroutine makes, counted from 1.
     pub request: u64,
     pub change: Change,
-    /// The number of the state in which the goroutine stands there.
+    /// The number of the goroutine's state there.
     pub local: u32,
 }
 

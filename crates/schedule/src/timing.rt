@@ -26,7 +26,7 @@ struct Moment {
     number: u64,
 }
 
-/// A goroutine that has not ended, and at which request it stands.
+/// A goroutine that has not ended, and the request at which it is.
 #[derive(Clone, Copy, PartialEq, Eq)]
 pub struct Standing {
     /// Its number in the run.
@@ -35,7 +35,7 @@ pub struct Standing {
     pub request: u64,
 }
 
-/// The delays by which a run takes some steps, and where it stands after them.
+/// The delays by which a run takes some steps, and its state after them.
 #[derive(Drop)]
 pub struct Schedule {
     pub delays: Vec<Delay>,
@@ -134,7 +134,7 @@ impl Timing {
             .position(|known| known.goroutine == goroutine)
     }
 
-    /// At which request a goroutine stands.
+    /// The request at which a goroutine is.
     fn standing(&self, goroutine: u32) -> Option<Standing> {
         let known = self.goroutines.get(self.index_of(goroutine)?)?;
         Some(Standing {
@@ -143,7 +143,7 @@ impl Timing {
         })
     }
 
-    /// At which requests the goroutines stand, in the order of their numbers in the run.
+    /// The requests at which the goroutines are, in the order of their numbers in the run.
     fn all_standing(&self, alloc: Global) -> Result<Vec<Standing>, Memory> {
         let mut all = Vec::new(alloc);
         for known in self.goroutines.iter() {

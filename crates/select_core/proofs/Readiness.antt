@@ -18,7 +18,7 @@ at_place [] i x y within is = absurd (omega (arith, within))
 at_place (z ∷ zs) zero x y within is = sym is
 at_place (z ∷ zs) (suc i) x y within is = at_place zs i x y (omega (arith, within)) is
 
--- the ready clause at this place is not on nil
+-- the ready clause at index `i` is not on nil
 pub open_at : (v : ChannelsValue) (cases : List Case) (i : ℕ) (x : Case) → i < length cases → x ≡ get_or cases i x → ((o : Others) (n c : ℕ) (q : Request) → true ≡ is_ready (shared_with o v) n c q x.chan x.item) → (q : Request) → IsOpenAt i cases
 open_at v cases i x within is ready q =
     let o : Others = record { output = []; live = 0; made = 0; events = []; ending = None } in

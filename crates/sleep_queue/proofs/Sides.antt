@@ -1,4 +1,4 @@
--- The slots of a slab as places in rings.
+-- The slots of a slab as indices in rings.
 use Rattle.std.proofs.Common.{◌≡◌, ◌≢◌, ℕ, zero, suc, ◌<◌, ◌≤◌, sym, ap, ◌∙◌, subst, arith, Bool, true, false, inl, inr, refl, List, length}
 use Rattle.std.proofs.lemmas.Bool.{cases_eq, both_ways, or_from, or_left, or_right}
 use Rattle.std.proofs.lemmas.Bool.Decides.{nat_tests}

@@ -29,7 +29,7 @@ one_of (Some a) (Some b) n e = elim (cases_Bool (nat_lt b.stamp a.stamp)) [
 abbrev place_of : Stored → Option Stored → ℕ
 place_of t o = (unwrap_or o t).place
 
--- this is the place of an item, or is not
+-- this is the index of an item, or is not
 is_place : (o : Option Stored) (p : ℕ) → ((s : Stored) × (o ≡ Some s) × (s.place ≡ p)) ⊎ ((s : Stored) → o ≡ Some s → p ≢ s.place)
 is_place None p = inr (λ s e. absurd (none-some s e))
 is_place (Some t) p = elim (cases_eq t.place p) [
@@ -71,13 +71,13 @@ module _ (s v : Slab Node) (items items' : List (Option Item)) (k : ℕ) (n : No
     its : (i : ℕ) (m : Node) (t : Stored) → i ≡ k → get v i ≡ Some m → item_of m ≡ Some t → item_of n ≡ Some t
     its i m t x e h = ap item_of (node_inj n m (sym u.changed ∙ sym (ap (get v) x) ∙ e)) ∙ h
 
-    -- the place of the new item is no other's
+    -- the index of the new item is no other's
     apart : (i j : ℕ) (b c : Node) (t w : Stored) → i ≡ k → j ≢ k → get v i ≡ Some b → get v j ≡ Some c → item_of b ≡ Some t → item_of c ≡ Some w → t.place ≡ w.place → ⊥
     apart i j b c t w x y e g h l same =
         none-some w.item.value (sym (if_some (λ r. slice_index_or items r.place None ≡ None) n.offer.item t free (its i b t x e h))
         ∙ ap (λ (p : ℕ). slice_index_or items p None) same ∙ a.held j c w (was j c y g) l)
 
-    -- the item of an old offer has another place
+    -- the item of an old offer has another index
     elsewhere : (i : ℕ) (m : Node) (t : Stored) → get s i ≡ Some m → item_of m ≡ Some t → (w : Stored) → n.offer.item ≡ Some w → t.place ≢ w.place
     elsewhere i m t e h w g same =
         none-some t.item.value (sym (if_some (λ r. slice_index_or items r.place None ≡ None) n.offer.item w free g) ∙ sym (ap (λ (p : ℕ). slice_index_or items p None) same) ∙ a.held i m t e h)

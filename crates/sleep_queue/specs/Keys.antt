@@ -1,4 +1,4 @@
--- Keys by numbers: most at the place that is the number's remainder, the others in a map.
+-- Keys by numbers: most at the index that is the number's remainder, the others in a map.
 use Rattle.std.specs.Prelude.{ℕ, ◌%◌, ◌==◌, Bool, true, List, Option, None, Some, cond, nat_eq, slice_index_or}
 use Rattle.std.specs.Map.{lookup}
 use Rattle.std.specs.Option.{option_or}
@@ -9,7 +9,7 @@ pub record KeysValue : Type 0 where
   pub near : List (Option NumberedKey)
   pub far : List (ℕ × ℕ)
 
--- what stands at the place of number n
+-- the entry at the index of number n, if any
 abbrev pub near_at : List (Option NumberedKey) → ℕ → Option NumberedKey
 near_at near n = slice_index_or near (n % NEAR) None
 

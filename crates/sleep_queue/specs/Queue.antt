@@ -8,13 +8,13 @@ use Rattle.sleep_queue.specs.declared.offer.Node.{Node}
 use Rattle.sleep_queue.specs.Stored.{AreStored, offer_of}
 use Rattle.word.specs.Values.{Item}
 
--- places, of which some are taken; each of these is of a group, and has a stamp
+-- indices, of which some are taken; each taken index has a group and a stamp
 pub record Places : Type 0 where
   pub taken : ℕ → Bool
   pub group : ℕ → ℕ
   pub stamp : ℕ → ℕ
 
--- no place is between x and y, in the order of stamps, which starts over after the last
+-- no index is between x and y, in the order of stamps, which starts over after the last
 pub record IsBeside (u : Places) (x y : ℕ) : Type 0 where
   pub group : u.group y ≡ u.group x
   pub rises : (z : ℕ) → u.taken z ≡ true → u.group z ≡ u.group x → u.stamp x < u.stamp y → u.stamp x < u.stamp z → u.stamp y ≤ u.stamp z
@@ -27,12 +27,12 @@ pub record IsRing (u : Places) (f : ℕ → ℕ) : Type 0 where
   pub inside : (x : ℕ) → u.taken x ≡ true → u.taken (f x) ≡ true
   pub beside : (x : ℕ) → u.taken x ≡ true → IsBeside u x (f x)
 
--- no two places have one stamp, and each stamp is below the next one
+-- no two indices have one stamp, and each stamp is below the next one
 pub record IsStamped (u : Places) (next : ℕ) : Type 0 where
   pub apart : (x y : ℕ) → u.taken x ≡ true → u.taken y ≡ true → u.stamp x ≡ u.stamp y → x ≡ y
   pub below : (x : ℕ) → u.taken x ≡ true → u.stamp x < next
 
--- the first place of a group
+-- the first index of a group
 pub record IsFirst (u : Places) (r k : ℕ) : Type 0 where
   pub taken : u.taken k ≡ true
   pub group : u.group k ≡ r
@@ -42,7 +42,7 @@ abbrev pub IsHeadOf : Places → ℕ → Option ℕ → Type 0
 IsHeadOf u r None = (z : ℕ) → u.taken z ≡ true → u.group z ≡ r → ⊥
 IsHeadOf u r (Some k) = IsFirst u r k
 
--- the head of a group when place x, which y follows, has left
+-- the head of a group when index x, which y follows, has left
 abbrev pub head_without : Option ℕ → ℕ → ℕ → Option ℕ
 head_without None x y = None
 head_without (Some k) x y = cond (k == x) (cond (y == x) None (Some y)) (Some k)
@@ -52,7 +52,7 @@ abbrev pub head_with : Option ℕ → ℕ → Option ℕ
 head_with None x = Some x
 head_with (Some k) x = Some k
 
--- w is u without place x
+-- w is u without index x
 pub record Left (u w : Places) (x : ℕ) : Type 0 where
   pub gone : w.taken x ≡ false
   pub fewer : (y : ℕ) → w.taken y ≡ true → (u.taken y ≡ true) × (y ≢ x)
@@ -60,7 +60,7 @@ pub record Left (u w : Places) (x : ℕ) : Type 0 where
   pub group : (y : ℕ) → y ≢ x → w.group y ≡ u.group y
   pub stamp : (y : ℕ) → y ≢ x → w.stamp y ≡ u.stamp y
 
--- w is u with place x of this group and stamp
+-- w is u with index x of this group and stamp
 pub record Entered (u w : Places) (x r s : ℕ) : Type 0 where
   pub was : u.taken x ≡ false
   pub taken : w.taken x ≡ true
@@ -135,7 +135,7 @@ abbrev pub first : List Waiting → Option Waiting
 first [] = None
 first (w ∷ ws) = Some w
 
--- the slots of a slab stand in rings by a group, in order, and each group's first place is known
+-- the slots of a slab are in rings by a group, in order, and each group's first index is known
 pub record IsSide (f : Node → ℕ) (xs : List (Option Node)) (next : List ℕ) (head : ℕ → Option ℕ) : Type 0 where
   pub ring : IsRing (places_by f xs) (link next)
   pub heads : (q : ℕ) → IsHeadOf (places_by f xs) q (head q)
@@ -156,7 +156,7 @@ by_number n = n.offer.number
 abbrev pub head_at : List (Option ℕ) → ℕ → Option ℕ
 head_at heads q = slice_index_or heads q None
 
--- what is at a place, if anything
+-- what is at an index, if anything
 abbrev pub node_at : List (Option Node) → Option ℕ → Option Node
 node_at xs None = None
 node_at xs (Some k) = slice_index_or xs k None

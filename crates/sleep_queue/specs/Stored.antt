@@ -18,16 +18,16 @@ stored_item s = option_map (λ (t : Stored). t.item.value) s
 abbrev pub offer_of : Kept → Offer
 offer_of k = record { number = k.number; case = k.case; chan = k.chan; item = stored_item k.item }
 
--- what the store has at an item's place
+-- what the store has at an item's index
 abbrev pub item_at : List (Option Item) → Option Stored → Option Item
 item_at items None = None
 item_at items (Some s) = slice_index_or items s.place None
 
--- the item at this place is one of these offers'
+-- the item at this index is one of these offers'
 abbrev pub IsOffered : List (Option Node) → ℕ → Type 0
 IsOffered xs p = (i : ℕ) × (n : Node) × (s : Stored) × (slice_index_or xs i None ≡ Some n) × (n.offer.item ≡ Some s) × (s.place ≡ p)
 
--- the store has the items of these offers, each at a place of its own, and no others
+-- the store has the items of these offers, each at an index of its own, and no others
 pub record AreStored (xs : List (Option Node)) (items : List (Option Item)) : Type 0 where
   pub held : (i : ℕ) (n : Node) (s : Stored) → slice_index_or xs i None ≡ Some n → n.offer.item ≡ Some s → slice_index_or items s.place None ≡ Some s.item.value
   pub own : (i j : ℕ) (a b : Node) (s t : Stored) → slice_index_or xs i None ≡ Some a → slice_index_or xs j None ≡ Some b → a.offer.item ≡ Some s → b.offer.item ≡ Some t → s.place ≡ t.place → i ≡ j

@@ -1,4 +1,4 @@
-//! The first offer of each group, at the group's place in a list.
+//! The first offer of each group, at the group's index in a list.
 
 ghost use Rattle.std.specs.Prelude.{◌≡◌, ◌≢◌, ◌<◌, ℕ, IfSome, length};
 ghost use Rattle.sleep_queue.specs.Queue.{head_at, head_with, head_without};

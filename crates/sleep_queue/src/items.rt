@@ -11,7 +11,7 @@ use std::alloc::Global;
 use std::snapshot::Snapshot;
 use word::value::Item;
 
-/// Puts an item, if there is one, at a free place of the store.
+/// Puts an item, if there is one, at a free index of the store.
 pub(crate) fn store(alloc: Global, items: &mut Slab<Item>, item: Option<&Item>) -> Option<Stored>
     requires { HasRoomFor items.old 1 }
     ensures item { stored_item result ≡ option_copied item.entry }
@@ -32,7 +32,7 @@ pub(crate) fn store(alloc: Global, items: &mut Slab<Item>, item: Option<&Item>) 
     }
 }
 
-/// What stands at this place of the store is this item now.
+/// Writes this item at index `place` of the store.
 fn write(items: &mut Slab<Item>, place: usize, item: &Item)
     requires { get items.old place ≢ None }
     ensures { Updates items.old items.new place (Some item.now) }

@@ -10,7 +10,7 @@ use std::alloc::{AllocError, Global};
 use std::collections::HashMap;
 use std::marker::Model;
 
-/// How many places the short list of `NumberedKeys` has at most.
+/// The greatest length of the short list of `NumberedKeys`.
 const NEAR: u64 = 16_384;
 
 /// A key, and the number that has it.
@@ -21,8 +21,8 @@ pub(crate) struct NumberedKey {
 }
 
 /// A key for some numbers, which is found at once. Its size depends on how many numbers have one, not on how high they are:
-/// most stand in a short list of at most 384 KiB, at the place that is the number's remainder. If that place is another
-/// number's, they stand in a map.
+/// most are in a short list of at most 384 KiB, at the index that is the number's remainder. If another number's key is
+/// at that index, they are in a map.
 #[derive(Drop)]
 pub struct NumberedKeys {
     near: Vec<Option<NumberedKey>>,
@@ -62,7 +62,7 @@ impl NumberedKeys {
     ///
     /// # Errors
     ///
-    /// `Memory` if memory is refused.
+    /// `Memory` if it is out of memory.
     #[inline(always)]
     pub fn insert(&mut self, number: u64, key: usize) -> Result<Option<usize>, Memory>
         ensures old { IfOk result (λ old. old ≡ owned self.old number) }
@@ -77,7 +77,7 @@ impl NumberedKeys {
         self.insert_anywhere(number, key)
     }
 
-    /// Like `insert`, whatever stands at the number's place. It is a call, so that it takes no part in what is called often.
+    /// Like `insert`, whatever is at the number's index. This rare path is not inlined.
     #[inline(never)]
     fn insert_anywhere(&mut self, number: u64, key: usize) -> Result<Option<usize>, Memory>
         ensures old { IfOk result (λ old. old ≡ owned self.old number) }
@@ -119,7 +119,7 @@ fn first_of(near: Option<usize>, far: Option<usize>) -> Option<usize>
     }
 }
 
-/// The key that stands for a number at its place.
+/// The key of `number`, if it is in the short list.
 fn near_key(near: &[Option<NumberedKey>], number: u64) -> Option<usize>
     ensures { result ≡ key_for (near_at near.now number) number }
 {
@@ -129,7 +129,7 @@ fn near_key(near: &[Option<NumberedKey>], number: u64) -> Option<usize>
     }
 }
 
-/// Whether no other number stands at a number's place.
+/// Whether no other number's key is at the index of `number`.
 fn is_free(near: &[Option<NumberedKey>], number: u64) -> bool
     ensures { result ≡ is_free_for (near_at near.now number) number }
 {
@@ -139,7 +139,7 @@ fn is_free(near: &[Option<NumberedKey>], number: u64) -> bool
     }
 }
 
-/// What stands at a number's place.
+/// The entry at the index of `number`, if any.
 fn at(near: &[Option<NumberedKey>], number: u64) -> Option<NumberedKey>
     ensures { result ≡ near_at near.now number }
 {
@@ -164,7 +164,7 @@ fn cover(near: &mut Vec<Option<NumberedKey>>, number: u64) -> Result<(), AllocEr
     near.resize(place + 1, None)
 }
 
-/// This stands at a number's place now.
+/// Writes `entry` at the index of `number`.
 fn set_near(near: &mut Vec<Option<NumberedKey>>, number: u64, entry: Option<NumberedKey>)
     requires { IfSome entry (λ e. number % NEAR < length near.old.items) }
     ensures own { near_at near.new.items number ≡ entry }
@@ -176,7 +176,7 @@ fn set_near(near: &mut Vec<Option<NumberedKey>>, number: u64, entry: Option<Numb
     }
 }
 
-/// Puts a number's key at its place, which no other number has.
+/// Puts a number's key at its index, at which no other number's key is.
 fn put_near(near: &mut Vec<Option<NumberedKey>>, entry: NumberedKey) -> Result<(), AllocError>
     requires { is_free_for (near_at near.old.items entry.number) entry.number ≡ true }
     ensures own { OnOk result (key_for (near_at near.new.items entry.number) entry.number ≡ Some entry.key) }
@@ -188,7 +188,7 @@ fn put_near(near: &mut Vec<Option<NumberedKey>>, entry: NumberedKey) -> Result<(
     Ok(())
 }
 
-/// Puts a number's key at its place, if the list covers that and it is empty; returns whether it did.
+/// Puts a number's key at its index, if the list covers that and it is empty; returns whether it did.
 #[inline(always)]
 fn fill_near(near: &mut [Option<NumberedKey>], entry: NumberedKey) -> bool
     ensures free { result ≡ true → near_at near.old entry.number ≡ None }
@@ -204,7 +204,7 @@ fn fill_near(near: &mut [Option<NumberedKey>], entry: NumberedKey) -> bool
     true
 }
 
-/// A number has no key at its place any more: the one that it had there.
+/// Removes the key of `number` from the short list, and returns it, if it is there.
 #[inline(always)]
 fn cut_near(near: &mut [Option<NumberedKey>], number: u64) -> Option<usize>
     ensures old { result ≡ key_for (near_at near.old number) number }

@@ -4,7 +4,7 @@ use std::snapshot::Snapshot;
 use word::value::Item;
 
 /// A way to serve the goroutine of this number: on channel `chan`, by clause `case` of its select, counted from 1, which is 0
-/// outside a select. A send where there is an item.
+/// outside a select. A send if there is an item.
 #[derive(Drop)]
 pub struct Offer {
     pub number: u64,
@@ -43,7 +43,7 @@ impl OfferView<'_> {
     }
 }
 
-/// An item in a store, by its place there. The item itself contracts alone see.
+/// An item in a store, by its index there. Only contracts see the item itself.
 #[derive(Drop)]
 pub(crate) struct Stored {
     pub place: usize,

@@ -93,7 +93,7 @@ impl SleepQueues {
     ///
     /// # Errors
     ///
-    /// `Memory` if memory is refused, or after 2^128 offers.
+    /// `Memory` if it is out of memory, or after 2^128 offers.
     pub fn enter(&mut self, row: usize, offer: OfferView<'_>) -> Result<usize, Memory>
         requires { row < self.old.rows }
         ensures ok { IfOk result (λ key. self.new ≡ record self.old { waiting = self.old.waiting ++ record { key = key; row = row; offer = view_of offer.entry } ∷ [] }) }

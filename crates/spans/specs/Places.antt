@@ -1,8 +1,8 @@
--- Where the nodes of a tree stand in a text: each from the first byte of its first token to the end of its last one. They
+-- The spans of the nodes of a tree: each from the first byte of its first token to the end of its last one. They
 -- are listed in the order of their numbers: first those below a node, from left to right, and then the node.
 --
 -- `type_spans tokens at kind` are the nodes of a type whose first token has the number `at`; so with the others. A
--- comment before a case says how it is spelt. Names have no nodes, but expressions and places of one name do.
+-- comment before a case says how it is spelt. Names have no nodes, but expressions and lvalues of one name do.
 use Rattle.std.specs.Prelude.{ℕ, zero, suc, ◌+◌, ◌*◌, length, sum_by, Option, Some, None, List, [], ◌∷◌, ◌++◌, slice_get}
 use Rattle.go_text.specs.declared.place.Span.{Span}
 use Rattle.scanner.specs.declared.token.Token.{Token}
@@ -112,7 +112,7 @@ parts_spans tokens at (first ∷ rest) = part_spans tokens at first ++ parts_spa
 abbrev pub place_span : List Token → ℕ → Place → Span
 place_span tokens at place = over tokens at (place_count place)
 
--- places with a mark after each
+-- lvalues with a mark after each
 abbrev pub places_spans : List Token → ℕ → List Place → List Span
 places_spans tokens at [] = []
 places_spans tokens at (first ∷ rest) = place_span tokens at first ∷ places_spans tokens (at + place_step first) rest
@@ -130,17 +130,17 @@ below_simple tokens at (ReceiveAlone channel) = expression_spans tokens (at + 1)
 below_simple tokens at (Send channel value) =
     expression_spans tokens at channel
     ++ expression_spans tokens (at + expression_count channel + 1) value
--- place ++
+-- lvalue ++
 below_simple tokens at (Increment place) = place_span tokens at place ∷ []
--- place --
+-- lvalue --
 below_simple tokens at (Decrement place) = place_span tokens at place ∷ []
--- places = values
+-- lvalues = values
 below_simple tokens at (Assign places values) =
     places_spans tokens at places
     ++ right_spans tokens (at + sum_by place_step places) values
 -- names := values
 below_simple tokens at (Define names values) = right_spans tokens (at + length names * 2) values
--- place += value
+-- lvalue += value
 below_simple tokens at (Update place operator value) =
     place_span tokens at place
     ∷ expression_spans tokens (at + place_count place + 1) value
@@ -155,7 +155,7 @@ abbrev pub optional_spans : {A : Type 0} → (List Token → ℕ → A → List 
 optional_spans spans tokens at None = []
 optional_spans spans tokens at (Some x) = spans tokens at x
 
--- what stands between an `if` and its condition
+-- what is between an `if` and its condition
 abbrev pub if_head_spans : List Token → ℕ → IfHead → List Span
 if_head_spans tokens at Bare = []
 if_head_spans tokens at Semicolon = []
@@ -167,10 +167,10 @@ abbrev pub target_spans : List Token → ℕ → Target → List Span
 target_spans tokens at NoTarget = []
 -- name :=
 target_spans tokens at (DefineTarget name) = []
--- place =
+-- lvalue =
 target_spans tokens at (AssignTarget place) = place_span tokens at place ∷ []
 
--- what stands between a `for` and its block
+-- what is between a `for` and its block
 abbrev pub for_head_spans : List Token → ℕ → ForHead → List Span
 for_head_spans tokens at Forever = []
 for_head_spans tokens at (While condition) = expression_spans tokens at condition
@@ -194,7 +194,7 @@ receive_spans tokens at channel =
     under (expression_spans tokens (at + 1) channel)
     (over tokens at (expression_count channel + 1))
 
--- , place
+-- , lvalue
 abbrev pub second_spans : List Token → ℕ → Option Place → List Span
 second_spans tokens at None = []
 second_spans tokens at (Some place) = place_span tokens (at + 1) place ∷ []
@@ -245,7 +245,7 @@ with_block tokens at body below = under below (over tokens at (braced (body_coun
 
 abbrev mutual
   pub statement_spans : List Token → ℕ → Statement → List Span
-  -- the empty statement has no token: it stands where the next one begins
+  -- the empty statement has no token: it is where the next one begins
   statement_spans tokens at Empty = over tokens at 0 ∷ []
   statement_spans tokens at (Alone simple) = simple_spans tokens at simple
   -- var names kind = values
@@ -297,7 +297,7 @@ abbrev mutual
       ++ otherwise_spans tokens behind_body otherwise)
       (over tokens at (branch_count (Conditional head condition body otherwise)))
 
-  -- what stands after the block of an `if`
+  -- what is after the block of an `if`
   pub otherwise_spans : List Token → ℕ → Otherwise → List Span
   otherwise_spans tokens at NoElse = []
   -- else { body }

@@ -80,7 +80,7 @@ part_count (Text bytes) = 1
 abbrev pub part_step : Part → ℕ
 part_step part = part_count part + 1
 
--- a place, and the mark after it
+-- an lvalue, and the mark after it
 abbrev pub place_step : Place → ℕ
 place_step place = place_count place + 1
 
@@ -98,7 +98,7 @@ simple_count (Update place operator value) = place_count place + expression_coun
 
 -- ---- headers
 
--- what stands between an `if` and its condition
+-- what is between an `if` and its condition
 abbrev pub if_head_count : IfHead → ℕ
 if_head_count Bare = 0
 if_head_count Semicolon = 1
@@ -110,7 +110,7 @@ target_count NoTarget = 0
 target_count (DefineTarget name) = 2
 target_count (AssignTarget place) = place_count place + 1
 
--- what stands between a `for` and its block
+-- what is between a `for` and its block
 abbrev pub for_head_count : ForHead → ℕ
 for_head_count Forever = 0
 for_head_count (While condition) = expression_count condition
@@ -118,7 +118,7 @@ for_head_count (ForClauses first condition post) =
     if_any simple_count first + if_any expression_count condition + if_any simple_count post + 2
 for_head_count (Range target channel) = target_count target + expression_count channel + 1
 
--- a second place, and the comma before it
+-- a second lvalue, and the comma before it
 abbrev pub second_count : Option Place → ℕ
 second_count None = 0
 second_count (Some place) = place_step place

@@ -1,4 +1,4 @@
-//! Where the nodes of a file stand.
+//! The spans of the nodes of a file.
 
 ghost use Rattle.std.specs.Prelude.{◌≡◌, ◌++◌, IfOk, map, option_map, sum_by, vec_len};
 ghost use Rattle.syntax.specs.Measures.{if_any, size};
@@ -143,8 +143,8 @@ fn tops_spans(
     Ok(count)
 }
 
-/// Where the nodes of a file stand, in the order of their numbers, if these tokens spell it. It fails only if memory
-/// is refused.
+/// The spans of the nodes of a file, in the order of their numbers, if these tokens spell it. It fails only if it is out
+/// of memory.
 pub fn file_spans(alloc: Global, file: &FileNode, tokens: &[Token]) -> Result<Vec<Span>, Memory>
     requires { EndsInReach 0 (file_count (file_of file.now)) }
     ensures spans { IfOk result (λ spans. spans.items ≡ file_spans tokens.now (file_of file.now)) }

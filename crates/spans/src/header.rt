@@ -1,4 +1,4 @@
-//! Where the nodes of headers stand, and those of what a clause of a select waits for.
+//! The spans of the nodes of headers, and of those of what a clause of a select waits for.
 
 ghost use Rattle.std.specs.Prelude.{◌≡◌, ◌+◌, ◌++◌, IfOk, option_map};
 ghost use Rattle.syntax.specs.Measures.{if_any};
@@ -17,7 +17,7 @@ use syntax::{
     SimpleNode,
 };
 
-/// Adds the spans of what stands between an `if` and its condition.
+/// Adds the spans of what is between an `if` and its condition.
 pub(crate) fn if_head_spans(
     header: &IfHeader,
     tokens: &[Token],
@@ -122,7 +122,7 @@ fn range_spans(
     Ok(count + expression_spans(channel, tokens, at + count + 1, spans)? + 1)
 }
 
-/// Adds the spans of what stands between a `for` and its block.
+/// Adds the spans of what is between a `for` and its block.
 pub(crate) fn for_head_spans(
     header: &ForHeader,
     tokens: &[Token],
@@ -143,7 +143,7 @@ pub(crate) fn for_head_spans(
     }
 }
 
-/// Adds the span of a second place, if there is one, after a comma.
+/// Adds the span of a second lvalue, if there is one, after a comma.
 fn second_spans(
     place: &Option<PlaceNode>,
     tokens: &[Token],
@@ -185,7 +185,7 @@ fn second_name_count(name: &Option<Name>) -> usize
     }
 }
 
-/// Adds the spans of one place or two, and of the receive that is assigned to them.
+/// Adds the spans of one lvalue or two, and of the receive that is assigned to them.
 fn assign_spans(
     item: &PlaceNode,
     ok: &Option<PlaceNode>,

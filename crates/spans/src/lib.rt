@@ -1,4 +1,4 @@
-//! Where the nodes of a syntax tree stand in the source: a walk over a finished tree and its tokens.
+//! The spans of the nodes of a syntax tree: a walk over a finished tree and its tokens.
 //!
 //! Each function takes a part of the tree, and the number `at` of the part's first token. It appends the spans of the
 //! part's nodes, in the order of the nodes' numbers, and returns how many tokens spell the part. It fails only if it is

@@ -1,4 +1,4 @@
-//! Where the nodes of simple statements stand.
+//! The spans of the nodes of simple statements.
 
 ghost use Rattle.std.specs.Prelude.{◌≡◌, ◌+◌, ◌++◌, ◌∷◌, [], IfOk, map, sum_by};
 ghost use Rattle.syntax.specs.View.{arguments_of, expression_of, right_of, part_of, place_of, simple_of};
@@ -76,7 +76,7 @@ fn parts_spans(
     Ok(count)
 }
 
-/// Adds the span of a place.
+/// Adds the span of an lvalue.
 pub(crate) fn place_span(
     place: &PlaceNode,
     tokens: &[Token],
@@ -90,7 +90,7 @@ pub(crate) fn place_span(
     add_node(tokens, at, place.fields.len() * 2 + 1, spans)
 }
 
-/// Adds the spans of places. The count includes a mark after each.
+/// Adds the spans of lvalues. The count includes a mark after each.
 fn places_spans(
     places: &[PlaceNode],
     tokens: &[Token],
@@ -156,7 +156,7 @@ fn assignment_spans(
     Ok(count + right_spans(right, tokens, at + count, spans)?)
 }
 
-/// Adds the span of the place below a step.
+/// Adds the span of the lvalue below a step.
 fn step_spans(
     place: &PlaceNode,
     tokens: &[Token],

@@ -1,4 +1,4 @@
-//! Where the nodes of statements stand.
+//! The spans of the nodes of statements.
 
 ghost use Rattle.std.specs.Prelude.{◌≡◌, ◌++◌, IfOk, map};
 ghost use Rattle.syntax.specs.View.{statement_of, body_of, branch_of, otherwise_of, clause_of, clauses};

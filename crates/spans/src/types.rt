@@ -1,4 +1,4 @@
-//! Where the nodes of types stand.
+//! The spans of the nodes of types.
 
 ghost use Rattle.std.specs.Prelude.{◌≡◌, ◌++◌, IfOk};
 ghost use Rattle.syntax.specs.View.{type_of};

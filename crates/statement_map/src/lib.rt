@@ -1,4 +1,4 @@
-//! Which statement of a program, and which operation in it, each instruction of its code comes from, and on which lines they stand.
+//! Which statement of a program, and which operation in it, each instruction of its code comes from, and on which lines they are.
 #![tactic(auto)]
 
 mod lines;

@@ -230,7 +230,7 @@ impl<'m> Walk<'m> {
         Ok(end)
     }
 
-    /// Passes what stands between a `for` and its block, except the statement after each turn.
+    /// Passes what is between a `for` and its block, except the statement after each turn.
     fn header(
         &mut self,
         part: Option<usize>,

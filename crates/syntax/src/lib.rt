@@ -1,4 +1,4 @@
-//! Trees of programs, with the place of each node.
+//! Trees of programs, with the span of each node.
 #![tactic(auto)]
 
 pub mod limits;

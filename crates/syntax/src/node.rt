@@ -258,7 +258,7 @@ impl Drop for SimpleNode {
     }
 }
 
-/// What stands between an `if` and its condition.
+/// What is between an `if` and its condition.
 pub enum IfHeader {
     /// Nothing.
     Bare,
@@ -294,7 +294,7 @@ impl Drop for RangeTarget {
     }
 }
 
-/// What stands between a `for` and its block.
+/// What is between a `for` and its block.
 pub enum ForHeader {
     Forever,
     While(ExpressionNode),
@@ -329,7 +329,7 @@ pub enum CommNode {
     Receive(ExpressionNode),
     /// A receive with a `:=` of one name or two.
     Define(Name, Option<Name>, ExpressionNode),
-    /// A receive with an assignment to one place or two.
+    /// A receive with an assignment to one lvalue or two.
     Assign(PlaceNode, Option<PlaceNode>, ExpressionNode),
 }
 
@@ -449,7 +449,7 @@ impl Drop for IfNode {
     }
 }
 
-/// What stands after the block of an `if`.
+/// What is after the block of an `if`.
 #[cycle(statement)]
 pub enum ElseNode {
     Nothing,
@@ -504,7 +504,7 @@ impl Drop for DeclaredNode {
 pub struct StructNode {
     pub name: Name,
     pub fields: Vec<DeclaredNode>,
-    /// Whether a semicolon stands after the last field.
+    /// Whether there is a semicolon after the last field.
     pub trailing: bool,
 }
 
@@ -524,7 +524,7 @@ impl Drop for StructNode {
 pub struct FunctionNode {
     pub name: Name,
     pub parameters: Vec<DeclaredNode>,
-    /// Whether a comma stands after the last parameter.
+    /// Whether there is a comma after the last parameter.
     pub trailing: bool,
     pub result: Option<TypeNode>,
     /// The statements of the function's block, in order.

@@ -138,7 +138,7 @@ fn optional_simple_size(simple: &Option<SimpleNode>) -> u32
     }
 }
 
-/// How many nodes stand between an `if` and its condition.
+/// How many nodes are between an `if` and its condition.
 fn if_header_size(header: &IfHeader) -> u32
     requires { if_head_size (if_head_of header.now) < 2 ^ 32 }
     ensures { result ≡ if_head_size (if_head_of header.now) }
@@ -159,7 +159,7 @@ fn target_size(target: &RangeTarget) -> u32
     }
 }
 
-/// How many nodes stand between a `for` and its block.
+/// How many nodes are between a `for` and its block.
 fn for_header_size(header: &ForHeader) -> u32
     requires { for_head_size (for_head_of header.now) < 2 ^ 32 }
     ensures { result ≡ for_head_size (for_head_of header.now) }
@@ -258,7 +258,7 @@ fn branch_size(branch: &IfNode) -> u32
         + 2
 }
 
-/// How many nodes there are of what stands after the block of an `if`.
+/// How many nodes there are in what is after the block of an `if`.
 #[cycle(statement_size)]
 fn otherwise_size(otherwise: &ElseNode) -> u32
     requires { otherwise_size (otherwise_of otherwise.now) < 2 ^ 32 }

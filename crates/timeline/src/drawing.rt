@@ -21,7 +21,7 @@ const TOP: u64 = 120;
 /// The pixels left of the first clock, for the names of lanes.
 pub(crate) const LEFT: u64 = 160;
 
-/// The pixels right of the lanes: at least, and at most if there stands what the goroutines of a deadlock wait for.
+/// The pixels right of the lanes: at least, and at most if what the goroutines of a deadlock wait for is written there.
 const MARGIN: u64 = 24;
 
 const WAITS: u64 = 460;
@@ -39,7 +39,7 @@ struct Axis {
     y: u64,
     /// The other ends of its ticks.
     end: u64,
-    /// The line on which its numbers stand.
+    /// The line on which its numbers are.
     base: u64,
 }
 
@@ -71,7 +71,7 @@ pub(crate) fn draw(alloc: Global, recording: &Recording) -> Result<String, Memor
     Ok(text)
 }
 
-/// The lanes with what happens in them, the axes, and what stands around them.
+/// The lanes with what happens in them, the axes, and what is around them.
 fn push_all(text: &mut String, drawing: &Drawing) -> Result<(), AllocError> {
     push_head(text, drawing)?;
     push_axis(text, height(0).saturating_sub(20), true, drawing.scale)?;
@@ -99,7 +99,7 @@ fn lowest(drawing: &Drawing) -> u64 {
     height(drawing.lanes.lanes.len())
 }
 
-/// All that stands before the lanes: what the picture shows, and what its marks mean.
+/// All that comes before the lanes: what the picture shows, and what its marks mean.
 fn push_head(text: &mut String, drawing: &Drawing) -> Result<(), AllocError> {
     let width = drawing.scale.right().saturating_add(margin(drawing)?);
     let tall = lowest(drawing).saturating_add(40);
@@ -138,7 +138,7 @@ fn push_caption(text: &mut String, drawing: &Drawing) -> Result<(), AllocError> 
     )
 }
 
-/// A line of this class from one place to another.
+/// A line of this class from one point to another.
 pub(crate) fn push_line(
     text: &mut String,
     class: &str,

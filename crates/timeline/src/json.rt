@@ -162,7 +162,7 @@ fn push_flow_end(
     }
 }
 
-/// How the run ended, and the name of the whole, after which nothing stands.
+/// How the run ended, and the name of the whole, which comes last.
 fn push_end(
     alloc: Global,
     text: &mut String,

@@ -1,11 +1,11 @@
-//! The marks of a drawing: what stands before the lanes, and the shape of each event.
+//! The marks of a drawing: what comes before the lanes, and the shape of each event.
 
 use word::request::{Event, EventOutcome, Request};
 
 /// How many colors there are for the items of channels, `c0` to `c5` in `HEAD`.
 pub(crate) const CHANNEL_COLORS: u32 = 6;
 
-/// What stands before the first lane: the colors, the heads of arrows, and a white ground.
+/// What comes before the first lane: the colors, the heads of arrows, and a white ground.
 pub(crate) const HEAD: &str =
     "<style>text{font:12px sans-serif;fill:#222}.caption{font-size:15px;font-weight:bold}.small{font-size:10px;fill:#666}.note{font-style:italic}\
 .waits{fill:#d01515}.run{stroke:#4a78b0;stroke-width:3}.on{stroke:#4a78b0;stroke-width:3;stroke-dasharray:2 5}.sleep{fill:#e3e3e3}.stuck{fill:#fbdcdc}\
@@ -37,7 +37,7 @@ pub(crate) const LEGEND: &str = "<g transform=\"translate(12,56)\">\
 <line class=\"on\" x1=\"580\" y1=\"-4\" x2=\"604\" y2=\"-4\"/><text x=\"610\">runs on</text>\
 <rect class=\"stuck\" x=\"666\" y=\"-12\" width=\"24\" height=\"16\"/><line class=\"tail\" x1=\"666\" y1=\"-4\" x2=\"690\" y2=\"-4\"/><text x=\"696\">deadlock</text></g>\n";
 
-/// The mark of an event: its class, and its shape round the place where it stands.
+/// The mark of an event: its class, and its shape around its point.
 #[derive(Clone, Copy)]
 pub(crate) struct Mark {
     pub class: &'static str,

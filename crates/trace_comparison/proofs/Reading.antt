@@ -29,7 +29,7 @@ number_from : {E : Type 0} (text : List ℕ) (r : Result ℕ E) → OkIff r ((al
 number_from text (Ok n) (is, same) = (is.0, is.1, is.2, sym same)
 number_from text (Err e) isnt = λ n number. isnt (number.0, number.1, number.2)
 
--- a plus stands in no number
+-- no number begins with a plus
 pub plus_is_none : (text : List ℕ) → get_or text 0 0 ≡ 43 → (n : ℕ) → IsNumber text n → ⊥
 plus_is_none text plus n number = not_in_number text n 43 number (omega arith) 0 number.1 plus
 
@@ -105,7 +105,7 @@ none_here c cs isnt = isnt 0 (omega arith)
 none_after : (c : ℕ) (cs : List ℕ) → HasNoNewline (c ∷ cs) → HasNoNewline cs
 none_after c cs isnt i l = isnt (suc i) (omega arith)
 
--- the first newline is at one place
+-- the first newline is at one offset
 pub same_line : (a b more others : List ℕ) → HasNoNewline a → HasNoNewline b → a ++ 10 ∷ more ≡ b ++ 10 ∷ others → a ≡ b
 same_line [] [] more others na nb same = refl
 same_line [] (c ∷ b) more others na nb same = let e : 10 ≡ c = cc in absurd (none_here c b nb (sym e))

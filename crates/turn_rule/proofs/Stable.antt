@@ -231,7 +231,7 @@ module _ {S W : Type 0} (r : Rules S W) (laws : Laws r) where
   row_keeps f k (Some s) None h = elim h [ ]
   row_keeps f k (Some s) (Some row) h = k.by row s row.lease refl h.0 h.1
 
-  -- both lists are written at one place
+  -- both lists are written at one index
   pub set_both : (ss : List (Option S)) (rows : List (Option (Row S))) → length rows ≡ length ss → ((n : ℕ) → RowStands r (get_or ss n None) (get_or rows n None)) → (h : ℕ) (o : Option S) (p : Option (Row S)) → RowStands r o p
       → (n : ℕ) → RowStands r (get_or (set ss h o) n None) (get_or (set rows h p) n None)
   set_both ss rows size st h o p new n = elim (cases_eq n h) [

@@ -79,7 +79,7 @@ module _ {S W T V : Type 0} (r : Rules S W) (q : Rules T V) (Ready : S → T →
   first_of None t h = elim h [ ]
   first_of (Some s) t h = (s, refl)
 
-  -- both lists are written at one place
+  -- both lists are written at one index
   alike_set : (ss : List (Option S)) (ts : List (Option T)) → length ts ≡ length ss → ((n : ℕ) → RowAlike (get_or ss n None) (get_or ts n None)) → (h : ℕ) (o : Option S) (p : Option T) → RowAlike o p
       → (n : ℕ) → RowAlike (get_or (set ss h o) n None) (get_or (set ts h p) n None)
   alike_set ss ts size st h o p new n = elim (cases_eq n h) [
@@ -156,7 +156,7 @@ module _ {S W T V : Type 0} (r : Rules S W) (q : Rules T V) (Ready : S → T →
     row_left_step x y l None h = elim h [ ]
     row_left_step x y l (Some t) h = left_step x y t l h.i h.j h.left h.right h.clock h.ready
 
-    -- where the right one has moved on
+    -- when the right one has moved on
     right_moved : (s : S) (t u : T) (d : ℕ) → Facts s t d → Meets q u (moved q d t) → Alike s u
     right_moved s t u d f m =
         let e : moved q m.0 u ≡ moved q d t = m.2 ∙ moved_stays q laws' m.1 (moved q d t) (laws'.parks (moved q d t) f.right) in

@@ -1,4 +1,4 @@
--- Where goroutines stand, and which of them has the turn.
+-- Where goroutines are, and which of them has the turn.
 use Rattle.std.specs.Prelude.{◌≡◌, ℕ, Bool, true, false, ◌&&◌, cond, List, [], ◌∷◌, Option, Some, None, slice_get}
 use Rattle.logical_clock.specs.declared.key.Key.{Key}
 use Rattle.logical_clock.specs.Order.{is_before}

@@ -1,4 +1,4 @@
-//! Where goroutines stand, and which of them has the turn.
+//! Where goroutines are, and which of them has the turn.
 
 ghost use Rattle.std.specs.Prelude.{◌≡◌, ℕ, ◌≤◌, ◌^◌, IfNone, IfSome};
 ghost use Rattle.logical_clock.specs.declared.key.Key.{Key as OneKey};
@@ -6,7 +6,7 @@ ghost use Rattle.turn_rule.specs.Standings.{IsLeast, IsParked, better, is_before
 
 use logical_clock::Key;
 
-/// Where a goroutine stands.
+/// Where a goroutine is.
 #[derive(Clone, Copy, Debug, PartialEq, Eq)]
 pub enum Standing {
     /// At its request, with this key.

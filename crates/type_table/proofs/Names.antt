@@ -16,9 +16,9 @@ use Rattle.type_table.specs.Indexes.{later_place, last_place, entry_names}
 abbrev pub names_in : List Variable → List (List ℕ)
 names_in variables = map (λ (v : Variable). v.name) variables
 
--- ---- the last variable of a name is the one at the last place of the name
+-- ---- the last variable of a name is the one at the last index of the name
 
--- the place is that of the variable, if there is one
+-- the index is that of the variable, if there is one
 abbrev Agree : List Variable → Option ℕ → Option Variable → Type 0
 Agree variables None None = Unit {0}
 Agree variables None (Some v) = ⊥
@@ -37,7 +37,7 @@ agree : (variables : List Variable) (name : List ℕ) → Agree variables (last_
 agree [] name = tt
 agree (v ∷ rest) name = agree_step v rest (bytes_eq v.name name) (last_place (names_in rest) name) (last_named rest name) (agree rest name)
 
--- the variable at the last place, if that is not among the first `count`
+-- the variable at the last index, if that is not among the first `count`
 abbrev Behind : List Variable → ℕ → Option ℕ → Option Variable → Type 0
 Behind variables count None found = found ≡ None
 Behind variables count (Some place) found = (count ≤ place → found ≡ slice_get variables place) × (place < count → found ≡ None)
@@ -96,7 +96,7 @@ last_step : (first same : Bool) (count : ℕ) (found : Option ℕ)
 last_step first true count found = refl
 last_step first false count found = refl
 
--- the last place of a name is the new one, where the name is the new one
+-- the last index of a name is the new one, if the name is the new one
 last_more : (names : List (List ℕ)) (new name : List ℕ) → last_place (names ++ new ∷ []) name ≡ cond (bytes_eq new name) (Some (length names)) (last_place names name)
 last_more [] new name = refl
 last_more (first ∷ rest) new name =
@@ -107,7 +107,7 @@ less : (names : List (List ℕ)) (old name : List ℕ) (same : Bool) → bytes_e
 less names old name true e = ap (last_place names) ((bytes_eq-Decides old name).0 e)
 less names old name false e = refl
 
--- the last place of a name is the earlier one, where the last name is gone
+-- the last index of a name is the earlier one, if the last name is removed
 last_less : (names : List (List ℕ)) (old name : List ℕ) → cond (bytes_eq old name) (last_place names old) (last_place (names ++ old ∷ []) name) ≡ last_place names name
 last_less names old name = ap (cond (bytes_eq old name) (last_place names old)) (last_more names old name) ∙ less names old name (bytes_eq old name) refl
 
@@ -116,7 +116,7 @@ last_known names old = last_more names old old ∙ ap (λ same. cond same (Some 
 
 -- ---- the first of a name
 
--- the first of a name is the new one, where it has the name and none before has
+-- the first of a name is the new one, if it has the name and none before has
 abbrev or_new : Bool → ℕ → Option ℕ → Option ℕ
 or_new same count None = if same then Some count else None
 or_new same count (Some number) = Some number
@@ -207,7 +207,7 @@ count_names entries = length-map entries (λ (one : Entry). name_of one.name.now
 abbrev Finds : (List ℕ → Option ℕ) → List Entry → Type 0
 Finds index entries = (name : List ℕ) → index name ≡ last_place (entry_names entries) name
 
--- each has the place of the one that it hides
+-- each has the index of the one that it hides
 abbrev Hides : List Entry → Type 0
 Hides entries = (place : ℕ) (entry : Entry) → slice_get entries place ≡ Some entry → entry.hides ≡ last_place (take place (entry_names entries)) (name_of entry.name.now)
 
@@ -226,7 +226,7 @@ get_more [] entry (suc place) found h = absurd cc
 get_more (first ∷ old) entry zero found h = inl h
 get_more (first ∷ old) entry (suc place) found h = elim (get_more old entry place found h) [ inl g ↦ inl g | inr g ↦ inr (ap suc g.0, g.1) ]
 
--- the names before a place are the same with a variable more
+-- the names before an index are the same with a variable more
 before_more : (old new : List Entry) (entry : Entry) (place : ℕ) → new ≡ old ++ entry ∷ [] → place ≤ length old → take place (entry_names new) ≡ take place (entry_names old)
 before_more old new entry place e l =
     ap (take place) (names_more old new entry e) ∙ take-append-le place (entry_names old) (name_of entry.name.now ∷ []) (rw (count_names old) l)

@@ -1,4 +1,4 @@
--- Types that are written among variables are those that are written where none is.
+-- A type that is written among variables is the one that is written so where no variable is visible.
 use Rattle.std.proofs.Common.{◌≡◌, ℕ, List, Option, Some, None, option_map, refl, arith, ap}
 use Rattle.std.proofs.lemmas.Grind.{common_steps}
 use Rattle.std.proofs.lemmas.Option.{same_Some}

@@ -19,7 +19,7 @@ fields_in (Some fields) = fields
 abbrev pub fields_of : Structs → ℕ → List Field
 fields_of structs number = fields_in (slice_get structs number)
 
--- the type of the field at a place among these
+-- the type of the field at index `place`
 abbrev pub kind_at : List Field → ℕ → Option ValueType
 kind_at fields place = option_and_then (λ (field : Field). field.kind) (slice_get fields place)
 
@@ -39,7 +39,7 @@ abbrev pub together : Option ℕ → Option ℕ → Option ℕ
 together (Some m) (Some n) = Some (m + n)
 together m n = None
 
--- What a value of a type is made of, looked at so deep: None where structs lie deeper within one another, or where the
+-- What a value of a type is made of, looked at so deep: None if structs lie deeper within one another, or if the
 -- type of a field is not known. An int, a bool and a channel take one word, and a struct what its fields take.
 abbrev pub kind_width : (ℕ → Option ℕ) → Option ValueType → Option ℕ
 kind_width struct_width None = None
@@ -89,7 +89,7 @@ parts structs kind = kind_parts (parts_within structs (suc (length structs))) (S
 
 -- ---- fields
 
--- where a field stands in a value: its first word, and its type
+-- a field of a value: the index of its first word, and its type
 pub record Selected : Type 0 where
   pub place : ℕ
   pub kind : Option ValueType

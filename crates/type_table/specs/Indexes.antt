@@ -14,7 +14,7 @@ abbrev pub later_place : Option ℕ → Option ℕ → Option ℕ
 later_place found None = found
 later_place found (Some place) = Some place
 
--- where the last one of this name stands among these
+-- the index of the last of these that is `name`
 abbrev pub last_place : List (List ℕ) → List ℕ → Option ℕ
 last_place [] name = None
 last_place (first ∷ rest) name = later_place (if bytes_eq first name then Some 0 else None) (option_map suc (last_place rest name))

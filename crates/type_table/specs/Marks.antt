@@ -18,7 +18,7 @@ wides (New ∷ rest) = wides rest
 wides (Open ∷ rest) = wides rest
 wides (Wide w ∷ rest) = suc (wides rest)
 
--- its width in words, where every width over 16 counts as 17
+-- its width in words; every width over 16 counts as 17
 abbrev pub IsWide : Structs → ℕ → ℕ → ℕ → Type 0
 IsWide structs depth s w = (v : ℕ) × (width_within structs depth s ≡ Some v) × (w ≡ min v 17)
 

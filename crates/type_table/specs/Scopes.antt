@@ -1,4 +1,4 @@
--- Names, and what they stand for where they are used.
+-- Names, and what they stand for in a scope.
 use Rattle.std.specs.Prelude.{ℕ, suc, ◌+◌, Bool, ◌||◌, if◌then◌else◌, List, [], ◌∷◌, ◌++◌, Option, Some, None, option_map, bytes_eq, codes, drop, length}
 use Rattle.std.specs.Option.{is_some}
 use Rattle.syntax.specs.Tree.{TypeExpression, NamedType, ParenthesizedType, Channel}

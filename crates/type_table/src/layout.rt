@@ -1,4 +1,4 @@
-//! Where the fields of a value lie, and how many words it takes.
+//! The words of the fields of a value, and how many words it takes.
 
 ghost use Rattle.std.specs.Prelude.{◌≡◌, ◌≤◌, Some, option_map, option_copied, slice_get, IfSome, map};
 ghost use Rattle.type_table.specs.Containment.{variable_words, field_among, field_of};

@@ -1,4 +1,4 @@
-//! Variables, and where they are visible.
+//! Variables, and in which scopes they are visible.
 
 ghost use Rattle.std.specs.Prelude.{◌≡◌, ◌-◌, ◌++◌, ◌∷◌, ℕ, [], Some, option_map, slice_get, length, map, take, drop, OnOk};
 ghost use Rattle.syntax.specs.View.{name_of};
@@ -72,7 +72,7 @@ pub fn is_reserved(name: &[u8]) -> bool
         || is_word(name, b"init")
 }
 
-/// The variable at `place` among those that are visible.
+/// The variable at index `place` of those that are visible.
 fn entry_at<'a>(visible: &Visible<'a>, place: usize) -> Option<Entry<'a>>
     ensures { result ≡ slice_get visible.now.entries.items place }
 {

@@ -11,7 +11,7 @@ use crate::name_list::NameList;
 use crate::value_type::ValueType;
 
 /// The struct types of a file and the widths of their values in words, and its functions: each has a number, which is its
-/// place among those of its kind. No struct contains itself, and none is wider than 16 words.
+/// index among those of its kind. No struct contains itself, and none is wider than 16 words.
 pub struct TypeTable<'a> {
     pub structs: Vec<StructEntry<'a>>,
     pub functions: Vec<FunctionEntry<'a>>,

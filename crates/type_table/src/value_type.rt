@@ -1,4 +1,4 @@
-//! Types of values, which lie in the tree.
+//! Types of values, which refer to the tree.
 
 ghost use Rattle.std.specs.Prelude.{◌≡◌, ℕ, ◌≤◌, IfSome, option_map};
 ghost use Rattle.syntax.specs.Measures.{type_size};
@@ -49,8 +49,8 @@ fn type_named<'a>(types: &NameList<'_>, name: &[u8]) -> Option<ValueType<'a>>
     }
 }
 
-/// The type that is written where no variable is visible, as in the declarations of a file: `None` if a name in it is
-/// no type's.
+/// The type that is written outside the scope of all variables, as in the declarations of a file: `None` if a name in it
+/// is no type's.
 #[tactic(auto, using(crate::proofs::Written::channel_written))]
 pub fn global_type_in<'a>(types: &NameList<'_>, kind: &'a TypeNode) -> Option<ValueType<'a>>
     ensures { option_map (kind_of types.now) result ≡ type_in types.now nothing_declared (type_of kind.now) }

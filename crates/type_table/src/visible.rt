@@ -15,7 +15,7 @@ pub struct Entry<'a> {
     pub name: &'a Name,
     pub kind: ValueType<'a>,
     pub place: usize,
-    /// The variable of the same name that it hides, by its place among those that are visible.
+    /// The index of the visible variable of the same name that it hides.
     pub hides: Option<usize>,
 }
 

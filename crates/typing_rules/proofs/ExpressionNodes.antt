@@ -48,7 +48,7 @@ type_positive (NamedType name) = omega arith
 type_positive (ParenthesizedType inner) = omega arith
 type_positive (Channel direction element) = omega arith
 
--- ---- values in places
+-- ---- values that must fit a type
 
 pub fit_within : (w : Worth) (t : ValueType) (nodes : Nodes) (flaw : Flaw) → nodes.first < nodes.end → FitHas w t nodes flaw → node_of flaw < nodes.end
 fit_within (Typed s) t nodes flaw le has = omega (arith, broken _ nodes.end flaw has.1)

@@ -64,13 +64,13 @@ SelectionHas globals (Some (Typed kind)) field nodes end flaw = (field_of global
 SelectionHas globals (Some (Constant value)) field nodes end flaw = IsBroken rules.Visible end flaw
 SelectionHas globals (Some Nil) field nodes end flaw = IsNilAt nodes flaw
 
--- ---- several values for as many places
+-- ---- several values for as many types
 
--- the numbers of values and places do not agree
+-- there are more or fewer values than types
 abbrev pub NumbersHave : ℕ → ℕ → ℕ → Flaw → Type 0
 NumbersHave values places end flaw = ((values == places) ≡ false) × IsBroken rules.Numbers end flaw
 
--- one of these values does not fit its place
+-- one of these values does not fit its type
 abbrev pub ValuesFail : Globals → Scope → ℕ → List Expression → List (Option ValueType) → Flaw → Type 0
 ValuesFail globals scope first [] kinds flaw = ⊥
 ValuesFail globals scope first (value ∷ rest) [] flaw = ⊥
@@ -78,7 +78,7 @@ ValuesFail globals scope first (value ∷ rest) (kind ∷ kinds) flaw =
     ValueHas (worth globals scope value) kind (nodes_of first value) flaw
     ⊎ ValuesFail globals scope (first + expression_size value) rest kinds flaw
 
--- values and places, whose types these are, do not agree in number or type
+-- the values do not agree with the types in number or type
 abbrev pub PassedHave : Globals → Scope → ℕ → List Expression → List (Option ValueType) → ℕ → Flaw → Type 0
 PassedHave globals scope first values kinds end flaw =
     NumbersHave (length values) (length kinds) end flaw ⊎ ValuesFail globals scope first values kinds flaw

@@ -1,4 +1,4 @@
--- What is wrong with the right side of an assignment, and with the places on its left.
+-- What is wrong with the right side of an assignment, and with the lvalues on its left.
 use Rattle.std.specs.Prelude.{◌≡◌, ℕ, ◌+◌, ◌==◌, ◌⊎◌, Bool, true, false, not, ◌&&◌, ◌||◌, if◌then◌else◌, List, [], ◌∷◌, ◌++◌, Option, Some, None, option_map, option_and_then}
 use Rattle.std.specs.Option.{is_none}
 use Rattle.go_text.specs.declared.rule.Rule.TheVariants as rules
@@ -61,7 +61,7 @@ given globals scope places first values = given_values globals scope first value
 abbrev pub RightHas : Globals → Scope → ℕ → List Expression → Flaw → Type 0
 RightHas globals scope first values flaw = ExpressionsHave globals scope first (expressions values) flaw
 
--- ---- places, each of which is one node
+-- ---- lvalues, each of which is one node
 
 -- the rest of a path leads from a value of this type to a field that is not there
 abbrev pub PathHas : Structs → Option ValueType → List (List ℕ) → ℕ → Flaw → Type 0
@@ -71,7 +71,7 @@ PathHas structs (Some kind) (field ∷ rest) end flaw =
     ((field_of structs kind field ≡ None) × IsBroken rules.Assigned end flaw)
     ⊎ PathHas structs (type_of_field (field_of structs kind field)) rest end flaw
 
--- where a path of fields leads
+-- the part of a value to which a path of fields leads
 abbrev pub followed : Structs → Option Selected → List (List ℕ) → Option Selected
 followed structs at [] = at
 followed structs None (field ∷ rest) = None
@@ -81,30 +81,30 @@ followed structs (Some at) (field ∷ rest) =
 abbrev pub variable_at : Variable → Selected
 variable_at variable = record { place = variable.place; kind = variable.kind }
 
--- where an lvalue stands in the frame, and its type
+-- the first word of an lvalue in the frame, and its type
 abbrev pub selected : Globals → Scope → Place → Option Selected
 selected globals scope place = followed globals.structs (option_map variable_at (variable_named scope place.name)) place.fields
 
 abbrev pub has_fields : Place → Bool
 has_fields place = elim place.fields as (λ _. Bool) [ [] ↦ false | field ∷ more ↦ true ]
 
--- the name of the place is not a variable's, nor `_`
+-- the name of the lvalue is not a variable's, nor `_`
 abbrev pub names_no_variable : Scope → Place → Bool
 names_no_variable scope place = not (is_blank place.name) && is_none (variable_named scope place.name)
 
--- The place is no variable and no field of one, nor `_`. If its name is not a variable's, it is also not visible as one.
+-- The lvalue is no variable and no field of one, nor `_`. If its name is not a variable's, it is also not visible as one.
 abbrev pub PlaceHas : Globals → Scope → ℕ → Place → Flaw → Type 0
 PlaceHas globals scope first place flaw =
     ((names_no_variable scope place ≡ true) × IsBroken rules.Visible (first + 1) flaw)
     ⊎ ((((names_no_variable scope place || (is_blank place.name && has_fields place)) ≡ true) × IsBroken rules.Assigned (first + 1) flaw)
     ⊎ PathHas globals.structs (kind_of (variable_named scope place.name)) place.fields (first + 1) flaw)
 
--- the same where the place is read too, as `_` can't be
+-- like `PlaceHas`, for an lvalue that is read too, as `_` can't be
 abbrev pub ReadPlaceHas : Globals → Scope → ℕ → Place → Flaw → Type 0
 ReadPlaceHas globals scope first place flaw =
     PlaceHas globals scope first place flaw ⊎ ((is_blank place.name ≡ true) × IsBroken rules.Assigned (first + 1) flaw)
 
--- the type of a place
+-- the type of an lvalue
 abbrev pub place_type : Globals → Scope → Place → Option ValueType
 place_type globals scope place = type_of_field (selected globals scope place)
 
@@ -113,14 +113,14 @@ abbrev pub GoesHas : Bool → Given → Option ValueType → Flaw → Type 0
 GoesHas true g kind flaw = DefaultHas g.worth g.nodes flaw
 GoesHas false g kind flaw = ValueHas g.worth kind g.nodes flaw
 
--- places are given values; `_` takes each that has a type
+-- lvalues are given values; `_` takes each that has a type
 abbrev pub PlacesFail : Globals → Scope → List Place → List Given → Flaw → Type 0
 PlacesFail globals scope [] values flaw = ⊥
 PlacesFail globals scope (place ∷ places) [] flaw = ⊥
 PlacesFail globals scope (place ∷ places) (value ∷ values) flaw =
     GoesHas (is_blank place.name) value (place_type globals scope place) flaw ⊎ PlacesFail globals scope places values flaw
 
--- something is wrong with one of the places themselves
+-- something is wrong with one of the lvalues themselves
 abbrev pub PlacesHave : Globals → Scope → ℕ → List Place → Flaw → Type 0
 PlacesHave globals scope first [] flaw = ⊥
 PlacesHave globals scope first (place ∷ places) flaw = PlaceHas globals scope first place flaw ⊎ PlacesHave globals scope (first + 1) places flaw

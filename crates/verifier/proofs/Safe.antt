@@ -1,4 +1,4 @@
--- Verified code is never stuck and breaks no rule.
+-- Verified code is never stuck and violates no rule.
 use Rattle.std.proofs.Common.{ℕ, sym, ◌∙◌, subst, inl, inr}
 use Rattle.bytecode.specs.declared.rule.Rule.{Rule}
 use Rattle.bytecode.specs.declared.rule.Rule.TheVariants.{Names, Targets, Paths, Calls, Returns, Locals, Tables, Main}

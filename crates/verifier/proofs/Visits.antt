@@ -1,4 +1,4 @@
--- What a look at a place comes to.
+-- The result of a look at a pc.
 use Rattle.std.proofs.Common.{◌≡◌, ℕ, suc, ◌+◌, ◌<◌, ◌≤◌, List, length, Some, None, cond, nat_lt, refl, sym, ap, ◌∙◌, subst, arith, slice_get, slice_set}
 use Rattle.std.proofs.lemmas.Bool.Decides.{nat_tests}
 use Rattle.std.specs.Global.{Vec}
@@ -20,7 +20,7 @@ use Rattle.verifier.proofs.Entries.{entry_other, entry_set, some_none, unknown_s
 use Rattle.std.proofs.lemmas.Option.{slice_get_within}
 use Rattle.bytecode.proofs.Options.{some_inj}
 
--- ---- entries that are made after a place
+-- ---- entries that are made after a pc
 
 ahead_same : (old new : Table) (place : ℕ) → new ≡ old → Ahead old new place
 ahead_same old new place e = record { kept = λ p ks h. subst (λ t. entry t p ≡ Some ks) (sym e) h; same = λ p l. ap (λ t. entry t p) e; fewer = subst (λ t. unknown t ≤ unknown old) (sym e) (omega arith) }
@@ -44,7 +44,7 @@ stays code f old place i ks number none = (ahead_same old old place refl, λ to 
 only_way : (code : Code) (f : Function) (place : ℕ) (i : Instr) (ks : List WordKind) (number to : ℕ) (new : Table) → slice_get (ways code i place) number ≡ Some to → entry new to ≡ Some (afterwards code f i number ks) → (q : ℕ) → slice_get (ways code i place) number ≡ Some q → entry new q ≡ Some (afterwards code f i number ks)
 only_way code f place i ks number to new way here q e = subst (λ n. entry new n ≡ Some (afterwards code f i number ks)) (some_inj (sym way ∙ e)) here
 
--- the way of this number leads to a place
+-- the way of this number leads to a pc
 pub followed : (m : Merge) (code : Code) (f : Function) (old new : Table) (place : ℕ) (i : Instr) (ks out : List WordKind) (number to : ℕ) → to < length old → slice_get (ways code i place) number ≡ Some to → out ≡ afterwards code f i number ks → Led m code f old new to out → Followed (onward_of m place to) code f old new place i ks number
 followed Same code f old new place i ks out number to within way is led =
     (ahead_same old new place led.0, only_way code f place i ks number to new way (subst (λ t. entry t to ≡ Some (afterwards code f i number ks)) (sym led.0) (led.1 ∙ ap Some is)))
@@ -96,7 +96,7 @@ module _ (code : Code) (f : Function) (old : Table) (place : ℕ) (i : Instr) (k
           subst (λ l. (i : Instr) × (slice_get f.instrs place ≡ Some i) × Fits code f i l × ((k to : ℕ) → slice_get (ways code i place) k ≡ Some to → entry new to ≡ Some (afterwards code f i k l))) same
           (i, leads.fetched, leads.fits, λ k to h. s.1 k to (let l = slice_get_within (ways code i place) k to h in omega (arith, l, all)) h)
 
--- each way leads to a place, on a path
+-- each way leads to a pc, on a path
 pub ways_reached : (code : Code) (f : Function) (table : Table) (place : ℕ) (i : Instr) (ks : List WordKind) (at : ℕ) → Reached code f table → LeadsOn code f table place i ks at → AreReached code f place i ks
 ways_reached code f table place i ks at r l k to e =
     let p = r.1 place ks l.here in (suc p.0, (place, ks, i, k, p.1, l.fetched, l.fits, e, refl))

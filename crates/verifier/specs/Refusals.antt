@@ -42,13 +42,13 @@ SelectsFine code = (q : ℕ) (table : SelectTable) → slice_get code.selects q 
 abbrev pub FunctionsFine : Code → Type 0
 FunctionsFine code = (g : ℕ) (f : Function) → slice_get code.functions g ≡ Some f → Holds code f
 
--- the rule that a shape breaks
+-- the rule that a shape violates
 abbrev pub ShapeBroken : Code → List WordKind → Rule → Type 0
 ShapeBroken code ks Names = AreThere code ks → ⊥
 ShapeBroken code ks Tables = IsSized ks → ⊥
 ShapeBroken code ks rule = ⊥
 
--- the rule that a select table breaks
+-- the rule that a select table violates
 abbrev pub SelectBroken : Code → SelectTable → Rule → Type 0
 SelectBroken code table Names = HasShapes code table → ⊥
 SelectBroken code table Tables = IsFew table → ⊥

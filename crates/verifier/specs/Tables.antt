@@ -1,4 +1,4 @@
--- The verifier's table of the kinds at each place of a function, and what its steps do to it, as the code does: these words
+-- The verifier's table of the kinds at each pc of a function, and what its steps do to it, as the code does: these words
 -- are proved against the rules (bytecode's `Rules`), and claim nothing themselves.
 use Rattle.std.specs.Prelude.{◌≡◌, ℕ, suc, ◌+◌, ◌<◌, ◌≤◌, List, [], ◌∷◌, length, Option, Some, None, Bool, true, false, cond, nat_lt, slice_get, slice_set}
 use Rattle.std.specs.Global.{Vec}
@@ -22,7 +22,7 @@ use Rattle.verifier.specs.declared.paths.Sweep.TheVariants.{Done, More, Broken, 
 use Rattle.verifier.specs.declared.paths.Inferred.{Inferred}
 use Rattle.verifier.specs.declared.paths.Inferred.TheVariants.{Full, BrokenAt, PartedAt}
 
--- a table of the kinds at each place
+-- a table of the kinds at each pc
 abbrev pub Table : Type 0
 Table = List (Option (Vec WordKind))
 
@@ -34,7 +34,7 @@ kinds_at (Some (Some ks)) = Some ks.items
 abbrev pub entry : Table → ℕ → Option (List WordKind)
 entry table place = kinds_at (slice_get table place)
 
--- a place with kinds has an instruction that fits them, and whose ways have what is after it
+-- the instruction at a pc with kinds fits them, and the pcs to which it leads have the kinds after it
 abbrev pub Settled : Code → Function → Table → ℕ → Type 0
 Settled code f table place =
     (ks : List WordKind) → entry table place ≡ Some ks → (i : Instr) × (slice_get f.instrs place ≡ Some i) × Fits code f i ks × ((k to : ℕ) → slice_get (ways code i place) k ≡ Some to → entry table to ≡ Some (afterwards code f i k ks))
@@ -43,7 +43,7 @@ Settled code f table place =
 abbrev pub Reached : Code → Function → Table → Type 0
 Reached code f table = (entry table 0 ≡ Some []) × ((place : ℕ) (ks : List WordKind) → entry table place ≡ Some ks → (n : ℕ) × Path code f n place ks)
 
--- how many places have no kinds yet
+-- how many pcs have no kinds yet
 abbrev pub unknown : Table → ℕ
 unknown [] = 0
 unknown (None ∷ t) = suc (unknown t)
@@ -60,13 +60,13 @@ pub record Ahead (old new : Table) (place : ℕ) : Type 0 where
   pub same : (p : ℕ) → p ≤ place → entry new p ≡ entry old p
   pub fewer : unknown new ≤ unknown old
 
--- after a way to a place, on a path
+-- after a way to a pc, on a path
 abbrev pub Led : Merge → Code → Function → Table → Table → ℕ → List WordKind → Type 0
 Led Same code f old new to ks = (new ≡ old) × (entry old to ≡ Some ks)
 Led Differs code f old new to ks = Parting code f to
 Led New code f old new to ks = (unknown new < unknown old) × Merged New old new to ks
 
--- what a look at one place came to
+-- the result of a look at one pc
 abbrev pub Visited : Visit → Code → Function → Table → Table → ℕ → Type 0
 Visited Settles code f old new place = Ahead old new place × Settled code f new place
 Visited Grows code f old new place = unknown new < unknown old
@@ -85,7 +85,7 @@ Steps Dead code f table place = entry table place ≡ None
 Steps (Unfits rule) code f table place = Misfit code f rule place
 Steps (Leads i ks at) code f table place = LeadsOn code f table place i ks.items at
 
--- each way of an instruction leads to its place on a path
+-- each way of an instruction leads to its pc on a path
 abbrev pub AreReached : Code → Function → ℕ → Instr → List WordKind → Type 0
 AreReached code f place i ks = (k to : ℕ) → slice_get (ways code i place) k ≡ Some to → (n : ℕ) × Path code f n to (afterwards code f i k ks)
 

@@ -18,7 +18,7 @@ pub enum Merge {
     Differs,
 }
 
-/// Enters the kinds at a place that has none.
+/// Enters the kinds at a pc that has none.
 fn enter_kinds(table: &mut Vec<Option<Vec<WordKind>>>, to: usize, kinds: Vec<WordKind>) -> Merge
     requires { to < vec_len table.old }
     ensures len { vec_len table.new ≡ vec_len table.old }
@@ -35,7 +35,7 @@ fn enter_kinds(table: &mut Vec<Option<Vec<WordKind>>>, to: usize, kinds: Vec<Wor
     Merge::New
 }
 
-/// Enters the kinds with which a path leads to a place.
+/// Enters the kinds with which a path leads to a pc.
 #[tactic(auto, using(crate::proofs::Entries::led))]
 fn lead(
     code: &Code,
@@ -66,7 +66,7 @@ pub enum Visit {
     Parts(usize),
 }
 
-/// What an instruction does at its place: it fits the kinds there, of which its operands begin at a number.
+/// Compares the instruction at a pc with the kinds there: `Leads` has both, and the index of its first operand.
 #[derive(Drop)]
 pub enum Transfer {
     Dead,
@@ -74,7 +74,7 @@ pub enum Transfer {
     Leads(Instr, Vec<WordKind>, usize),
 }
 
-/// The instruction at a place and the kinds there.
+/// Fetches and compares the instruction at `place` with the kinds there.
 fn step_at(
     alloc: Global,
     code: &Code,
@@ -103,11 +103,11 @@ fn step_at(
 /// The outcome of one way of an instruction.
 #[derive(Clone, Copy)]
 pub enum Onward {
-    /// The place to which it leads has these kinds, and no place before it has new ones.
+    /// The pc to which it leads has these kinds, and no pc that this pass has looked at has new ones.
     Kept,
-    /// A place that this pass has looked at has kinds now.
+    /// A pc that this pass has looked at has kinds now.
     Grown,
-    /// The place has other kinds.
+    /// This pc, to which it leads, has other kinds.
     Apart(usize),
 }
 
@@ -195,7 +195,7 @@ fn spread(
     }
 }
 
-/// One place: its instruction fits its kinds, and its ways have what is after it.
+/// Looks at one pc: its instruction must fit its kinds, and the pcs to which it leads get the kinds after it.
 fn look(
     alloc: Global,
     code: &Code,
@@ -227,7 +227,7 @@ pub enum Sweep {
     Parted(usize),
 }
 
-/// One pass over all places, in order.
+/// One pass over all pcs, in order.
 fn pass(
     alloc: Global,
     code: &Code,
@@ -308,7 +308,7 @@ fn judge(inferred: &Inferred) -> Option<(Rule, usize)>
     }
 }
 
-/// The rule that a function violates, and where.
+/// The rule that a function violates, and the pc.
 pub(crate) fn check_function(
     alloc: Global,
     code: &Code,

@@ -80,9 +80,9 @@ fn main_number(functions: &[Function]) -> Option<usize>
 
 /// Verifies code.
 ///
-/// Errors: 11 with the violated rule, 1 to 8, the function's number and the instruction's place, 0 for the function's
-/// heading. For a shape or a table its number is the place and the function's number is 0; if there is no function
-/// `main` without parameters and result both are 0. 13 if it is out of memory.
+/// Errors: 11 with the violated rule, 1 to 8, the function's number and the instruction's pc, 0 for the function's
+/// heading. For a shape or a table: the rule, 0, and its number. If there is no function `main` without parameters and
+/// result: the rule, 0, and 0. 13 if it is out of memory.
 pub fn verify(alloc: Global, code: Code) -> Result<Verified, Fault>
     ensures code { IfOk result (λ verified. verified ≡ code) }
     ensures safe { IfOk result NeverStuck }
@@ -106,7 +106,7 @@ pub fn verify(alloc: Global, code: Code) -> Result<Verified, Fault>
     }
 }
 
-/// The rule that code breaks, the function's number, and the place.
+/// The rule that code violates, the function's number, and the pc, or the number of a shape or a table.
 fn broken(alloc: Global, code: &Code) -> Result<Option<(Rule, usize, usize)>, AllocError>
     ensures { IfOk result (λ o. MatchOption o (IsVerified code.now) (λ b. Breaks code.now b.0 b.1 b.2)) }
 {
@@ -158,7 +158,7 @@ fn is_headed(code: &Code, f: &Function) -> bool
         && are_there(code, f.results())
 }
 
-/// The rule that a shape breaks.
+/// The rule that a shape violates.
 fn shape_rule(code: &Code, kinds: &[WordKind]) -> Option<Rule>
     ensures none { IfNone result (IsShaped code.now kinds.now) }
     ensures some { IfSome result (λ rule. ShapeBroken code.now kinds.now rule) }
@@ -172,7 +172,7 @@ fn shape_rule(code: &Code, kinds: &[WordKind]) -> Option<Rule>
     None
 }
 
-/// The rule that the first wrong shape breaks, and the shape's number.
+/// The rule that the first wrong shape violates, and the shape's number.
 fn broken_shape(code: &Code) -> Option<(Rule, usize)>
     ensures none { IfNone result (ShapesFine code.now) }
     ensures some { IfSome result (λ b. Breaks code.now b.0 0 b.1) }
@@ -211,7 +211,7 @@ fn has_shapes(code: &Code, table: &SelectTable) -> bool
     true
 }
 
-/// The rule that a select table breaks.
+/// The rule that a select table violates.
 fn select_rule(code: &Code, table: &SelectTable) -> Option<Rule>
     ensures none { IfNone result (IsSelect code.now table.now) }
     ensures some { IfSome result (λ rule. SelectBroken code.now table.now rule) }
@@ -225,7 +225,7 @@ fn select_rule(code: &Code, table: &SelectTable) -> Option<Rule>
     None
 }
 
-/// The rule that the first wrong select table breaks, and the table's number.
+/// The rule that the first wrong select table violates, and the table's number.
 fn broken_select(code: &Code) -> Option<(Rule, usize)>
     ensures none { IfNone result (SelectsFine code.now) }
     ensures some { IfSome result (λ b. Breaks code.now b.0 0 b.1) }
@@ -256,7 +256,7 @@ fn is_plain(f: &Function) -> bool
     f.params() == 0 && f.results().len() == 0
 }
 
-/// The rule that a function violates, and where.
+/// The rule that a function violates, and the pc.
 fn rule_in(alloc: Global, code: &Code, f: &Function) -> Result<Option<(Rule, usize)>, AllocError>
     ensures { IfOk result (λ o. Judged o code.now f.now) }
 {
@@ -266,7 +266,7 @@ fn rule_in(alloc: Global, code: &Code, f: &Function) -> Result<Option<(Rule, usi
     check_function(alloc, code, f)
 }
 
-/// The first rule that a function breaks, the function's number, and the place.
+/// The first rule that a function violates, the function's number, and the pc.
 fn broken_function(alloc: Global, code: &Code) -> Result<Option<(Rule, usize, usize)>, AllocError>
     ensures { IfOk result (λ o. MatchOption o (FunctionsFine code.now) (λ b. Breaks code.now b.0 b.1 b.2)) }
 {

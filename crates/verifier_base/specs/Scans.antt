@@ -1,4 +1,4 @@
--- What a function's instructions break by themselves: none of them, or the rule at a place.
+-- The rules that a function's instructions violate by themselves: none, or the rule at a pc.
 use Rattle.std.specs.Prelude.{◌≡◌, ℕ, Option, Some, None, slice_get}
 use Rattle.bytecode.specs.declared.instr.Instr.{Instr}
 use Rattle.bytecode.specs.declared.rule.Rule.{Rule}

@@ -212,7 +212,7 @@ fn give_item(code: &Code, s: u32, out: &mut Vec<WordKind>) -> Result<(), AllocEr
     Ok(())
 }
 
-/// Appends what is left where a clause was done.
+/// Appends what is left after a clause was done.
 fn give_clause(
     code: &Code,
     clause: Option<Clause>,
@@ -311,7 +311,7 @@ pub fn behind(
     Ok(out)
 }
 
-/// The rule that an instruction breaks which does not fit.
+/// The rule that an instruction violates if it does not fit.
 pub fn broken_rule(i: Instr) -> Rule
     ensures { result ≡ rule_of i }
 {

@@ -1,4 +1,4 @@
-//! What single instructions ask of the operand stack and leave on it, where they lead, and what they break by themselves.
+//! What single instructions want on the operand stack and leave on it, where they lead, and which rules they violate by themselves.
 #![tactic(auto)]
 
 mod effect;

@@ -1,4 +1,4 @@
-//! What an instruction breaks by itself, whatever path leads to it.
+//! Which rule an instruction violates by itself, whatever path leads to it.
 
 ghost use Rattle.std.specs.Prelude.{◌≡◌, ◌↔◌, ◌<◌, IsTrue, length, slice_get};
 ghost use Rattle.bytecode.specs.Effects.{targets_in};
@@ -58,7 +58,7 @@ fn is_named(code: &Code, f: &Function, i: Instr) -> bool
     }
 }
 
-/// Whether its ways lead to places of the function.
+/// Whether the ways of `i` lead to pcs of the function.
 fn is_inside(f: &Function, place: usize, i: Instr) -> bool
     requires { place < length f.now.instrs }
     ensures { IsTrue result ↔ Inside f.now place i }
@@ -84,7 +84,7 @@ fn is_directed(code: &Code, place: usize, i: Instr) -> bool
     }
 }
 
-/// The rule that one instruction breaks by itself, and its place.
+/// The rule that one instruction violates by itself, and its pc.
 fn scan_one(code: &Code, f: &Function, place: usize) -> Option<(Rule, usize)>
     requires { place < length f.now.instrs }
     ensures { ScannedAt result code.now f.now place }
@@ -99,7 +99,7 @@ fn scan_one(code: &Code, f: &Function, place: usize) -> Option<(Rule, usize)>
     None
 }
 
-/// The first rule that an instruction of a function breaks by itself, and the instruction's place.
+/// The first rule that an instruction of a function violates by itself, and the instruction's pc.
 pub fn first_broken(code: &Code, f: &Function) -> Option<(Rule, usize)>
     ensures { Scanned result code.now f.now }
 {

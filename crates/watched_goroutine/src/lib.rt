@@ -1,4 +1,4 @@
-//! Goroutines of a program that is interpreted, with the statements at which their functions stand.
+//! Goroutines of a program that is interpreted, with the statements that their functions are at.
 #![tactic(auto)]
 
 mod callee;

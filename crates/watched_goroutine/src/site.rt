@@ -1,10 +1,10 @@
-//! Where in a tree a task stands.
+//! The nodes of a tree that a task belongs to.
 
 use diagnostic_scope::ends::{if_end, simple_statement_end, statement_end};
 use std::alloc::Global;
 use syntax::{ClauseNode, ForHeader, IfNode, NodeId, SimpleNode, StatementNode};
 
-/// What of a statement says where the statements within it stand.
+/// The part of a statement that says which nodes the statements within it have.
 #[derive(Clone, Copy)]
 pub(crate) enum Inside<'t> {
     /// It has none.
@@ -14,7 +14,7 @@ pub(crate) enum Inside<'t> {
     Select(&'t [ClauseNode]),
 }
 
-/// The statement that a task is, or that it comes of.
+/// The statement that a task is, or is a part of.
 #[derive(Clone, Copy)]
 pub struct Site<'t> {
     /// The first of its nodes.

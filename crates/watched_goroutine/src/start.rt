@@ -1,4 +1,4 @@
-//! Where the statements stand that a task leads to.
+//! The nodes of the statements that a task leads to.
 
 use crate::site::{Inside, Site};
 use diagnostic_scope::ends::{clause_first, else_first, loop_first, post_first, then_first};
@@ -12,7 +12,7 @@ use std::alloc::Global;
 use syntax::{ClauseNode, IfNode, NodeId};
 use word::request::Reply;
 
-/// The first node of what the next task of a function, which stands at `site`, leads to.
+/// The first node of what the next task of a function, which is at `site`, leads to.
 ///
 /// Errors: out of memory.
 pub(crate) fn start_of<'t>(

@@ -1,4 +1,4 @@
-//! Where the tasks of a goroutine stand.
+//! The sites of a goroutine's tasks.
 
 use crate::site::Site;
 use go_text::Memory;
@@ -6,7 +6,7 @@ use reference_task::task::{Frame, Task};
 use std::alloc::Global;
 use syntax::NodeId;
 
-/// Where the tasks of a function stand that runs, or waits for one that it called.
+/// The sites of the tasks of a function that runs, or waits for one that it called.
 #[derive(Drop)]
 pub struct Track<'t> {
     /// The number of the function.
@@ -22,7 +22,7 @@ pub(crate) struct Called {
     pub first: NodeId,
 }
 
-/// Where the tasks of a goroutine's functions stand.
+/// The sites of the tasks of a goroutine's functions.
 #[derive(Drop)]
 pub struct Trail<'t> {
     /// The function that was called last is the last one.
@@ -130,7 +130,7 @@ impl<'t> Trail<'t> {
     }
 }
 
-/// The site of a task: of the statement that begins at the node `next`, or of the one that the task comes of.
+/// The site of a task: of the statement that begins at the node `next`, or `cause`, of the one that the task is a part of.
 fn site_of<'t>(alloc: Global, task: &Task<'t>, next: NodeId, cause: Site<'t>) -> Site<'t> {
     match task {
         Task::Do(one) => Site::of_statement(alloc, next, **one),

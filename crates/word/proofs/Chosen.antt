@@ -20,7 +20,7 @@ turned_none : {A : Type 0} (xs : List A) (c : ℕ) → slice_get xs (c % length 
 turned_none [] c h = refl
 turned_none (x ∷ xs) c h = let within : c % suc (length xs) < suc (length xs) = mod-lt c (omega arith) in absurd (none-some _ (sym h ∙ slice_get-get_or (x ∷ xs) (c % suc (length xs)) x within))
 
--- the clause at place k of a select, by its replies and by what it exchanges
+-- the clause at index k of a select, by its replies and by what it exchanges
 pub suits_at : (xs : List Case) (k : ℕ) (x : Case) → slice_get xs k ≡ Some x → (g : Option (Item × Bool)) → is_some g ≡ not (is_some x.item) → SuitsClause xs (suc k) g
 suits_at [] k x h g s = cc
 suits_at (y ∷ ys) zero x h g s = subst (λ (t : Case). is_some g ≡ not (is_some t.item)) (sym (same_Some y x h)) s
@@ -31,7 +31,7 @@ deals_at [] k x h g = cc
 deals_at (y ∷ ys) zero x h g = ap (λ (t : Case). clause_deal t.chan t.item g) (same_Some y x h)
 deals_at (y ∷ ys) (suc k) x h g = deals_at ys k x h g
 
--- of these clauses, which j others precede, the one at place k: with its number, and ready
+-- of these clauses, which j others precede, the one at index k: with its number, and ready
 pub record Chosen (w : Shared) (n c : ℕ) (q : Request) (xs : List Case) (j : ℕ) (y : ℕ × Case) : Type 0 where
   pub k : ℕ
   pub is : y.0 ≡ suc (j + k)

@@ -77,7 +77,7 @@ module _ (K M : GoroutineKind) (R : K.State → M.State → Type 0) (limit : ℕ
     actor_like clock le Leaves h = tt
     actor_like clock le Stays h = like_here K M R limit s t same f
 
-    -- the newest bed
+    -- each sleeper awaits the same, after this goroutine has fallen asleep
     dozes_like : (x : Sleeper) → (In x w.shared.asleep × (x.number ≢ n)) ⊎ (x ≡ record { number = n; request = f.q }) → Awaits K M R limit x.request (in_bed x.number (record { number = n; state = s } ∷ w.beds)) (in_bed x.number (record { number = n; state = t } ∷ v.beds))
     dozes_like x (inl h) =
         let e = ne_eqb n x.number (λ z. h.1 (sym z)) in

@@ -46,7 +46,7 @@ pub enum Request {
     Exit,
     /// A panic, found while operands were evaluated or at a call.
     Panic(Panic),
-    /// At the clock limit, in place of a request or of a step that would tick.
+    /// At the clock limit, instead of a request or of a step that would tick.
     Exhausted,
 }
 

@@ -91,7 +91,7 @@ impl Item {
         self.words.as_slice()
     }
 
-    /// A second item that is the same.
+    /// A copy of the item.
     #[inline(always)]
     pub fn copy(&self) -> Item
         ensures { result ≡ self.now }
@@ -100,7 +100,7 @@ impl Item {
     }
 }
 
-/// These words stand here now, and no others.
+/// Replaces the words of `kept` by `words`.
 #[inline(always)]
 fn fill(kept: &mut SmallVec<Word, MAX_WORDS>, words: &[Word])
     requires { length words.now ≤ MAX_WORDS }

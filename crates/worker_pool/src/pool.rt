@@ -29,7 +29,7 @@ use word::end::End;
 use workers::{Gate, TraceWriter, WorkQueues};
 
 /// Runs a program up to the clock limit (1 to 2^62) on 1 to 64 workers, and returns how it ended. What is written begins the
-/// output of the one-thread run, and its trace; at an end it is all of them. A trace that nobody reads is not made.
+/// output of the one-thread run, and its trace; at an end it is all of them. A trace that is not read is not made.
 ///
 /// Errors: `BadWorkers`; `BadLimit`; `Memory`; `Write`.
 pub fn run<R: Threads + Wait + Sync, G: Gate + Sync, O: Write, T: TraceWriter>(

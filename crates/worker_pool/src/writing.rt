@@ -1,4 +1,4 @@
-//! The way of what the workers commit into the writers.
+//! Writing what the workers commit.
 
 ghost use Rattle.std.specs.Prelude.{◌≡◌, ◌⊎◌, ◌+◌, ℕ, List, Option, IfErr, IsErrOf, OnOk, length, true};
 ghost use Rattle.output.specs.Progress.{progress_place, run_of};

@@ -45,7 +45,7 @@ module _ {T : Type 0} where
 
   -- ---- stealers
 
-  -- one more, of the queue of the worker at this place
+  -- one more, of the queue of the worker at index n
   pub added : (all : List (WorkQueues T)) (stealers : List (Stealer T)) (queues before : List (RunQueue T)) (from n : ℕ) (old : WorkQueues T) (stealer : Stealer T) → from ≤ n → n < length all → own_queues all ≡ queues
       → old ≡ slice_index_or all n old → arc_value stealer.queue ≡ own_of old → queues_of stealers ≡ before ++ drop from (take n queues)
       → queues_of (stealers ++ stealer ∷ []) ≡ before ++ drop from (take (n + 1) queues)

@@ -21,7 +21,7 @@ const MANY_SHORT: u32 = 64;
 pub struct Pace {
     /// Whether it takes a lease only while no other such worker is out with one: its last lease was short, or it had none.
     yields: bool,
-    /// Whether it went off as such a worker.
+    /// Whether it is counted in `talkers`.
     counted: bool,
     /// How many of its last leases were short, up to `MANY_SHORT`.
     short: u32,

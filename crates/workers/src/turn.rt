@@ -1,6 +1,6 @@
-//! What a worker does next, and with what it comes back.
+//! What a worker does next, and what it comes back with.
 
-/// With what a worker comes back.
+/// What a worker comes back with.
 #[derive(Drop)]
 pub enum Back<T: Drop> {
     /// With nothing, since it begins.

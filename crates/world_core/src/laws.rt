@@ -18,7 +18,7 @@ pub fn entries_are_accepted()
 
 /// A law. The world after k events, in which each awake goroutine has come to its request, is one to which the one-thread run comes, but
 /// for local steps: at some moment it has had k events and shares the same, and local steps alone lead from where each awake goroutine
-/// stands to its request there. Moments with as many events share the same.
+/// is to its request there. Moments with as many events share the same.
 pub fn moments_settle<S>()
     ensures after { (K : Parts S) (limit k : ℕ) (v : World (Clocked S) (Rest S)) → After (rules (kind_of K) limit) k (opening (kind_of K)) v → (n : ℕ) × (length (moment (kind_of K) limit n).shared.shared.events ≡ k) × Settles (rules (kind_of K) limit) (moment (kind_of K) limit n) v }
     ensures same { (K : Parts S) (limit n m : ℕ) → length (moment (kind_of K) limit n).shared.shared.events ≡ length (moment (kind_of K) limit m).shared.shared.events → (moment (kind_of K) limit n).shared ≡ (moment (kind_of K) limit m).shared }

@@ -1,4 +1,4 @@
--- What stands in the place of an event once its request was performed.
+-- What an `Event` holds once its request was performed.
 use Rattle.logical_clock.specs.declared.limits.TheConstants.{MAX_GOROUTINES}
 use Rattle.std.proofs.Common.{◌≡◌, ◌≢◌, ℕ, ◌+◌, ◌-◌, ◌<◌, ◌^◌, ◌==◌, Bool, true, false, IfSome, cond, List, [], ◌∷◌, ◌++◌, length, Option, Some, None, refl, sym, ap, ◌∙◌, subst}
 use Rattle.std.specs.Prelude.{slice_index_or, slice_set, option_map}
@@ -115,7 +115,7 @@ pub record Made (code : Code) (limit : ℕ) (core : CoreValue) (event : Recorded
   pub performs : Performs code limit core event.number event (bytes_of event) new
   pub fits : FitsCore code limit new
 
--- the event stands in its place
+-- the event was written
 module _ (code : Code) (limit : ℕ) (core : CoreValue) (event : Recorded) (new : CoreValue) (a : IsAsked code limit core event.number event.clock (request_of event.request)) (fits : FitsCore code limit core) (more : core.events < 2 ^ 62) where
   made : (bytes : List ℕ) → bytes_of event ≡ bytes → LeavesAll code limit core event.number event.clock (request_of event.request) a.row.state (event_of event) bytes new → Made code limit core event new
   made bytes is left = record {
@@ -143,7 +143,7 @@ module _ (code : Code) (limit : ℕ) (core : CoreValue) (event : Recorded) (new 
       made [] (last_quiet event.request o e last) (leaves_ends code limit core event.number event.clock (request_of event.request) a o e (event_of event) new
       (λ (x : Others) (b : Beside code limit core x). last_acts (shared_with x core.channels) event.number event.clock (request_of event.request) (request_of event.request) o e last) left (stands o [] came alone))
 
-  -- a new goroutine where too many are alive
+  -- a new goroutine when too many are alive
   pub made_full : IsGo (request_of event.request) → core.live ≡ MAX_GOROUTINES → outcome_of event.outcome ≡ Panics TooManyGoroutines 0 → event.partners.items ≡ []
       → new ≡ record core { rows = slice_set core.rows event.number (option_map (λ (row : Row State). free_row row.state) (slice_index_or core.rows event.number None)); events = core.events + 1; ending = Some (Panicked TooManyGoroutines) } → Made code limit core event new
   made_full go full came alone left =

@@ -175,7 +175,7 @@ module _ (code : Code) (limit : ℕ) where
       ∙ sym (actor_is n s d.fate m.shared.beds core.rows (woken_by (code_kind code) limit m.shared.beds (s.clock + 1) d.woken))
       ∙ ap (λ (rows : Rows). changed_rows (rules (code_kind code) limit) rows ((n, actor_after (code_kind code) limit (s.clock + 1) s d.fate) ∷ woken_by (code_kind code) limit m.shared.beds (s.clock + 1) d.woken)) h.rows)
 
-  -- each sleeper is then in the bed that is kept
+  -- the state of each sleeper is then in the `beds` that are kept
   beds_by : (n : ℕ) (s : State) (q : Request) (f : Fate) (beds : Beds) (all : List (Bed Frames)) (ss : List Sleeper) (x : Sleeper) → n < length beds → LieIn beds all ss → Lies ss n q f x → slice_index_or (actor_beds beds n s f) x.number None ≡ in_bed x.number (beds_after (code_kind code) limit all n s f)
   beds_by n s q (GoesOn reply) beds all ss x l h k = lies_at beds all ss x h k
   beds_by n s q Dozes beds all ss x l h (inl k) =

@@ -131,7 +131,7 @@ IsLast Exhausted o e = (o ≡ Done Nothing) × (e ≡ RanOut)
 IsLast (Panic cause) o e = (o ≡ Panics cause 0) × (e ≡ Panicked cause)
 IsLast q o e = ⊥
 
--- the contents of an event's place before there was an event
+-- an `Event` to which no event was written yet
 abbrev pub no_event : Event
 no_event = record { clock = 0; number = 0; request = End; outcome = Sleeps; partners = [] }
 
@@ -191,7 +191,7 @@ IsLentRow rows n base = (row : Row State) × (slice_index_or rows n None ≡ Som
 abbrev pub HasLease : Rows → ℕ → Type 0
 HasLease rows n = (row : Row State) × (slice_index_or rows n None ≡ Some row) × (is_some row.lease ≡ true)
 
--- goroutine number n stands at its request, and has the turn
+-- goroutine n is at its request, and has the turn
 pub record HasTurn (core : CoreValue) (n : ℕ) : Type 0 where
   pub key : Key
   pub number : key.number ≡ n
@@ -206,14 +206,14 @@ abbrev pub left_beds : Beds → List (ℕ × Reply) → Beds
 left_beds beds [] = beds
 left_beds beds (w ∷ ws) = left_beds (slice_set beds w.0 None) ws
 
--- goroutine n's bed, if it falls asleep in this state
+-- the `beds` with this state at index n, if goroutine n falls asleep
 abbrev pub actor_beds : Beds → ℕ → State → Fate → Beds
 actor_beds beds n s Dozes = slice_set beds n (Some s)
 actor_beds beds n s (GoesOn reply) = beds
 actor_beds beds n s Leaves = beds
 actor_beds beds n s Stays = beds
 
--- an empty place for each started goroutine
+-- appends `None` for each started goroutine
 abbrev pub new_places : {A : Type 0} → List (Option A) → List (ℕ × List Word) → List (Option A)
 new_places places [] = places
 new_places places (x ∷ xs) = new_places (places ++ None ∷ []) xs
@@ -225,7 +225,7 @@ module _ (code : Code) where
   woken_rows rows beds clock (w ∷ ws) =
       woken_rows (slice_set rows w.0 (option_map (λ (s : State). free_row (told (code_kind code) s clock w.1)) (slice_index_or beds w.0 None))) (slice_set beds w.0 None) clock ws
 
-  -- where the acting goroutine is afterwards
+  -- the row of the acting goroutine afterwards
   abbrev pub actor_row : State → ℕ → Fate → Option (Row State)
   actor_row s clock (GoesOn reply) = Some (free_row (told (code_kind code) s clock reply))
   actor_row s clock Dozes = None

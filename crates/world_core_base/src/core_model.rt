@@ -276,7 +276,7 @@ impl Core {
     }
 }
 
-/// A place for an event: nothing happens at it.
+/// An `Event` to write an event to. It means nothing yet.
 pub fn blank_event(alloc: Global) -> Event
     ensures { event_of result ≡ no_event }
 {

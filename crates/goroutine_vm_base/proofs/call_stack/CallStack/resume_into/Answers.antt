@@ -5,7 +5,7 @@ use Rattle.word.specs.declared.value.Word.TheVariants.{Int}
 use Rattle.goroutine_vm_base.proofs.call_stack.CallStack.resume_into.Goals as goal
 use Rattle.goroutine_vm_base.proofs.call_stack.CallStack.resume_into.Goals.{After-index_mut-frame}
 
--- the caller stands before the last one called
+-- the caller is before the last one called
 there : (c : After-index_mut-frame) → (y : Frame) × (rest : Frames) × (c.args.self.now ≡ y ∷ (c.index_mut-frame.result.now ∷ rest)) × (reverse (take (c.self.inside.depth - 1) (slice_set c.self.inside.frames.items (c.self.inside.depth - 2) c.index_mut-frame.result.now)) ≡ c.index_mut-frame.result.now ∷ rest)
 there c = second_put c.self.inside.frames.items c.args.self.now c.self.inside.depth c.index_mut-frame.result.now c.index_mut-frame.result.now c.requires.some c.self.invariant.0 c.self.view_is c.index_mut-frame.ensures.value
 
