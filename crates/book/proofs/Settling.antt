@@ -69,9 +69,9 @@ pub seen_ending : (mid new : Desk) (n : ℕ) → mid.core.ending ≡ None → (x
 seen_ending mid new n going s = ap (λ (d : Desk). d.core.ending) s.3 ∙ going
 
 -- how far the floor of one that is awake lies below the clock after the key's
-abbrev pub behind : Key → Option (Row State) → ℕ
-behind k None = 0
-behind k (Some row) = k.clock + 1 - row.floor
+abbrev pub following : Key → Option (Row State) → ℕ
+following k None = 0
+following k (Some row) = k.clock + 1 - row.floor
 
 -- a floor above which the key is, and one below which it is
 rises : (k : Key) (n floor found : ℕ) → is_before k (record { clock = floor; number = n }) ≡ false → (is_before k (record { clock = found; number = n }) ≡ false → ⊥) → k.clock + 1 - found < k.clock + 1 - floor
@@ -82,7 +82,7 @@ rises k n floor found e past = by (is_before k (record { clock = found; number =
     by false q = absurd (past q)
 
 -- one that was looked at and stands before the key no longer has risen
-pub looked_rises : (mid new : Desk) (n : ℕ) (key : Key) → IsBefore mid.core.rows key n → (x : Sighting) × (x.number ≡ n) × IsSight mid x × (new ≡ seen_desk x mid) → (IsBefore new.core.rows key n → ⊥) → sum_by (behind key) new.core.rows < sum_by (behind key) mid.core.rows
+pub looked_rises : (mid new : Desk) (n : ℕ) (key : Key) → IsBefore mid.core.rows key n → (x : Sighting) × (x.number ≡ n) × IsSight mid x × (new ≡ seen_desk x mid) → (IsBefore new.core.rows key n → ⊥) → sum_by (following key) new.core.rows < sum_by (following key) mid.core.rows
 looked_rises mid new n key b s past =
     let x = s.0 in
     let row = b.0 in
@@ -90,9 +90,9 @@ looked_rises mid new n key b s past =
     let there = get_or-set_same mid.core.rows n (Some (raised_row x.found row)) None l in
     let rows : new.core.rows ≡ slice_set mid.core.rows n (Some (raised_row x.found row)) = ap (λ (d : Desk). d.core.rows) s.3 ∙ subst (λ (k : ℕ). slice_set mid.core.rows k (option_map (raised_row x.found) (slice_index_or mid.core.rows k None)) ≡ slice_set mid.core.rows n (Some (raised_row x.found row))) (sym s.1) (ap (λ (o : Option (Row State)). slice_set mid.core.rows n (option_map (raised_row x.found) o)) b.1) in
     let rose = rises key n row.floor x.found b.3 (λ e. past (raised_row x.found row, ap (λ (rs : Rows). slice_index_or rs n None) rows ∙ there, b.2, e)) in
-    let sum = sum_by-set (behind key) mid.core.rows n (Some (raised_row x.found row)) None l in
-    let was : behind key (slice_index_or mid.core.rows n None) ≡ key.clock + 1 - row.floor = ap (behind key) b.1 in
-    let is : sum_by (behind key) new.core.rows ≡ sum_by (behind key) (slice_set mid.core.rows n (Some (raised_row x.found row))) = ap (sum_by (behind key)) rows in
+    let sum = sum_by-set (following key) mid.core.rows n (Some (raised_row x.found row)) None l in
+    let was : following key (slice_index_or mid.core.rows n None) ≡ key.clock + 1 - row.floor = ap (following key) b.1 in
+    let is : sum_by (following key) new.core.rows ≡ sum_by (following key) (slice_set mid.core.rows n (Some (raised_row x.found row))) = ap (sum_by (following key)) rows in
     grind (arith, rose, sum, was, is)
 
 -- one that is not lent is waited for without a look

@@ -50,12 +50,12 @@ IsThere code (kinds.Chan s) = s < length code.shapes
 abbrev pub AreThere : Code → List WordKind → Type 0
 AreThere code ks = (n : ℕ) (k : WordKind) → slice_get ks n ≡ Some k → IsThere code k
 
--- pcs are within a function of `n` instructions (`AreWithin`), and are after pc `place` (`AreBehind`)
+-- pcs are within a function of `n` instructions (`AreWithin`), and are after pc `place` (`AreAfter`)
 abbrev pub AreWithin : List ℕ → ℕ → Type 0
 AreWithin places n = (k to : ℕ) → slice_get places k ≡ Some to → to < n
 
-abbrev pub AreBehind : List ℕ → ℕ → Type 0
-AreBehind places place = (k to : ℕ) → slice_get places k ≡ Some to → place < to
+abbrev pub AreAfter : List ℕ → ℕ → Type 0
+AreAfter places place = (k to : ℕ) → slice_get places k ≡ Some to → place < to
 
 -- what an instruction names is there
 abbrev pub Named : Code → Function → Instr → Type 0
@@ -85,7 +85,7 @@ abbrev pub Directed : Code → ℕ → Instr → Type 0
 Directed code place (instrs.Jump to) = place < to
 Directed code place (instrs.Unless to) = place < to
 Directed code place (instrs.Loop to) = to ≤ place
-Directed code place (instrs.Select q) = AreBehind (targets_in (slice_get code.selects q)) place
+Directed code place (instrs.Select q) = AreAfter (targets_in (slice_get code.selects q)) place
 Directed code place i = Unit {0}
 
 -- the rule that an instruction breaks which does not fit

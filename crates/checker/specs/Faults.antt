@@ -5,7 +5,7 @@ use Rattle.go_text.specs.declared.fault.Fault.TheVariants as faults
 use Rattle.go_text.specs.declared.place.Place.{Place}
 use Rattle.syntax.specs.declared.tree.Tree.{Tree}
 use Rattle.syntax.specs.Spans.{tree_of, spans_of}
-use Rattle.typing_rules.specs.declared.flaw.Flaw.TheVariants.{Broken, Exceeded}
+use Rattle.typing_rules.specs.declared.violation.Violation.TheVariants.{Broken, Exceeded}
 use Rattle.typing_rules.specs.Files.{Breaks, Exceeds}
 use Rattle.checker.specs.Firsts.{ComesFirst}
 

@@ -5,7 +5,7 @@ ghost use Rattle.syntax.specs.Measures.{function_size, statements_size, top_size
 ghost use Rattle.syntax.specs.View.{body_of, function_of, top_of};
 ghost use Rattle.type_table.specs.Views.{field_in, yield_of};
 ghost use Rattle.type_table.specs.Visible.{types_of, globals_in, scope_of};
-ghost use Rattle.typing_rules.specs.declared.flaw.Flaw.{Flaw as OneFlaw};
+ghost use Rattle.typing_rules.specs.declared.violation.Violation.{Violation as OneViolation};
 ghost use Rattle.checker_base.specs.Views.{Refuses};
 ghost use Rattle.checker_statement.specs.Settings.{setting_in};
 ghost use Rattle.typing_rules.specs.Kinds.{with_fields};
@@ -26,7 +26,7 @@ use type_table::entry::FieldEntry;
 use type_table::scope::{Visible, declare};
 use type_table::table::TypeTable;
 use type_table::value_type::ValueType;
-use typing_rules::flaw::Flaw;
+use typing_rules::violation::Violation;
 
 /// How many words the variables of a function may take.
 const MOST_WORDS: usize = 4096;
@@ -67,15 +67,15 @@ fn body_in<'a>(
 ) -> Result<NodeId, Refusal>
     requires small { first + statements_size (body_of body.now) + 2 < 2 ^ 32 }
     ensures end { IfOk result (λ end. end ≡ first + statements_size (body_of body.now) + 2) }
-    ensures none { IfOk result (λ _. (end : ℕ) → end ≡ first + statements_size (body_of body.now) + 2 → (flaw : OneFlaw) → ¬ (BodyIn (setting_in table.now inside.entry) (scope_of table.now visible.old) first (body_of body.now) end flaw)) }
-    ensures one { IfErr result (Refuses (λ flaw. (end : ℕ) → end ≡ first + statements_size (body_of body.now) + 2 → BodyIn (setting_in table.now inside.entry) (scope_of table.now visible.old) first (body_of body.now) end flaw)) }
+    ensures none { IfOk result (λ _. (end : ℕ) → end ≡ first + statements_size (body_of body.now) + 2 → (violation : OneViolation) → ¬ (BodyIn (setting_in table.now inside.entry) (scope_of table.now visible.old) first (body_of body.now) end violation)) }
+    ensures one { IfErr result (Refuses (λ violation. (end : ℕ) → end ≡ first + statements_size (body_of body.now) + 2 → BodyIn (setting_in table.now inside.entry) (scope_of table.now visible.old) first (body_of body.now) end violation)) }
 {
     let end = statements(alloc, table, inside, visible, first, body)?;
     if visible.words > MOST_WORDS {
-        return Err(Refusal::Flawed(Flaw::Exceeded(LimitKind::FunctionWords, end + 1)));
+        return Err(Refusal::Violated(Violation::Exceeded(LimitKind::FunctionWords, end + 1)));
     }
     if !is_ended(inside.result, body) {
-        return Err(Refusal::Flawed(Flaw::Broken(Rule::Terminating, end + 1)));
+        return Err(Refusal::Violated(Violation::Broken(Rule::Terminating, end + 1)));
     }
     Ok(end + 2)
 }
@@ -89,8 +89,8 @@ fn body<'a>(
 ) -> Result<NodeId, Refusal>
     requires small { first + function_size (function_of function.now) < 2 ^ 32 }
     ensures end { IfOk result (λ end. end ≡ first + function_size (function_of function.now)) }
-    ensures none { IfOk result (λ _. (flaw : OneFlaw) → ¬ (BodyHas (globals_in table.now) first (function_of function.now) flaw)) }
-    ensures one { IfErr result (Refuses (λ flaw. BodyHas (globals_in table.now) first (function_of function.now) flaw ⊎ HeadHas (types_of table.now) first (function_of function.now) flaw)) }
+    ensures none { IfOk result (λ _. (violation : OneViolation) → ¬ (BodyHas (globals_in table.now) first (function_of function.now) violation)) }
+    ensures one { IfErr result (Refuses (λ violation. BodyHas (globals_in table.now) first (function_of function.now) violation ⊎ HeadHas (types_of table.now) first (function_of function.now) violation)) }
 {
     let head = function_head(alloc, table.types(), first, function)?;
     let mut visible = Visible::new(alloc);
@@ -120,8 +120,8 @@ fn top_body<'a>(
 ) -> Result<NodeId, Refusal>
     requires small { first + top_size (top_of top.now) < 2 ^ 32 }
     ensures end { IfOk result (λ end. end ≡ first + top_size (top_of top.now)) }
-    ensures none { IfOk result (λ _. (flaw : OneFlaw) → ¬ (TopBodyHas (globals_in table.now) first (top_of top.now) flaw)) }
-    ensures one { IfErr result (Refuses (λ flaw. TopBodyHas (globals_in table.now) first (top_of top.now) flaw ⊎ TopHeadHas (types_of table.now) first (top_of top.now) flaw)) }
+    ensures none { IfOk result (λ _. (violation : OneViolation) → ¬ (TopBodyHas (globals_in table.now) first (top_of top.now) violation)) }
+    ensures one { IfErr result (Refuses (λ violation. TopBodyHas (globals_in table.now) first (top_of top.now) violation ⊎ TopHeadHas (types_of table.now) first (top_of top.now) violation)) }
 {
     match top {
         TopNode::Struct(_) => Ok(first + top_size(top)),
@@ -138,8 +138,8 @@ pub(crate) fn bodies<'a>(
     tops: &'a [TopNode],
 ) -> Result<(), Refusal>
     requires small { sum_by top_size (map top_of tops.now) < 2 ^ 32 }
-    ensures none { IfOk result (λ _. (flaw : OneFlaw) → ¬ (BodiesHave (globals_in table.now) 0 (map top_of tops.now) flaw)) }
-    ensures one { IfErr result (Refuses (λ flaw. FirstBodyHas (globals_in table.now) 0 (map top_of tops.now) flaw ⊎ HeadsHave (types_of table.now) 0 (map top_of tops.now) flaw)) }
+    ensures none { IfOk result (λ _. (violation : OneViolation) → ¬ (BodiesHave (globals_in table.now) 0 (map top_of tops.now) violation)) }
+    ensures one { IfErr result (Refuses (λ violation. FirstBodyHas (globals_in table.now) 0 (map top_of tops.now) violation ⊎ HeadsHave (types_of table.now) 0 (map top_of tops.now) violation)) }
 {
     let mut end = 0;
     for top in tops {

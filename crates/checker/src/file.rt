@@ -4,7 +4,7 @@ ghost use Rattle.std.specs.Prelude.{◌≡◌, ◌+◌, ◌^◌, ◌<◌, ◌&&�
 ghost use Rattle.syntax.specs.Measures.{size};
 ghost use Rattle.syntax.specs.View.{file_of};
 ghost use Rattle.type_table.specs.Views.{signature_of};
-ghost use Rattle.typing_rules.specs.declared.flaw.Flaw.{Flaw as OneFlaw};
+ghost use Rattle.typing_rules.specs.declared.violation.Violation.{Violation as OneViolation};
 ghost use Rattle.checker_base.specs.Views.{Refuses};
 ghost use Rattle.typing_rules.specs.Files.{is_plain, has_main, FileHas};
 ghost use Rattle.checker.specs.Firsts.{ComesFirst};
@@ -16,7 +16,7 @@ use go_text::Rule;
 use std::alloc::Global;
 use syntax::{FileNode, NodeId};
 use type_table::entry::FunctionEntry;
-use typing_rules::flaw::Flaw;
+use typing_rules::violation::Violation;
 
 /// Whether a function has no parameters and no result.
 fn is_plain(function: &FunctionEntry<'_>) -> bool
@@ -45,13 +45,13 @@ fn has_main(functions: &[FunctionEntry<'_>]) -> bool
 pub(crate) fn check_file(alloc: Global, node: NodeId, file: &FileNode) -> Result<(), Refusal>
     requires last { node + 1 ≡ size (file_of file.now) }
     requires small { size (file_of file.now) < 2 ^ 32 }
-    ensures none { IfOk result (λ _. (flaw : OneFlaw) → ¬ (FileHas (file_of file.now) flaw)) }
+    ensures none { IfOk result (λ _. (violation : OneViolation) → ¬ (FileHas (file_of file.now) violation)) }
     ensures one { IfErr result (Refuses (FileHas (file_of file.now))) }
     ensures first { IfErr result (Refuses (ComesFirst (file_of file.now))) }
 {
     let table = table_of(alloc, file.tops.as_slice())?;
     if !has_main(table.functions.as_slice()) {
-        return Err(Refusal::Flawed(Flaw::Broken(Rule::Main, node)));
+        return Err(Refusal::Violated(Violation::Broken(Rule::Main, node)));
     }
     bodies(alloc, &table, file.tops.as_slice())
 }

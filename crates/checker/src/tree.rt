@@ -15,22 +15,22 @@ use checker_base::refusal::Refusal;
 use go_text::{Fault, Place};
 use std::alloc::Global;
 use syntax::Tree;
-use typing_rules::flaw::Flaw;
+use typing_rules::violation::Violation;
 
 /// The error for a tree with this violation, with the location of the node.
-fn fault_of(tree: &Tree, flaw: Flaw) -> Fault
-    requires node { node_of flaw < size (tree_of tree.now) }
-    requires flaw { FileHas (tree_of tree.now) flaw }
-    requires first { ComesFirst (tree_of tree.now) flaw }
+fn fault_of(tree: &Tree, violation: Violation) -> Fault
+    requires node { node_of violation < size (tree_of tree.now) }
+    requires violation { FileHas (tree_of tree.now) violation }
+    requires first { ComesFirst (tree_of tree.now) violation }
     ensures { Tells tree.now result }
 {
-    match flaw {
-        Flaw::Broken(rule, node) => Fault::Typing {
+    match violation {
+        Violation::Broken(rule, node) => Fault::Typing {
             rule,
             node,
             place: Place::from(tree.span(node)),
         },
-        Flaw::Exceeded(kind, node) => Fault::Limit {
+        Violation::Exceeded(kind, node) => Fault::Limit {
             kind,
             node: Some(node),
             place: Place::from(tree.span(node)),
@@ -52,7 +52,7 @@ pub fn check(alloc: Global, tree: Tree) -> Result<Typed, Fault>
 {
     match check_file(alloc, tree.count() - 1, tree.file()) {
         Ok(()) => Ok(Typed::new(tree)),
-        Err(Refusal::Flawed(flaw)) => Err(fault_of(&tree, flaw)),
+        Err(Refusal::Violated(violation)) => Err(fault_of(&tree, violation)),
         Err(Refusal::Memory) => Err(Fault::Memory),
     }
 }

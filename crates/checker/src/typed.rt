@@ -63,7 +63,7 @@ impl Typed {
         match table_of(alloc, self.tree.file().tops.as_slice()) {
             Ok(table) => Ok(table),
             Err(Refusal::Memory) => Err(AllocError),
-            Err(Refusal::Flawed(_)) => unreachable!(),
+            Err(Refusal::Violated(_)) => unreachable!(),
         }
     }
 }

@@ -1,12 +1,12 @@
 -- The types and constant values of expressions, and what is refused, as the definitions see them.
 use Rattle.std.specs.Prelude.{◌≤◌, ◌^◌, ℕ, zero, suc, ◌+◌, false, List, [], ◌∷◌, map, nat_abs, Option, Some, None, Result, Ok, Err}
 use Rattle.syntax.specs.Tree.{Expression}
-use Rattle.typing_rules.specs.declared.flaw.Flaw.{Flaw}
-use Rattle.typing_rules.specs.declared.flaw.Misuse.{Misuse}
+use Rattle.typing_rules.specs.declared.violation.Violation.{Violation}
+use Rattle.typing_rules.specs.declared.violation.Misuse.{Misuse}
 use Rattle.checker_base.specs.declared.callee.Callee.{Callee as OneCallee}
 use Rattle.checker_base.specs.declared.callee.Callee.TheVariants as callees
 use Rattle.checker_base.specs.declared.refusal.Refusal.{Refusal}
-use Rattle.checker_base.specs.declared.refusal.Refusal.TheVariants.{Memory, Flawed}
+use Rattle.checker_base.specs.declared.refusal.Refusal.TheVariants.{Memory, Violated}
 use Rattle.checker_base.specs.declared.worth.Worth.{Worth as InMemory}
 use Rattle.checker_base.specs.declared.worth.Worth.TheVariants as worths
 use Rattle.checker_base.specs.declared.operand.Operand.{Operand}
@@ -16,7 +16,7 @@ use Rattle.checker_base.specs.declared.wanted.Wanted.TheVariants as wanteds
 use Rattle.type_table.specs.Types.{ValueType}
 use Rattle.type_table.specs.Scopes.{Globals, Scope}
 use Rattle.type_table.specs.Views.{kind_of, field_in}
-use Rattle.typing_rules.specs.Flaws.{Nodes}
+use Rattle.typing_rules.specs.Violations.{Nodes}
 use Rattle.typing_rules.specs.Calls.{Callee, NotDeclared, NoFunction, IsFunction}
 use Rattle.typing_rules.specs.Worths.{Worth, Typed, Constant, Nil}
 use Rattle.typing_rules.specs.Expressions.{field_kinds}
@@ -42,9 +42,9 @@ abbrev pub nodes_in : Operand → Nodes
 nodes_in operand = record { first = operand.first; end = operand.node + 1 }
 
 -- P of the violation, if there is one; holds if out of memory
-abbrev pub Refuses : (Flaw → Type 0) → Refusal → Type 0
+abbrev pub Refuses : (Violation → Type 0) → Refusal → Type 0
 Refuses P Memory = Unit {0}
-Refuses P (Flawed flaw) = P flaw
+Refuses P (Violated violation) = P violation
 
 -- the type of a parameter or a field, which is known
 abbrev pub known_kind : List (List ℕ) → Kind → Option ValueType
@@ -62,13 +62,13 @@ kind_at (kind ∷ rest) zero = kind
 kind_at (kind ∷ rest) (suc number) = kind_at rest number
 
 -- what is wrong with a call of these values, with or without a comma after the last one
-abbrev pub CallWith : Globals → Scope → ℕ → List ℕ → List Expression → Flaw → Type 0
-CallWith globals scope first function values flaw = CallHas globals scope first function (record { values = values; trailing = false }) flaw
+abbrev pub CallWith : Globals → Scope → ℕ → List ℕ → List Expression → Violation → Type 0
+CallWith globals scope first function values violation = CallHas globals scope first function (record { values = values; trailing = false }) violation
 
 -- P of the violation that is reported; if none is, P of no violation
-abbrev pub Tells : (Flaw → Type 0) → Option Flaw → Type 0
-Tells P None = (flaw : Flaw) → ¬ (P flaw)
-Tells P (Some flaw) = P flaw
+abbrev pub Tells : (Violation → Type 0) → Option Violation → Type 0
+Tells P None = (violation : Violation) → ¬ (P violation)
+Tells P (Some violation) = P violation
 
 -- what the name in a call stands for
 abbrev pub callee_of : OneCallee → Callee

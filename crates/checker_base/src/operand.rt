@@ -10,7 +10,7 @@ ghost use Rattle.type_table.specs.Types.{StructType};
 ghost use Rattle.type_table.specs.Scopes.{type_in};
 ghost use Rattle.type_table.specs.Views.{field_in};
 ghost use Rattle.type_table.specs.Visible.{types_of, globals_in, scope_of};
-ghost use Rattle.typing_rules.specs.declared.flaw.Flaw.{Flaw as OneFlaw};
+ghost use Rattle.typing_rules.specs.declared.violation.Violation.{Violation as OneViolation};
 ghost use Rattle.typing_rules.specs.Calls.{IsFunction, callee, result_type, made_of};
 ghost use Rattle.typing_rules.specs.Worths.{Typed, Constant, worth as spec_worth, literal, literal_struct, element_of, selected_worth, unary_worth, binary_worth};
 ghost use Rattle.typing_rules.specs.Expressions.{ExpressionHas, ExpressionsHave, PassedHave, ValuesFail};
@@ -33,7 +33,7 @@ use type_table::entry::FieldEntry;
 use type_table::scope::Visible;
 use type_table::table::TypeTable;
 use type_table::value_type::{ValueType, element_in, type_in};
-use typing_rules::flaw::Flaw;
+use typing_rules::violation::Violation;
 
 /// An expression that is checked.
 #[derive(Clone, Copy)]
@@ -51,7 +51,7 @@ struct Filling {
     /// The number after their nodes.
     end: NodeId,
     /// What is wrong with the first one that is not of the type that is wanted.
-    misfit: Option<Flaw>,
+    misfit: Option<Violation>,
 }
 
 /// The fields of the struct with this number.
@@ -86,13 +86,13 @@ pub fn checked<'a>(
     visible: &Visible<'a>,
     first: NodeId,
     expression: &'a ExpressionNode,
-) -> Result<Operand<'a>, Flaw>
+) -> Result<Operand<'a>, Violation>
     requires small { first + expression_size (expression_of expression.now) < 2 ^ 32 }
     ensures worth { IfOk result (λ o. spec_worth (globals_in table.now) (scope_of table.now visible.now) (expression_of expression.now) ≡ Some (worth_of (types_of table.now) o.worth)) }
     ensures small { IfOk result (λ o. IsSmall o.worth) }
     ensures first { IfOk result (λ o. first ≡ o.first) }
     ensures end { IfOk result (λ o. first + expression_size (expression_of expression.now) ≡ o.node + 1) }
-    ensures none { IfOk result (λ _. (flaw : OneFlaw) → ¬ (ExpressionHas (globals_in table.now) (scope_of table.now visible.now) first (expression_of expression.now) flaw)) }
+    ensures none { IfOk result (λ _. (violation : OneViolation) → ¬ (ExpressionHas (globals_in table.now) (scope_of table.now visible.now) first (expression_of expression.now) violation)) }
     ensures one { IfErr result (ExpressionHas (globals_in table.now) (scope_of table.now visible.now) first (expression_of expression.now)) }
 {
     match expression {
@@ -145,17 +145,17 @@ fn composite<'a>(
     first: NodeId,
     name: &Name,
     values: &'a [ExpressionNode],
-) -> Result<Operand<'a>, Flaw>
+) -> Result<Operand<'a>, Violation>
     requires small { first + expressions_size (expressions (map expression_of values.now)) + 1 < 2 ^ 32 }
     ensures worth { IfOk result (λ o. (trailing : Bool) → spec_worth (globals_in table.now) (scope_of table.now visible.now) (Composite (name_of name.now) (expressions (map expression_of values.now)) trailing) ≡ Some (worth_of (types_of table.now) o.worth)) }
     ensures small { IfOk result (λ o. IsSmall o.worth) }
     ensures first { IfOk result (λ o. first ≡ o.first) }
     ensures end { IfOk result (λ o. first + expressions_size (expressions (map expression_of values.now)) ≡ o.node) }
-    ensures none { IfOk result (λ _. (trailing : Bool) → (flaw : OneFlaw) → ¬ (ExpressionHas (globals_in table.now) (scope_of table.now visible.now) first (Composite (name_of name.now) (expressions (map expression_of values.now)) trailing) flaw)) }
-    ensures one { IfErr result (λ flaw. (trailing : Bool) → ExpressionHas (globals_in table.now) (scope_of table.now visible.now) first (Composite (name_of name.now) (expressions (map expression_of values.now)) trailing) flaw) }
+    ensures none { IfOk result (λ _. (trailing : Bool) → (violation : OneViolation) → ¬ (ExpressionHas (globals_in table.now) (scope_of table.now visible.now) first (Composite (name_of name.now) (expressions (map expression_of values.now)) trailing) violation)) }
+    ensures one { IfErr result (λ violation. (trailing : Bool) → ExpressionHas (globals_in table.now) (scope_of table.now visible.now) first (Composite (name_of name.now) (expressions (map expression_of values.now)) trailing) violation) }
 {
     let Some(number) = literal_struct(table, visible, name.bytes.as_slice()) else {
-        return Err(Flaw::Broken(Rule::Visible, first + values_size(values)));
+        return Err(Violation::Broken(Rule::Visible, first + values_size(values)));
     };
     let worth = Worth::Typed(ValueType::Struct(number));
     if values.is_empty() {
@@ -181,19 +181,19 @@ fn passed<'a>(
     first: NodeId,
     values: &'a [ExpressionNode],
     wanted: Wanted<'_>,
-) -> Result<NodeId, Flaw>
+) -> Result<NodeId, Violation>
     requires small { first + expressions_size (expressions (map expression_of values.now)) + 1 < 2 ^ 32 }
     ensures end { IfOk result (λ end. end ≡ first + expressions_size (expressions (map expression_of values.now))) }
-    ensures none { IfOk result (λ _. (flaw : OneFlaw) → ¬ (ExpressionsHave (globals_in table.now) (scope_of table.now visible.now) first (expressions (map expression_of values.now)) flaw)) }
-    ensures fits { IfOk result (λ _. (end : ℕ) → (flaw : OneFlaw) → ¬ (PassedHave (globals_in table.now) (scope_of table.now visible.now) first (map expression_of values.now) (kinds_in (types_of table.now) wanted.entry) end flaw)) }
-    ensures one { IfErr result (λ flaw. (end : ℕ) → end ≡ first + expressions_size (expressions (map expression_of values.now)) + 1 → ExpressionsHave (globals_in table.now) (scope_of table.now visible.now) first (expressions (map expression_of values.now)) flaw ⊎ PassedHave (globals_in table.now) (scope_of table.now visible.now) first (map expression_of values.now) (kinds_in (types_of table.now) wanted.entry) end flaw) }
+    ensures none { IfOk result (λ _. (violation : OneViolation) → ¬ (ExpressionsHave (globals_in table.now) (scope_of table.now visible.now) first (expressions (map expression_of values.now)) violation)) }
+    ensures fits { IfOk result (λ _. (end : ℕ) → (violation : OneViolation) → ¬ (PassedHave (globals_in table.now) (scope_of table.now visible.now) first (map expression_of values.now) (kinds_in (types_of table.now) wanted.entry) end violation)) }
+    ensures one { IfErr result (λ violation. (end : ℕ) → end ≡ first + expressions_size (expressions (map expression_of values.now)) + 1 → ExpressionsHave (globals_in table.now) (scope_of table.now visible.now) first (expressions (map expression_of values.now)) violation ⊎ PassedHave (globals_in table.now) (scope_of table.now visible.now) first (map expression_of values.now) (kinds_in (types_of table.now) wanted.entry) end violation) }
 {
     let filling = fit(table, visible, first, values, wanted)?;
     if values.len() != wanted.count() {
-        return Err(Flaw::Broken(Rule::Numbers, filling.end));
+        return Err(Violation::Broken(Rule::Numbers, filling.end));
     }
     match filling.misfit {
-        Some(flaw) => Err(flaw),
+        Some(violation) => Err(violation),
         None => Ok(filling.end),
     }
 }
@@ -206,11 +206,11 @@ fn fit<'a>(
     first: NodeId,
     values: &'a [ExpressionNode],
     wanted: Wanted<'_>,
-) -> Result<Filling, Flaw>
+) -> Result<Filling, Violation>
     requires small { first + expressions_size (expressions (map expression_of values.now)) < 2 ^ 32 }
     ensures end { IfOk result (λ made. made.end ≡ first + expressions_size (expressions (map expression_of values.now))) }
     ensures misfit { IfOk result (λ made. Tells (ValuesFail (globals_in table.now) (scope_of table.now visible.now) first (map expression_of values.now) (kinds_in (types_of table.now) wanted.entry)) made.misfit) }
-    ensures none { IfOk result (λ _. (flaw : OneFlaw) → ¬ (ExpressionsHave (globals_in table.now) (scope_of table.now visible.now) first (expressions (map expression_of values.now)) flaw)) }
+    ensures none { IfOk result (λ _. (violation : OneViolation) → ¬ (ExpressionsHave (globals_in table.now) (scope_of table.now visible.now) first (expressions (map expression_of values.now)) violation)) }
     ensures one { IfErr result (ExpressionsHave (globals_in table.now) (scope_of table.now visible.now) first (expressions (map expression_of values.now))) }
 {
     let mut end = first;
@@ -233,16 +233,16 @@ pub fn call<'a>(
     first: NodeId,
     function: &Name,
     values: &'a [ExpressionNode],
-) -> Result<CheckedCall, Flaw>
+) -> Result<CheckedCall, Violation>
     requires small { first + expressions_size (expressions (map expression_of values.now)) + 1 < 2 ^ 32 }
     ensures node { IfOk result (λ called. first + expressions_size (expressions (map expression_of values.now)) ≡ called.node) }
     ensures function { IfOk result (λ called. callee (globals_in table.now) (scope_of table.now visible.now) (name_of function.now) ≡ IsFunction called.function) }
-    ensures none { IfOk result (λ _. (flaw : OneFlaw) → ¬ (CallWith (globals_in table.now) (scope_of table.now visible.now) first (name_of function.now) (map expression_of values.now) flaw)) }
+    ensures none { IfOk result (λ _. (violation : OneViolation) → ¬ (CallWith (globals_in table.now) (scope_of table.now visible.now) first (name_of function.now) (map expression_of values.now) violation)) }
     ensures one { IfErr result (CallWith (globals_in table.now) (scope_of table.now visible.now) first (name_of function.now) (map expression_of values.now)) }
 {
     match callee_named(table, visible, function.bytes.as_slice()) {
-        Callee::NotDeclared => Err(Flaw::Broken(Rule::Visible, first + values_size(values))),
-        Callee::NoFunction => Err(Flaw::Broken(Rule::Called, first + values_size(values))),
+        Callee::NotDeclared => Err(Violation::Broken(Rule::Visible, first + values_size(values))),
+        Callee::NoFunction => Err(Violation::Broken(Rule::Called, first + values_size(values))),
         Callee::Function(number) => {
             let wanted = Wanted::Parameters(parameters_of(table, number));
             let node = passed(table, visible, first, values, wanted)?;
@@ -262,14 +262,14 @@ fn called<'a>(
     first: NodeId,
     function: &Name,
     values: &'a [ExpressionNode],
-) -> Result<Operand<'a>, Flaw>
+) -> Result<Operand<'a>, Violation>
     requires small { first + expressions_size (expressions (map expression_of values.now)) + 1 < 2 ^ 32 }
     ensures worth { IfOk result (λ o. (trailing : Bool) → spec_worth (globals_in table.now) (scope_of table.now visible.now) (Call (name_of function.now) (expressions (map expression_of values.now)) trailing) ≡ Some (worth_of (types_of table.now) o.worth)) }
     ensures small { IfOk result (λ o. IsSmall o.worth) }
     ensures first { IfOk result (λ o. first ≡ o.first) }
     ensures end { IfOk result (λ o. first + expressions_size (expressions (map expression_of values.now)) ≡ o.node) }
-    ensures none { IfOk result (λ _. (trailing : Bool) → (flaw : OneFlaw) → ¬ (ExpressionHas (globals_in table.now) (scope_of table.now visible.now) first (Call (name_of function.now) (expressions (map expression_of values.now)) trailing) flaw)) }
-    ensures one { IfErr result (λ flaw. (trailing : Bool) → ExpressionHas (globals_in table.now) (scope_of table.now visible.now) first (Call (name_of function.now) (expressions (map expression_of values.now)) trailing) flaw) }
+    ensures none { IfOk result (λ _. (trailing : Bool) → (violation : OneViolation) → ¬ (ExpressionHas (globals_in table.now) (scope_of table.now visible.now) first (Call (name_of function.now) (expressions (map expression_of values.now)) trailing) violation)) }
+    ensures one { IfErr result (λ violation. (trailing : Bool) → ExpressionHas (globals_in table.now) (scope_of table.now visible.now) first (Call (name_of function.now) (expressions (map expression_of values.now)) trailing) violation) }
 {
     let called = call(table, visible, first, function, values)?;
     call_value(table, first, called)
@@ -282,13 +282,13 @@ pub fn receive<'a>(
     visible: &Visible<'a>,
     first: NodeId,
     from: &'a ExpressionNode,
-) -> Result<Operand<'a>, Flaw>
+) -> Result<Operand<'a>, Violation>
     requires small { first + expression_size (expression_of from.now) + 1 < 2 ^ 32 }
     ensures worth { IfOk result (λ o. spec_worth (globals_in table.now) (scope_of table.now visible.now) (Receive (expression_of from.now)) ≡ Some (worth_of (types_of table.now) o.worth)) }
     ensures small { IfOk result (λ o. IsSmall o.worth) }
     ensures first { IfOk result (λ o. first ≡ o.first) }
     ensures node { IfOk result (λ o. first + expression_size (expression_of from.now) ≡ o.node) }
-    ensures none { IfOk result (λ _. (flaw : OneFlaw) → ¬ (ExpressionHas (globals_in table.now) (scope_of table.now visible.now) first (Receive (expression_of from.now)) flaw)) }
+    ensures none { IfOk result (λ _. (violation : OneViolation) → ¬ (ExpressionHas (globals_in table.now) (scope_of table.now visible.now) first (Receive (expression_of from.now)) violation)) }
     ensures one { IfErr result (ExpressionHas (globals_in table.now) (scope_of table.now visible.now) first (Receive (expression_of from.now))) }
 {
     let operand = checked(table, visible, first, from)?;
@@ -309,11 +309,11 @@ pub fn measured<'a>(
     visible: &Visible<'a>,
     first: NodeId,
     of: &'a ExpressionNode,
-) -> Result<Operand<'a>, Flaw>
+) -> Result<Operand<'a>, Violation>
     requires small { first + expression_size (expression_of of.now) + 1 < 2 ^ 32 }
     ensures worth { IfOk result (λ o. spec_worth (globals_in table.now) (scope_of table.now visible.now) (expression_of of.now) ≡ Some (worth_of (types_of table.now) o.worth)) }
     ensures end { IfOk result (λ o. first + expression_size (expression_of of.now) ≡ o.node + 1) }
-    ensures none { IfOk result (λ _. (flaw : OneFlaw) → ¬ (MeasuredHas (globals_in table.now) (scope_of table.now visible.now) first (expression_of of.now) flaw)) }
+    ensures none { IfOk result (λ _. (violation : OneViolation) → ¬ (MeasuredHas (globals_in table.now) (scope_of table.now visible.now) first (expression_of of.now) violation)) }
     ensures one { IfErr result (MeasuredHas (globals_in table.now) (scope_of table.now visible.now) first (expression_of of.now)) }
 {
     let operand = checked(table, visible, first, of)?;
@@ -328,13 +328,13 @@ fn length<'a>(
     visible: &Visible<'a>,
     first: NodeId,
     of: &'a ExpressionNode,
-) -> Result<Operand<'a>, Flaw>
+) -> Result<Operand<'a>, Violation>
     requires small { first + expression_size (expression_of of.now) + 1 < 2 ^ 32 }
     ensures worth { IfOk result (λ o. spec_worth (globals_in table.now) (scope_of table.now visible.now) (Length (expression_of of.now)) ≡ Some (worth_of (types_of table.now) o.worth)) }
     ensures small { IfOk result (λ o. IsSmall o.worth) }
     ensures first { IfOk result (λ o. first ≡ o.first) }
     ensures node { IfOk result (λ o. first + expression_size (expression_of of.now) ≡ o.node) }
-    ensures none { IfOk result (λ _. (flaw : OneFlaw) → ¬ (MeasuredHas (globals_in table.now) (scope_of table.now visible.now) first (expression_of of.now) flaw)) }
+    ensures none { IfOk result (λ _. (violation : OneViolation) → ¬ (MeasuredHas (globals_in table.now) (scope_of table.now visible.now) first (expression_of of.now) violation)) }
     ensures one { IfErr result (MeasuredHas (globals_in table.now) (scope_of table.now visible.now) first (expression_of of.now)) }
 {
     let operand = measured(table, visible, first, of)?;
@@ -354,17 +354,17 @@ fn make_sized<'a>(
     first: NodeId,
     size: &'a ExpressionNode,
     written: &'a TypeNode,
-) -> Result<Operand<'a>, Flaw>
+) -> Result<Operand<'a>, Violation>
     requires small { first + type_size (type_of written.now) + expression_size (expression_of size.now) + 1 < 2 ^ 32 }
     ensures worth { IfOk result (λ o. spec_worth (globals_in table.now) (scope_of table.now visible.now) (MakeSized (type_of written.now) (expression_of size.now)) ≡ Some (worth_of (types_of table.now) o.worth)) }
     ensures small { IfOk result (λ o. IsSmall o.worth) }
     ensures first { IfOk result (λ o. first ≡ o.first) }
     ensures node { IfOk result (λ o. first + type_size (type_of written.now) + expression_size (expression_of size.now) ≡ o.node) }
-    ensures none { IfOk result (λ _. (flaw : OneFlaw) → ¬ (ExpressionHas (globals_in table.now) (scope_of table.now visible.now) first (MakeSized (type_of written.now) (expression_of size.now)) flaw)) }
+    ensures none { IfOk result (λ _. (violation : OneViolation) → ¬ (ExpressionHas (globals_in table.now) (scope_of table.now visible.now) first (MakeSized (type_of written.now) (expression_of size.now)) violation)) }
     ensures one { IfErr result (ExpressionHas (globals_in table.now) (scope_of table.now visible.now) first (MakeSized (type_of written.now) (expression_of size.now))) }
 {
     let Some(kind) = type_in(table, visible, written) else {
-        return Err(Flaw::Broken(Rule::Visible, first));
+        return Err(Violation::Broken(Rule::Visible, first));
     };
     let size = checked(table, visible, first + type_size(written), size)?;
     buffer_size(size)?;

@@ -1,7 +1,7 @@
 //! Why a check stops.
 
 use std::alloc::{AllocError, AllocFailed};
-use typing_rules::flaw::Flaw;
+use typing_rules::violation::Violation;
 
 /// Why a check stops.
 #[derive(Drop)]
@@ -9,7 +9,7 @@ pub enum Refusal {
     /// A request for memory was refused.
     Memory,
     /// Something is wrong with the tree.
-    Flawed(Flaw),
+    Violated(Violation),
 }
 
 impl From<AllocError> for Refusal {
@@ -34,13 +34,13 @@ impl<T: Drop> From<AllocFailed<T>> for Refusal {
     }
 }
 
-impl From<Flaw> for Refusal {
+impl From<Violation> for Refusal {
     ghost use Rattle.checker_base.specs.declared.refusal.Refusal.TheVariants as refusals;
     ghost use Rattle.std.specs.Prelude.{◌≡◌};
 
-    ghost from_gives = { λ flaw e. e ≡ refusals.Flawed flaw };
+    ghost from_gives = { λ violation e. e ≡ refusals.Violated violation };
 
-    fn from(flaw: Flaw) -> Refusal {
-        Refusal::Flawed(flaw)
+    fn from(violation: Violation) -> Refusal {
+        Refusal::Violated(violation)
     }
 }

@@ -4,8 +4,8 @@ ghost use Rattle.std.specs.Prelude.{◌≡◌, ℕ, ◌+◌, List, Option, Some,
 ghost use Rattle.type_table.specs.Types.{ChannelType};
 ghost use Rattle.type_table.specs.Views.{kind_of};
 ghost use Rattle.type_table.specs.Visible.{types_of};
-ghost use Rattle.typing_rules.specs.declared.flaw.Flaw.{Flaw as OneFlaw};
-ghost use Rattle.typing_rules.specs.Flaws.{Nodes};
+ghost use Rattle.typing_rules.specs.declared.violation.Violation.{Violation as OneViolation};
+ghost use Rattle.typing_rules.specs.Violations.{Nodes};
 ghost use Rattle.typing_rules.specs.Worths.{Worth as OneWorth, Typed};
 ghost use Rattle.checker_base.specs.Views.{worth_of};
 ghost use Rattle.typing_rules.specs.Expressions.{ValueHas, DefaultHas, ConditionHas, ChannelHas, SentHas, ReceivedHas, PrintedHas, default_type};
@@ -16,19 +16,23 @@ use go_text::Rule;
 use syntax::{Direction, NodeId};
 use type_table::table::TypeTable;
 use type_table::value_type::{ValueType, assignable, element_in};
-use typing_rules::flaw::Flaw;
+use typing_rules::violation::Violation;
 
 /// Checks a value that is used as this type.
-pub fn value(table: &TypeTable<'_>, operand: Operand<'_>, kind: ValueType<'_>) -> Result<(), Flaw>
-    ensures none { IfOk result (λ _. (w : Option OneWorth) → w ≡ Some (worth_of (types_of table.now) operand.entry.worth) → (nodes : Nodes) → nodes.first ≡ operand.entry.first → nodes.end ≡ operand.entry.node + 1 → (flaw : OneFlaw) → ¬ (ValueHas w (Some (kind_of (types_of table.now) kind.entry)) nodes flaw)) }
-    ensures one { IfErr result (λ flaw. (w : Option OneWorth) → w ≡ Some (worth_of (types_of table.now) operand.entry.worth) → (nodes : Nodes) → nodes.first ≡ operand.entry.first → nodes.end ≡ operand.entry.node + 1 → ValueHas w (Some (kind_of (types_of table.now) kind.entry)) nodes flaw) }
+pub fn value(
+    table: &TypeTable<'_>,
+    operand: Operand<'_>,
+    kind: ValueType<'_>,
+) -> Result<(), Violation>
+    ensures none { IfOk result (λ _. (w : Option OneWorth) → w ≡ Some (worth_of (types_of table.now) operand.entry.worth) → (nodes : Nodes) → nodes.first ≡ operand.entry.first → nodes.end ≡ operand.entry.node + 1 → (violation : OneViolation) → ¬ (ValueHas w (Some (kind_of (types_of table.now) kind.entry)) nodes violation)) }
+    ensures one { IfErr result (λ violation. (w : Option OneWorth) → w ≡ Some (worth_of (types_of table.now) operand.entry.worth) → (nodes : Nodes) → nodes.first ≡ operand.entry.first → nodes.end ≡ operand.entry.node + 1 → ValueHas w (Some (kind_of (types_of table.now) kind.entry)) nodes violation) }
 {
     match operand.worth {
         Worth::Typed(own) => {
             if assignable(table, own, kind) {
                 Ok(())
             } else {
-                Err(Flaw::Broken(Rule::Assignable, operand.node))
+                Err(Violation::Broken(Rule::Assignable, operand.node))
             }
         }
         Worth::Constant(value) => match kind {
@@ -36,23 +40,23 @@ pub fn value(table: &TypeTable<'_>, operand: Operand<'_>, kind: ValueType<'_>) -
                 if is_int(value) {
                     Ok(())
                 } else {
-                    Err(Flaw::Broken(Rule::Constant, operand.node))
+                    Err(Violation::Broken(Rule::Constant, operand.node))
                 }
             }
-            _ => Err(Flaw::Broken(Rule::Assignable, operand.node)),
+            _ => Err(Violation::Broken(Rule::Assignable, operand.node)),
         },
         Worth::Nil => match kind {
             ValueType::Channel(_, _) => Ok(()),
-            _ => Err(Flaw::Broken(Rule::Nil, operand.first)),
+            _ => Err(Violation::Broken(Rule::Nil, operand.first)),
         },
     }
 }
 
 /// Checks a value that goes to a variable without a type, and returns the type that the variable takes.
-pub fn default_type<'a>(operand: Operand<'a>) -> Result<ValueType<'a>, Flaw>
+pub fn default_type<'a>(operand: Operand<'a>) -> Result<ValueType<'a>, Violation>
     ensures kind { IfOk result (λ kind. (types : List (List ℕ)) → default_type (Some (worth_of types operand.entry.worth)) ≡ Some (kind_of types kind)) }
-    ensures none { IfOk result (λ _. (types : List (List ℕ)) → (w : Option OneWorth) → w ≡ Some (worth_of types operand.entry.worth) → (nodes : Nodes) → nodes.first ≡ operand.entry.first → nodes.end ≡ operand.entry.node + 1 → (flaw : OneFlaw) → ¬ (DefaultHas w nodes flaw)) }
-    ensures one { IfErr result (λ flaw. (types : List (List ℕ)) → (w : Option OneWorth) → w ≡ Some (worth_of types operand.entry.worth) → (nodes : Nodes) → nodes.first ≡ operand.entry.first → nodes.end ≡ operand.entry.node + 1 → DefaultHas w nodes flaw) }
+    ensures none { IfOk result (λ _. (types : List (List ℕ)) → (w : Option OneWorth) → w ≡ Some (worth_of types operand.entry.worth) → (nodes : Nodes) → nodes.first ≡ operand.entry.first → nodes.end ≡ operand.entry.node + 1 → (violation : OneViolation) → ¬ (DefaultHas w nodes violation)) }
+    ensures one { IfErr result (λ violation. (types : List (List ℕ)) → (w : Option OneWorth) → w ≡ Some (worth_of types operand.entry.worth) → (nodes : Nodes) → nodes.first ≡ operand.entry.first → nodes.end ≡ operand.entry.node + 1 → DefaultHas w nodes violation) }
 {
     match operand.worth {
         Worth::Typed(kind) => Ok(kind),
@@ -60,22 +64,22 @@ pub fn default_type<'a>(operand: Operand<'a>) -> Result<ValueType<'a>, Flaw>
             if is_int(value) {
                 Ok(ValueType::Int)
             } else {
-                Err(Flaw::Broken(Rule::Constant, operand.node))
+                Err(Violation::Broken(Rule::Constant, operand.node))
             }
         }
-        Worth::Nil => Err(Flaw::Broken(Rule::Nil, operand.first)),
+        Worth::Nil => Err(Violation::Broken(Rule::Nil, operand.first)),
     }
 }
 
 /// Checks that a condition is a bool.
-pub fn is_condition(operand: Operand<'_>) -> Result<(), Flaw>
-    ensures none { IfOk result (λ _. (types : List (List ℕ)) → (w : Option OneWorth) → w ≡ Some (worth_of types operand.entry.worth) → (nodes : Nodes) → nodes.first ≡ operand.entry.first → nodes.end ≡ operand.entry.node + 1 → (flaw : OneFlaw) → ¬ (ConditionHas w nodes flaw)) }
-    ensures one { IfErr result (λ flaw. (types : List (List ℕ)) → (w : Option OneWorth) → w ≡ Some (worth_of types operand.entry.worth) → (nodes : Nodes) → nodes.first ≡ operand.entry.first → nodes.end ≡ operand.entry.node + 1 → ConditionHas w nodes flaw) }
+pub fn is_condition(operand: Operand<'_>) -> Result<(), Violation>
+    ensures none { IfOk result (λ _. (types : List (List ℕ)) → (w : Option OneWorth) → w ≡ Some (worth_of types operand.entry.worth) → (nodes : Nodes) → nodes.first ≡ operand.entry.first → nodes.end ≡ operand.entry.node + 1 → (violation : OneViolation) → ¬ (ConditionHas w nodes violation)) }
+    ensures one { IfErr result (λ violation. (types : List (List ℕ)) → (w : Option OneWorth) → w ≡ Some (worth_of types operand.entry.worth) → (nodes : Nodes) → nodes.first ≡ operand.entry.first → nodes.end ≡ operand.entry.node + 1 → ConditionHas w nodes violation) }
 {
     match operand.worth {
         Worth::Typed(ValueType::Bool) => Ok(()),
-        Worth::Nil => Err(Flaw::Broken(Rule::Nil, operand.first)),
-        _ => Err(Flaw::Broken(Rule::Condition, operand.node)),
+        Worth::Nil => Err(Violation::Broken(Rule::Nil, operand.first)),
+        _ => Err(Violation::Broken(Rule::Condition, operand.node)),
     }
 }
 
@@ -83,60 +87,60 @@ pub fn is_condition(operand: Operand<'_>) -> Result<(), Flaw>
 pub fn channel<'a>(
     table: &TypeTable<'a>,
     operand: Operand<'a>,
-) -> Result<(Direction, ValueType<'a>), Flaw>
+) -> Result<(Direction, ValueType<'a>), Violation>
     ensures kind { IfOk result (λ channel. worth_of (types_of table.now) operand.entry.worth ≡ Typed (ChannelType channel.0 (kind_of (types_of table.now) channel.1))) }
-    ensures none { IfOk result (λ _. (types : List (List ℕ)) → (w : Option OneWorth) → w ≡ Some (worth_of types operand.entry.worth) → (nodes : Nodes) → nodes.first ≡ operand.entry.first → nodes.end ≡ operand.entry.node + 1 → (flaw : OneFlaw) → ¬ (ChannelHas w nodes flaw)) }
-    ensures one { IfErr result (λ flaw. (types : List (List ℕ)) → (w : Option OneWorth) → w ≡ Some (worth_of types operand.entry.worth) → (nodes : Nodes) → nodes.first ≡ operand.entry.first → nodes.end ≡ operand.entry.node + 1 → ChannelHas w nodes flaw) }
+    ensures none { IfOk result (λ _. (types : List (List ℕ)) → (w : Option OneWorth) → w ≡ Some (worth_of types operand.entry.worth) → (nodes : Nodes) → nodes.first ≡ operand.entry.first → nodes.end ≡ operand.entry.node + 1 → (violation : OneViolation) → ¬ (ChannelHas w nodes violation)) }
+    ensures one { IfErr result (λ violation. (types : List (List ℕ)) → (w : Option OneWorth) → w ≡ Some (worth_of types operand.entry.worth) → (nodes : Nodes) → nodes.first ≡ operand.entry.first → nodes.end ≡ operand.entry.node + 1 → ChannelHas w nodes violation) }
 {
     match operand.worth {
         Worth::Typed(ValueType::Channel(direction, element)) => {
             Ok((direction, element_in(table, element)))
         }
-        _ => Err(Flaw::Broken(Rule::Channel, operand.node)),
+        _ => Err(Violation::Broken(Rule::Channel, operand.node)),
     }
 }
 
 /// Checks that one may send on a channel, or close it; the operation's own node is `node`.
-pub fn sent(worth: Worth<'_>, node: NodeId) -> Result<(), Flaw>
-    ensures none { IfOk result (λ _. (types : List (List ℕ)) → (w : Option OneWorth) → w ≡ Some (worth_of types worth.entry) → (end : ℕ) → end ≡ node + 1 → (flaw : OneFlaw) → ¬ (SentHas w end flaw)) }
-    ensures one { IfErr result (λ flaw. (types : List (List ℕ)) → (w : Option OneWorth) → w ≡ Some (worth_of types worth.entry) → (end : ℕ) → end ≡ node + 1 → SentHas w end flaw) }
+pub fn sent(worth: Worth<'_>, node: NodeId) -> Result<(), Violation>
+    ensures none { IfOk result (λ _. (types : List (List ℕ)) → (w : Option OneWorth) → w ≡ Some (worth_of types worth.entry) → (end : ℕ) → end ≡ node + 1 → (violation : OneViolation) → ¬ (SentHas w end violation)) }
+    ensures one { IfErr result (λ violation. (types : List (List ℕ)) → (w : Option OneWorth) → w ≡ Some (worth_of types worth.entry) → (end : ℕ) → end ≡ node + 1 → SentHas w end violation) }
 {
     match worth {
         Worth::Typed(ValueType::Channel(Direction::Receive, _)) => {
-            Err(Flaw::Broken(Rule::Direction, node))
+            Err(Violation::Broken(Rule::Direction, node))
         }
         _ => Ok(()),
     }
 }
 
 /// Checks that one may receive from a channel; the operation's own node is `node`.
-pub fn received(worth: Worth<'_>, node: NodeId) -> Result<(), Flaw>
-    ensures none { IfOk result (λ _. (types : List (List ℕ)) → (w : Option OneWorth) → w ≡ Some (worth_of types worth.entry) → (end : ℕ) → end ≡ node + 1 → (flaw : OneFlaw) → ¬ (ReceivedHas w end flaw)) }
-    ensures one { IfErr result (λ flaw. (types : List (List ℕ)) → (w : Option OneWorth) → w ≡ Some (worth_of types worth.entry) → (end : ℕ) → end ≡ node + 1 → ReceivedHas w end flaw) }
+pub fn received(worth: Worth<'_>, node: NodeId) -> Result<(), Violation>
+    ensures none { IfOk result (λ _. (types : List (List ℕ)) → (w : Option OneWorth) → w ≡ Some (worth_of types worth.entry) → (end : ℕ) → end ≡ node + 1 → (violation : OneViolation) → ¬ (ReceivedHas w end violation)) }
+    ensures one { IfErr result (λ violation. (types : List (List ℕ)) → (w : Option OneWorth) → w ≡ Some (worth_of types worth.entry) → (end : ℕ) → end ≡ node + 1 → ReceivedHas w end violation) }
 {
     match worth {
         Worth::Typed(ValueType::Channel(Direction::Send, _)) => {
-            Err(Flaw::Broken(Rule::Direction, node))
+            Err(Violation::Broken(Rule::Direction, node))
         }
         _ => Ok(()),
     }
 }
 
 /// Checks that a value can be printed.
-pub fn printed(operand: Operand<'_>) -> Result<(), Flaw>
-    ensures none { IfOk result (λ _. (types : List (List ℕ)) → (w : Option OneWorth) → w ≡ Some (worth_of types operand.entry.worth) → (nodes : Nodes) → nodes.first ≡ operand.entry.first → nodes.end ≡ operand.entry.node + 1 → (flaw : OneFlaw) → ¬ (PrintedHas w nodes flaw)) }
-    ensures one { IfErr result (λ flaw. (types : List (List ℕ)) → (w : Option OneWorth) → w ≡ Some (worth_of types operand.entry.worth) → (nodes : Nodes) → nodes.first ≡ operand.entry.first → nodes.end ≡ operand.entry.node + 1 → PrintedHas w nodes flaw) }
+pub fn printed(operand: Operand<'_>) -> Result<(), Violation>
+    ensures none { IfOk result (λ _. (types : List (List ℕ)) → (w : Option OneWorth) → w ≡ Some (worth_of types operand.entry.worth) → (nodes : Nodes) → nodes.first ≡ operand.entry.first → nodes.end ≡ operand.entry.node + 1 → (violation : OneViolation) → ¬ (PrintedHas w nodes violation)) }
+    ensures one { IfErr result (λ violation. (types : List (List ℕ)) → (w : Option OneWorth) → w ≡ Some (worth_of types operand.entry.worth) → (nodes : Nodes) → nodes.first ≡ operand.entry.first → nodes.end ≡ operand.entry.node + 1 → PrintedHas w nodes violation) }
 {
     match operand.worth {
         Worth::Typed(ValueType::Int) | Worth::Typed(ValueType::Bool) => Ok(()),
-        Worth::Typed(_) => Err(Flaw::Broken(Rule::Called, operand.node)),
+        Worth::Typed(_) => Err(Violation::Broken(Rule::Called, operand.node)),
         Worth::Constant(value) => {
             if is_int(value) {
                 Ok(())
             } else {
-                Err(Flaw::Broken(Rule::Constant, operand.node))
+                Err(Violation::Broken(Rule::Constant, operand.node))
             }
         }
-        Worth::Nil => Err(Flaw::Broken(Rule::Nil, operand.first)),
+        Worth::Nil => Err(Violation::Broken(Rule::Nil, operand.first)),
     }
 }

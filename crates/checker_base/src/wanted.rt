@@ -3,7 +3,7 @@
 ghost use Rattle.std.specs.Prelude.{◌≡◌, ℕ, ◌+◌, List, map, length, slice_get, option_copied, option_map, Option, Some, None, IfSome};
 ghost use Rattle.type_table.specs.Views.{kind_of};
 ghost use Rattle.type_table.specs.Visible.{types_of};
-ghost use Rattle.typing_rules.specs.Flaws.{Nodes};
+ghost use Rattle.typing_rules.specs.Violations.{Nodes};
 ghost use Rattle.typing_rules.specs.Worths.{Worth as OneWorth};
 ghost use Rattle.typing_rules.specs.Expressions.{ValueHas};
 ghost use Rattle.checker_base.specs.Views.{worth_of, kinds_in, kind_at, Tells};
@@ -13,7 +13,7 @@ use crate::value::value;
 use type_table::entry::FieldEntry;
 use type_table::table::TypeTable;
 use type_table::value_type::ValueType;
-use typing_rules::flaw::Flaw;
+use typing_rules::violation::Violation;
 
 /// The types that values must have, in order.
 #[derive(Clone, Copy)]
@@ -68,13 +68,13 @@ fn misfit_in(
     table: &TypeTable<'_>,
     operand: Operand<'_>,
     kind: Option<ValueType<'_>>,
-) -> Option<Flaw>
+) -> Option<Violation>
     ensures { (w : Option OneWorth) → w ≡ Some (worth_of (types_of table.now) operand.entry.worth) → (nodes : Nodes) → nodes.first ≡ operand.entry.first → nodes.end ≡ operand.entry.node + 1 → Tells (ValueHas w (option_map (kind_of (types_of table.now)) kind.entry) nodes) result }
 {
     match kind {
         Some(kind) => match value(table, operand, kind) {
             Ok(()) => None,
-            Err(flaw) => Some(flaw),
+            Err(violation) => Some(violation),
         },
         None => None,
     }
@@ -83,15 +83,15 @@ fn misfit_in(
 /// What is known to be wrong already, else what is wrong with a value that is used as this type.
 pub(crate) fn first_misfit(
     table: &TypeTable<'_>,
-    known: Option<Flaw>,
+    known: Option<Violation>,
     operand: Operand<'_>,
     kind: Option<ValueType<'_>>,
-) -> Option<Flaw>
-    ensures known { IfSome known (λ flaw. result ≡ Some flaw) }
+) -> Option<Violation>
+    ensures known { IfSome known (λ violation. result ≡ Some violation) }
     ensures new { known ≡ None → (w : Option OneWorth) → w ≡ Some (worth_of (types_of table.now) operand.entry.worth) → (nodes : Nodes) → nodes.first ≡ operand.entry.first → nodes.end ≡ operand.entry.node + 1 → Tells (ValueHas w (option_map (kind_of (types_of table.now)) kind.entry) nodes) result }
 {
     match known {
-        Some(flaw) => Some(flaw),
+        Some(violation) => Some(violation),
         None => misfit_in(table, operand, kind),
     }
 }

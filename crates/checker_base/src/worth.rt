@@ -17,7 +17,7 @@ use type_table::layout::{field_of, number_of};
 use type_table::scope::{Visible, is_nil, is_truth, variable_named};
 use type_table::table::TypeTable;
 use type_table::value_type::{ValueType, assignable};
-use typing_rules::flaw::Misuse;
+use typing_rules::violation::Misuse;
 
 /// The greatest size of a constant, 2^100.
 const LARGEST: u128 = 1 << 100;

@@ -7,7 +7,7 @@ use Rattle.syntax.specs.Tree.{Top}
 use Rattle.type_table.specs.Containment.{Field, Structs, width_within}
 use Rattle.type_table.specs.Marks.{IsWide, AreWide}
 use Rattle.type_table.proofs.Widths.{got-append, wide-more}
-use Rattle.typing_rules.specs.declared.flaw.Flaw.TheVariants.{Exceeded}
+use Rattle.typing_rules.specs.declared.violation.Violation.TheVariants.{Exceeded}
 use Rattle.checker_declaration.specs.declared.parts.Parts.{Parts}
 use Rattle.typing_rules.specs.Kinds.{structs}
 use Rattle.typing_rules.specs.Declarations.{WidthHas, struct_node, TypesHave}

@@ -16,14 +16,14 @@ use go_text::{LimitKind, Rule};
 use std::alloc::{AllocError, Global};
 use syntax::{NodeId, TopNode};
 use type_table::name_list::NameList;
-use typing_rules::flaw::Flaw;
+use typing_rules::violation::Violation;
 
 /// The node of a violation.
-fn node_of(flaw: Flaw) -> NodeId
-    ensures { result ≡ node_of flaw }
+fn node_of(violation: Violation) -> NodeId
+    ensures { result ≡ node_of violation }
 {
-    match flaw {
-        Flaw::Broken(_, node) | Flaw::Exceeded(_, node) => node,
+    match violation {
+        Violation::Broken(_, node) | Violation::Exceeded(_, node) => node,
     }
 }
 
@@ -35,7 +35,7 @@ fn held_node(
 ) -> Result<Option<NodeId>, AllocError>
     requires small { sum_by top_size (map top_of tops.now) < 2 ^ 32 }
     requires fields { structs_in (type_names (map top_of tops.now)) all.now ≡ structs (map top_of tops.now) }
-    ensures { IfOk result (λ found. IfSome found (λ node. TypesHave (map top_of tops.now) (Flaw.Broken Rule.Struct node))) }
+    ensures { IfOk result (λ found. IfSome found (λ node. TypesHave (map top_of tops.now) (Violation.Broken Rule.Struct node))) }
 {
     match first_held(alloc, all)? {
         None => Ok(None),
@@ -51,7 +51,7 @@ fn wide_node(
 ) -> Result<Option<NodeId>, AllocError>
     requires small { sum_by top_size (map top_of tops.now) < 2 ^ 32 }
     requires fields { structs_in (type_names (map top_of tops.now)) all.now ≡ structs (map top_of tops.now) }
-    ensures { IfOk result (λ found. IfSome found (λ node. TypesHave (map top_of tops.now) (Flaw.Exceeded LimitKind.StructWidth node))) }
+    ensures { IfOk result (λ found. IfSome found (λ node. TypesHave (map top_of tops.now) (Violation.Exceeded LimitKind.StructWidth node))) }
 {
     match first_too_wide(alloc, all)? {
         None => Ok(None),
@@ -64,16 +64,16 @@ fn held_before(
     alloc: Global,
     tops: &[TopNode],
     all: &[Parts<'_>],
-    flaw: Flaw,
-) -> Result<Flaw, AllocError>
+    violation: Violation,
+) -> Result<Violation, AllocError>
     requires small { sum_by top_size (map top_of tops.now) < 2 ^ 32 }
     requires fields { structs_in (type_names (map top_of tops.now)) all.now ≡ structs (map top_of tops.now) }
-    requires flaw { TypesHave (map top_of tops.now) flaw }
+    requires violation { TypesHave (map top_of tops.now) violation }
     ensures { IfOk result (TypesHave (map top_of tops.now)) }
 {
     match held_node(alloc, tops, all)? {
-        Some(node) if node < node_of(flaw) => Ok(Flaw::Broken(Rule::Struct, node)),
-        _ => Ok(flaw),
+        Some(node) if node < node_of(violation) => Ok(Violation::Broken(Rule::Struct, node)),
+        _ => Ok(violation),
     }
 }
 
@@ -82,16 +82,19 @@ fn wide_before(
     alloc: Global,
     tops: &[TopNode],
     all: &[Parts<'_>],
-    flaw: Flaw,
-) -> Result<Flaw, AllocError>
+    violation: Violation,
+) -> Result<Violation, AllocError>
     requires small { sum_by top_size (map top_of tops.now) < 2 ^ 32 }
     requires fields { structs_in (type_names (map top_of tops.now)) all.now ≡ structs (map top_of tops.now) }
-    requires flaw { TypesHave (map top_of tops.now) flaw }
+    requires violation { TypesHave (map top_of tops.now) violation }
     ensures { IfOk result (TypesHave (map top_of tops.now)) }
 {
     match wide_node(alloc, tops, all)? {
-        Some(node) if node < node_of(flaw) => Ok(Flaw::Exceeded(LimitKind::StructWidth, node)),
-        _ => Ok(flaw),
+        Some(node) if node < node_of(violation) => Ok(Violation::Exceeded(
+            LimitKind::StructWidth,
+            node,
+        )),
+        _ => Ok(violation),
     }
 }
 
@@ -103,14 +106,14 @@ pub(crate) fn earliest(
     alloc: Global,
     types: &NameList<'_>,
     tops: &[TopNode],
-    flaw: Flaw,
-) -> Result<Flaw, AllocError>
+    violation: Violation,
+) -> Result<Violation, AllocError>
     requires small { sum_by top_size (map top_of tops.now) < 2 ^ 32 }
     requires names { types.now ≡ type_names (map top_of tops.now) }
-    requires flaw { TypesHave (map top_of tops.now) flaw }
+    requires violation { TypesHave (map top_of tops.now) violation }
     ensures { IfOk result (TypesHave (map top_of tops.now)) }
 {
     let all = all_parts(alloc, types, tops)?;
-    let first = held_before(alloc, tops, all.as_slice(), flaw)?;
+    let first = held_before(alloc, tops, all.as_slice(), violation)?;
     wide_before(alloc, tops, all.as_slice(), first)
 }

@@ -5,7 +5,7 @@ ghost use Rattle.syntax.specs.Measures.{declared_size};
 ghost use Rattle.syntax.specs.View.{name_of, declared_of};
 ghost use Rattle.type_table.specs.Scopes.{nothing_declared, type_in};
 ghost use Rattle.type_table.specs.Views.{kind_of, field_in};
-ghost use Rattle.typing_rules.specs.declared.flaw.Flaw.{Flaw as OneFlaw};
+ghost use Rattle.typing_rules.specs.declared.violation.Violation.{Violation as OneViolation};
 ghost use Rattle.checker_base.specs.Views.{Refuses};
 ghost use Rattle.typing_rules.specs.Kinds.{all_fields, fields_declared};
 ghost use Rattle.typing_rules.specs.Declarations.{broken_by, NamesHave, GroupHas, GroupsHave};
@@ -20,8 +20,8 @@ use type_table::entry::FieldEntry;
 use type_table::name_list::NameList;
 use type_table::scope::{is_blank, is_reserved};
 use type_table::value_type::{ValueType, global_type_in};
-use typing_rules::flaw::Flaw;
 use typing_rules::role::Role;
+use typing_rules::violation::Violation;
 
 /// The rule that a name violates after others of the same struct or function ("Declarations and scope" of the Go specification).
 fn broken_by(role: Role, before: &NameList<'_>, name: &[u8]) -> Option<Rule>
@@ -55,14 +55,14 @@ fn names<'a>(
     all: &'a [Name],
 ) -> Result<(), Refusal>
     ensures after { IfOk result (λ _. before.new ≡ before.old ++ map name_of all.now) }
-    ensures none { IfOk result (λ _. (end : ℕ) → end ≡ node + 1 → (flaw : OneFlaw) → ¬ (NamesHave role before.old (map name_of all.now) end flaw)) }
-    ensures one { IfErr result (Refuses (λ flaw. (end : ℕ) → end ≡ node + 1 → NamesHave role before.old (map name_of all.now) end flaw)) }
+    ensures none { IfOk result (λ _. (end : ℕ) → end ≡ node + 1 → (violation : OneViolation) → ¬ (NamesHave role before.old (map name_of all.now) end violation)) }
+    ensures one { IfErr result (Refuses (λ violation. (end : ℕ) → end ≡ node + 1 → NamesHave role before.old (map name_of all.now) end violation)) }
 {
     let Some((name, rest)) = all.split_first() else {
         return Ok(());
     };
     if let Some(rule) = broken_by(role, before, name.bytes.as_slice()) {
-        return Err(Refusal::Flawed(Flaw::Broken(rule, node)));
+        return Err(Refusal::Violated(Violation::Broken(rule, node)));
     }
     before.push(name)?;
     crate::group::names(role, before, node, rest)
@@ -95,13 +95,13 @@ fn group<'a>(
     ensures end { IfOk result (λ end. end ≡ first + declared_size (declared_of one.now)) }
     ensures names { IfOk result (λ _. before.new ≡ before.old ++ (declared_of one.now).names) }
     ensures fields { IfOk result (λ _. map (field_in types.now) entries.new.items ≡ map (field_in types.now) entries.old.items ++ all_fields (type_in types.now nothing_declared (declared_of one.now).type_expression) (declared_of one.now).names) }
-    ensures none { IfOk result (λ _. (flaw : OneFlaw) → ¬ (GroupHas role types.now before.old first (declared_of one.now) flaw)) }
+    ensures none { IfOk result (λ _. (violation : OneViolation) → ¬ (GroupHas role types.now before.old first (declared_of one.now) violation)) }
     ensures one { IfErr result (Refuses (GroupHas role types.now before.old first (declared_of one.now))) }
 {
     let node = first + type_size(&one.type_node);
     names(role, before, node, one.names.as_slice())?;
     match global_type_in(types, &one.type_node) {
-        None => Err(Refusal::Flawed(Flaw::Broken(Rule::Visible, first))),
+        None => Err(Refusal::Violated(Violation::Broken(Rule::Visible, first))),
         Some(kind) => {
             declare(entries, kind, one.names.as_slice())?;
             Ok(node + 1)
@@ -122,7 +122,7 @@ fn groups<'a>(
     requires small { first + sum_by declared_size (map declared_of all.now) < 2 ^ 32 }
     ensures end { IfOk result (λ end. end ≡ first + sum_by declared_size (map declared_of all.now)) }
     ensures fields { IfOk result (λ _. map (field_in types.now) entries.new.items ≡ map (field_in types.now) entries.old.items ++ fields_declared types.now (map declared_of all.now)) }
-    ensures none { IfOk result (λ _. (flaw : OneFlaw) → ¬ (GroupsHave role types.now before.old first (map declared_of all.now) flaw)) }
+    ensures none { IfOk result (λ _. (violation : OneViolation) → ¬ (GroupsHave role types.now before.old first (map declared_of all.now) violation)) }
     ensures one { IfErr result (Refuses (GroupsHave role types.now before.old first (map declared_of all.now))) }
 {
     let Some((one, rest)) = all.split_first() else {
@@ -153,7 +153,7 @@ pub(crate) fn all_groups<'a>(
     requires small { first + sum_by declared_size (map declared_of all.now) < 2 ^ 32 }
     ensures end { IfOk result (λ listed. listed.end ≡ first + sum_by declared_size (map declared_of all.now)) }
     ensures fields { IfOk result (λ listed. map (field_in types.now) listed.entries.items ≡ fields_declared types.now (map declared_of all.now)) }
-    ensures none { IfOk result (λ _. (flaw : OneFlaw) → ¬ (GroupsHave role types.now [] first (map declared_of all.now) flaw)) }
+    ensures none { IfOk result (λ _. (violation : OneViolation) → ¬ (GroupsHave role types.now [] first (map declared_of all.now) violation)) }
     ensures one { IfErr result (Refuses (GroupsHave role types.now [] first (map declared_of all.now))) }
 {
     let mut names = NameList::new(alloc);

@@ -5,7 +5,7 @@ ghost use Rattle.syntax.specs.Measures.{if_any, type_size, declared_size, top_si
 ghost use Rattle.syntax.specs.View.{type_of, function_of, top_of};
 ghost use Rattle.type_table.specs.declared.value_type.ValueType.{ValueType as OneType};
 ghost use Rattle.type_table.specs.Views.{kind_of, field_in, yield_of as yield_in, signature_of, function_names as names_in};
-ghost use Rattle.typing_rules.specs.declared.flaw.Flaw.{Flaw as OneFlaw};
+ghost use Rattle.typing_rules.specs.declared.violation.Violation.{Violation as OneViolation};
 ghost use Rattle.checker_base.specs.Views.{Refuses};
 ghost use Rattle.typing_rules.specs.Kinds.{function_name, function_names, fields_declared, yield_of, kinds_in, signature, signature_in, signatures};
 ghost use Rattle.typing_rules.specs.Declarations.{IfTypeHas, HeadHas, HeaderHas, TopHeaderHas, counting_function, HeadersHave};
@@ -20,8 +20,8 @@ use syntax::{FunctionNode, NodeId, TopNode, TypeNode};
 use type_table::entry::{FieldEntry, FunctionEntry};
 use type_table::name_list::NameList;
 use type_table::value_type::{ValueType, global_type_in};
-use typing_rules::flaw::Flaw;
 use typing_rules::role::Role;
+use typing_rules::violation::Violation;
 
 /// How many functions a file may have.
 const MOST_FUNCTIONS: usize = 4096;
@@ -31,15 +31,15 @@ fn optional_type<'a>(
     types: &NameList<'_>,
     first: NodeId,
     written: &'a Option<TypeNode>,
-) -> Result<Option<ValueType<'a>>, Flaw>
+) -> Result<Option<ValueType<'a>>, Violation>
     ensures kind { IfOk result (λ kind. yield_in types.now kind ≡ yield_of types.now (option_map type_of written.now)) }
-    ensures none { IfOk result (λ _. (flaw : OneFlaw) → ¬ (IfTypeHas types.now (option_map type_of written.now) first flaw)) }
+    ensures none { IfOk result (λ _. (violation : OneViolation) → ¬ (IfTypeHas types.now (option_map type_of written.now) first violation)) }
     ensures one { IfErr result (IfTypeHas types.now (option_map type_of written.now) first) }
 {
     match written {
         None => Ok(None),
         Some(node) => match global_type_in(types, node) {
-            None => Err(Flaw::Broken(Rule::Visible, first)),
+            None => Err(Violation::Broken(Rule::Visible, first)),
             Some(kind) => Ok(Some(kind)),
         },
     }
@@ -76,7 +76,7 @@ pub fn function_head<'a>(
     ensures parameters { IfOk result (λ head. map (field_in types.now) head.parameters.items ≡ fields_declared types.now (function_of function.now).parameters) }
     ensures kind { IfOk result (λ head. yield_in types.now head.result ≡ yield_of types.now (function_of function.now).result) }
     ensures end { IfOk result (λ head. head.end ≡ first + sum_by declared_size (function_of function.now).parameters + if_any type_size (function_of function.now).result) }
-    ensures none { IfOk result (λ _. (flaw : OneFlaw) → ¬ (HeadHas types.now first (function_of function.now) flaw)) }
+    ensures none { IfOk result (λ _. (violation : OneViolation) → ¬ (HeadHas types.now first (function_of function.now) violation)) }
     ensures one { IfErr result (Refuses (HeadHas types.now first (function_of function.now))) }
 {
     let all = function.parameters.as_slice();
@@ -109,7 +109,7 @@ fn entry<'a>(
 ) -> Result<FunctionEntry<'a>, Refusal>
     requires small { first + sum_by declared_size (function_of function.now).parameters + if_any type_size (function_of function.now).result < 2 ^ 32 }
     ensures signature { IfOk result (λ entry. signature_of types.now entry ≡ signature types.now (function_of function.now)) }
-    ensures none { IfOk result (λ _. (flaw : OneFlaw) → ¬ (HeadHas types.now first (function_of function.now) flaw)) }
+    ensures none { IfOk result (λ _. (violation : OneViolation) → ¬ (HeadHas types.now first (function_of function.now) violation)) }
     ensures one { IfErr result (Refuses (HeadHas types.now first (function_of function.now))) }
 {
     let head = function_head(alloc, types, first, function)?;
@@ -133,14 +133,14 @@ fn header<'a>(
 ) -> Result<FunctionEntry<'a>, Refusal>
     requires small { first + sum_by declared_size (function_of function.now).parameters + if_any type_size (function_of function.now).result < 2 ^ 32 }
     ensures signature { IfOk result (λ entry. signature_of types.now entry ≡ signature types.now (function_of function.now)) }
-    ensures none { IfOk result (λ _. (end : ℕ) → end ≡ node + 1 → (flaw : OneFlaw) → ¬ (HeaderHas types.now functions.now number first end (function_of function.now) flaw)) }
-    ensures one { IfErr result (Refuses (λ flaw. (end : ℕ) → end ≡ node + 1 → HeaderHas types.now functions.now number first end (function_of function.now) flaw)) }
+    ensures none { IfOk result (λ _. (end : ℕ) → end ≡ node + 1 → (violation : OneViolation) → ¬ (HeaderHas types.now functions.now number first end (function_of function.now) violation)) }
+    ensures one { IfErr result (Refuses (λ violation. (end : ℕ) → end ≡ node + 1 → HeaderHas types.now functions.now number first end (function_of function.now) violation)) }
 {
     if is_function_taken(types, functions, number, function.name.bytes.as_slice()) {
-        return Err(Refusal::Flawed(Flaw::Broken(Rule::Declared, node)));
+        return Err(Refusal::Violated(Violation::Broken(Rule::Declared, node)));
     }
     if number >= MOST_FUNCTIONS {
-        return Err(Refusal::Flawed(Flaw::Exceeded(LimitKind::Declarations, node)));
+        return Err(Refusal::Violated(Violation::Exceeded(LimitKind::Declarations, node)));
     }
     entry(alloc, types, first, function)
 }
@@ -160,7 +160,7 @@ fn top_header<'a>(
     ensures count { IfOk result (λ _. length entries.new.items ≡ counting_function (length entries.old.items) (top_of top.now)) }
     ensures names { IfOk result (λ _. names_in entries.new.items ≡ names_in entries.old.items ++ function_name (top_of top.now)) }
     ensures signatures { IfOk result (λ _. map (signature_of types.now) entries.new.items ≡ map (signature_of types.now) entries.old.items ++ signature_in types.now (top_of top.now)) }
-    ensures none { IfOk result (λ _. (flaw : OneFlaw) → ¬ (TopHeaderHas types.now functions.now (length entries.old.items) first (top_of top.now) flaw)) }
+    ensures none { IfOk result (λ _. (violation : OneViolation) → ¬ (TopHeaderHas types.now functions.now (length entries.old.items) first (top_of top.now) violation)) }
     ensures one { IfErr result (Refuses (TopHeaderHas types.now functions.now (length entries.old.items) first (top_of top.now))) }
 {
     let node = own_node(first, top);
@@ -188,7 +188,7 @@ pub(crate) fn headers<'a>(
     requires small { sum_by top_size (map top_of tops.now) < 2 ^ 32 }
     ensures names { IfOk result (λ all. names_in all.items ≡ function_names (map top_of tops.now)) }
     ensures signatures { IfOk result (λ all. map (signature_of types.now) all.items ≡ signatures types.now (map top_of tops.now)) }
-    ensures none { IfOk result (λ _. (flaw : OneFlaw) → ¬ (HeadersHave types.now functions.now 0 0 (map top_of tops.now) flaw)) }
+    ensures none { IfOk result (λ _. (violation : OneViolation) → ¬ (HeadersHave types.now functions.now 0 0 (map top_of tops.now) violation)) }
     ensures one { IfErr result (Refuses (HeadersHave types.now functions.now 0 0 (map top_of tops.now))) }
 {
     let mut all = Vec::new(alloc);

@@ -5,7 +5,7 @@ ghost use Rattle.syntax.specs.Measures.{top_size};
 ghost use Rattle.syntax.specs.View.{top_of};
 ghost use Rattle.type_table.specs.Views.{names_of, structs_of};
 ghost use Rattle.type_table.specs.Marks.{IsWide};
-ghost use Rattle.typing_rules.specs.declared.flaw.Flaw.{Flaw as OneFlaw};
+ghost use Rattle.typing_rules.specs.declared.violation.Violation.{Violation as OneViolation};
 ghost use Rattle.checker_base.specs.Views.{Refuses};
 ghost use Rattle.typing_rules.specs.Kinds.{structs_with};
 ghost use Rattle.typing_rules.specs.Declarations.{struct_node, ContentsHave};
@@ -17,7 +17,7 @@ use std::alloc::Global;
 use syntax::{NodeId, TopNode};
 use type_table::entry::StructEntry;
 use type_table::width::{Endless, widths};
-use typing_rules::flaw::Flaw;
+use typing_rules::violation::Violation;
 
 /// How many words a value may take.
 const MOST_WORDS: usize = 16;
@@ -68,19 +68,22 @@ pub(crate) fn narrow_widths(
     ensures count { IfOk result (λ all. length all.items ≡ length structs.now) }
     ensures wide { IfOk result (λ all. (s w : ℕ) → slice_get all.items s ≡ Some w → IsWide (structs_of (names_of structs.now) structs.now) (suc (length structs.now)) s w) }
     ensures narrow { IfOk result (λ all. All (λ w. w ≤ 16) all.items) }
-    ensures none { IfOk result (λ _. (flaw : OneFlaw) → ¬ (ContentsHave (structs_of (names_of structs.now) structs.now) (map top_of tops.now) flaw)) }
+    ensures none { IfOk result (λ _. (violation : OneViolation) → ¬ (ContentsHave (structs_of (names_of structs.now) structs.now) (map top_of tops.now) violation)) }
     ensures one { IfErr result (Refuses (ContentsHave (structs_of (names_of structs.now) structs.now) (map top_of tops.now))) }
 {
     match widths(alloc, structs) {
         Err(Endless::Memory) => Err(Refusal::Memory),
         Err(Endless::Holds(number)) => match struct_node(tops, number) {
-            Some(node) => Err(Refusal::Flawed(Flaw::Broken(Rule::Struct, node))),
+            Some(node) => Err(Refusal::Violated(Violation::Broken(Rule::Struct, node))),
             None => unreachable!(),
         },
         Ok(all) => match first_wide(all.as_slice()) {
             None => Ok(all),
             Some(number) => match struct_node(tops, number) {
-                Some(node) => Err(Refusal::Flawed(Flaw::Exceeded(LimitKind::StructWidth, node))),
+                Some(node) => Err(Refusal::Violated(Violation::Exceeded(
+                    LimitKind::StructWidth,
+                    node,
+                ))),
                 None => unreachable!(),
             },
         },

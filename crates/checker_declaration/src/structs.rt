@@ -4,7 +4,7 @@ ghost use Rattle.std.specs.Prelude.{◌≡◌, ℕ, ◌+◌, ◌++◌, ◌^◌, 
 ghost use Rattle.syntax.specs.Measures.{declared_size, top_size};
 ghost use Rattle.syntax.specs.View.{name_of, struct_of, top_of};
 ghost use Rattle.type_table.specs.Views.{names_of, fields_of_entry, structs_of};
-ghost use Rattle.typing_rules.specs.declared.flaw.Flaw.{Flaw as OneFlaw};
+ghost use Rattle.typing_rules.specs.declared.violation.Violation.{Violation as OneViolation};
 ghost use Rattle.checker_base.specs.Views.{Refuses};
 ghost use Rattle.typing_rules.specs.Kinds.{type_name, type_names, fields_declared, struct_in, structs_with};
 ghost use Rattle.typing_rules.specs.Declarations.{FieldsHave, StructHas, TopStructHas, counting_struct, StructsHave};
@@ -17,8 +17,8 @@ use std::alloc::Global;
 use syntax::{NodeId, StructNode, TopNode};
 use type_table::entry::StructEntry;
 use type_table::name_list::NameList;
-use typing_rules::flaw::Flaw;
 use typing_rules::role::Role;
+use typing_rules::violation::Violation;
 
 /// How many struct types a file may have.
 const MOST_STRUCTS: usize = 4096;
@@ -35,12 +35,12 @@ fn fields<'a>(
     requires small { first + sum_by declared_size (struct_of one.now).fields < 2 ^ 32 }
     ensures name { IfOk result (λ entry. name_of entry.name.now ≡ (struct_of one.now).name) }
     ensures fields { IfOk result (λ entry. fields_of_entry types.now entry ≡ fields_declared types.now (struct_of one.now).fields) }
-    ensures none { IfOk result (λ _. (end : ℕ) → end ≡ node + 1 → (flaw : OneFlaw) → ¬ (FieldsHave types.now first end (struct_of one.now).fields flaw)) }
-    ensures one { IfErr result (Refuses (λ flaw. (end : ℕ) → end ≡ node + 1 → FieldsHave types.now first end (struct_of one.now).fields flaw)) }
+    ensures none { IfOk result (λ _. (end : ℕ) → end ≡ node + 1 → (violation : OneViolation) → ¬ (FieldsHave types.now first end (struct_of one.now).fields violation)) }
+    ensures one { IfErr result (Refuses (λ violation. (end : ℕ) → end ≡ node + 1 → FieldsHave types.now first end (struct_of one.now).fields violation)) }
 {
     let listed = all_groups(alloc, Role::Field, types, first, one.fields.as_slice())?;
     if one.fields.is_empty() {
-        return Err(Refusal::Flawed(Flaw::Broken(Rule::Struct, node)));
+        return Err(Refusal::Violated(Violation::Broken(Rule::Struct, node)));
     }
     Ok(StructEntry {
         name: &one.name,
@@ -60,14 +60,14 @@ fn struct_entry<'a>(
     requires small { first + sum_by declared_size (struct_of one.now).fields < 2 ^ 32 }
     ensures name { IfOk result (λ entry. name_of entry.name.now ≡ (struct_of one.now).name) }
     ensures fields { IfOk result (λ entry. fields_of_entry types.now entry ≡ fields_declared types.now (struct_of one.now).fields) }
-    ensures none { IfOk result (λ _. (end : ℕ) → end ≡ node + 1 → (flaw : OneFlaw) → ¬ (StructHas types.now number first end (struct_of one.now) flaw)) }
-    ensures one { IfErr result (Refuses (λ flaw. (end : ℕ) → end ≡ node + 1 → StructHas types.now number first end (struct_of one.now) flaw)) }
+    ensures none { IfOk result (λ _. (end : ℕ) → end ≡ node + 1 → (violation : OneViolation) → ¬ (StructHas types.now number first end (struct_of one.now) violation)) }
+    ensures one { IfErr result (Refuses (λ violation. (end : ℕ) → end ≡ node + 1 → StructHas types.now number first end (struct_of one.now) violation)) }
 {
     if is_type_taken(types, number, one.name.bytes.as_slice()) {
-        return Err(Refusal::Flawed(Flaw::Broken(Rule::Declared, node)));
+        return Err(Refusal::Violated(Violation::Broken(Rule::Declared, node)));
     }
     if number >= MOST_STRUCTS {
-        return Err(Refusal::Flawed(Flaw::Exceeded(LimitKind::Declarations, node)));
+        return Err(Refusal::Violated(Violation::Exceeded(LimitKind::Declarations, node)));
     }
     fields(alloc, types, first, node, one)
 }
@@ -86,7 +86,7 @@ fn top_struct<'a>(
     ensures count { IfOk result (λ _. length structs.new.items ≡ counting_struct (length structs.old.items) (top_of top.now)) }
     ensures names { IfOk result (λ _. names_of structs.new.items ≡ names_of structs.old.items ++ type_name (top_of top.now)) }
     ensures fields { IfOk result (λ _. structs_of types.now structs.new.items ≡ structs_of types.now structs.old.items ++ struct_in types.now (top_of top.now)) }
-    ensures none { IfOk result (λ _. (flaw : OneFlaw) → ¬ (TopStructHas types.now (length structs.old.items) first (top_of top.now) flaw)) }
+    ensures none { IfOk result (λ _. (violation : OneViolation) → ¬ (TopStructHas types.now (length structs.old.items) first (top_of top.now) violation)) }
     ensures one { IfErr result (Refuses (TopStructHas types.now (length structs.old.items) first (top_of top.now))) }
 {
     let node = own_node(first, top);
@@ -111,7 +111,7 @@ pub(crate) fn structs<'a>(
     requires small { sum_by top_size (map top_of tops.now) < 2 ^ 32 }
     ensures names { IfOk result (λ all. names_of all.items ≡ type_names (map top_of tops.now)) }
     ensures fields { IfOk result (λ all. structs_of types.now all.items ≡ structs_with types.now (map top_of tops.now)) }
-    ensures none { IfOk result (λ _. (flaw : OneFlaw) → ¬ (StructsHave types.now 0 0 (map top_of tops.now) flaw)) }
+    ensures none { IfOk result (λ _. (violation : OneViolation) → ¬ (StructsHave types.now 0 0 (map top_of tops.now) violation)) }
     ensures one { IfErr result (Refuses (StructsHave types.now 0 0 (map top_of tops.now))) }
 {
     let mut all = Vec::new(alloc);

@@ -6,7 +6,7 @@ ghost use Rattle.syntax.specs.View.{top_of};
 ghost use Rattle.type_table.specs.Views.{names_of, structs_of};
 ghost use Rattle.type_table.specs.Marks.{IsWide};
 ghost use Rattle.type_table.specs.Visible.{globals_in};
-ghost use Rattle.typing_rules.specs.declared.flaw.Flaw.{Flaw as OneFlaw};
+ghost use Rattle.typing_rules.specs.declared.violation.Violation.{Violation as OneViolation};
 ghost use Rattle.checker_base.specs.Views.{Refuses};
 ghost use Rattle.typing_rules.specs.Kinds.{type_names, structs as spec_structs, globals_of};
 ghost use Rattle.typing_rules.specs.Declarations.{TypesHave, DeclarationsHave};
@@ -43,7 +43,7 @@ fn checked_types<'a>(
     ensures count { IfOk result (λ all. length all.widths.items ≡ length all.structs.items) }
     ensures wide { IfOk result (λ all. (s w : ℕ) → slice_get all.widths.items s ≡ Some w → IsWide (structs_of (names_of all.structs.items) all.structs.items) (suc (length all.structs.items)) s w) }
     ensures narrow { IfOk result (λ all. All (λ w. w ≤ 16) all.widths.items) }
-    ensures none { IfOk result (λ _. (flaw : OneFlaw) → ¬ (TypesHave (map top_of tops.now) flaw)) }
+    ensures none { IfOk result (λ _. (violation : OneViolation) → ¬ (TypesHave (map top_of tops.now) violation)) }
     ensures one { IfErr result (Refuses (TypesHave (map top_of tops.now))) }
 {
     let structs = structs(alloc, types, tops)?;
@@ -67,15 +67,15 @@ fn sized_types<'a>(
     ensures count { IfOk result (λ all. length all.widths.items ≡ length all.structs.items) }
     ensures wide { IfOk result (λ all. (s w : ℕ) → slice_get all.widths.items s ≡ Some w → IsWide (structs_of (names_of all.structs.items) all.structs.items) (suc (length all.structs.items)) s w) }
     ensures narrow { IfOk result (λ all. All (λ w. w ≤ 16) all.widths.items) }
-    ensures none { IfOk result (λ _. (flaw : OneFlaw) → ¬ (TypesHave (map top_of tops.now) flaw)) }
+    ensures none { IfOk result (λ _. (violation : OneViolation) → ¬ (TypesHave (map top_of tops.now) violation)) }
     ensures one { IfErr result (Refuses (TypesHave (map top_of tops.now))) }
 {
     match checked_types(alloc, types, tops) {
         Ok(all) => Ok(all),
         Err(Refusal::Memory) => Err(Refusal::Memory),
-        Err(Refusal::Flawed(flaw)) => {
-            let flaw = earliest(alloc, types, tops, flaw)?;
-            Err(Refusal::Flawed(flaw))
+        Err(Refusal::Violated(violation)) => {
+            let violation = earliest(alloc, types, tops, violation)?;
+            Err(Refusal::Violated(violation))
         }
     }
 }
@@ -86,7 +86,7 @@ fn sized_types<'a>(
 pub fn table_of<'a>(alloc: Global, tops: &'a [TopNode]) -> Result<TypeTable<'a>, Refusal>
     requires small { sum_by top_size (map top_of tops.now) < 2 ^ 32 }
     ensures globals { IfOk result (λ table. globals_in table ≡ globals_of (map top_of tops.now)) }
-    ensures none { IfOk result (λ _. (flaw : OneFlaw) → ¬ (DeclarationsHave (map top_of tops.now) flaw)) }
+    ensures none { IfOk result (λ _. (violation : OneViolation) → ¬ (DeclarationsHave (map top_of tops.now) violation)) }
     ensures one { IfErr result (Refuses (DeclarationsHave (map top_of tops.now))) }
 {
     let types = type_names(alloc, tops)?;

@@ -4,7 +4,7 @@ ghost use Rattle.std.specs.Prelude.{◌≡◌, ℕ, ◌+◌, ◌^◌, ◌<◌, L
 ghost use Rattle.syntax.specs.Tree.{Place, Assign};
 ghost use Rattle.syntax.specs.Measures.{simple_size};
 ghost use Rattle.type_table.specs.Visible.{types_of, globals_in, scope_of};
-ghost use Rattle.typing_rules.specs.declared.flaw.Flaw.{Flaw as OneFlaw};
+ghost use Rattle.typing_rules.specs.declared.violation.Violation.{Violation as OneViolation};
 ghost use Rattle.typing_rules.specs.Operations.{Given as OneGiven};
 ghost use Rattle.checker_base.specs.Views.{Refuses};
 ghost use Rattle.checker_simple.specs.Givens.{given_of, places_at, places_in, source_of};
@@ -17,7 +17,7 @@ use std::alloc::Global;
 use syntax::{NodeId, PlaceNode};
 use type_table::scope::Visible;
 use type_table::table::TypeTable;
-use typing_rules::flaw::Flaw;
+use typing_rules::violation::Violation;
 
 /// Checks what lvalues are given by a statement whose own node is `given.end`.
 fn assign_given<'a>(
@@ -25,9 +25,9 @@ fn assign_given<'a>(
     visible: &Visible<'a>,
     all: &[&PlaceNode],
     given: &Given<'a>,
-) -> Result<(), Flaw>
-    ensures none { IfOk result (λ _. (end : ℕ) → end ≡ given.now.end + 1 → (these : List Place) → these ≡ places_at all.now → (values : List OneGiven) → values ≡ map (given_of (types_of table.now)) given.now.values.items → (flaw : OneFlaw) → ¬ (AssignedHave (globals_in table.now) (scope_of table.now visible.now) these values end flaw)) }
-    ensures one { IfErr result (λ flaw. (end : ℕ) → end ≡ given.now.end + 1 → (these : List Place) → these ≡ places_at all.now → (values : List OneGiven) → values ≡ map (given_of (types_of table.now)) given.now.values.items → AssignedHave (globals_in table.now) (scope_of table.now visible.now) these values end flaw) }
+) -> Result<(), Violation>
+    ensures none { IfOk result (λ _. (end : ℕ) → end ≡ given.now.end + 1 → (these : List Place) → these ≡ places_at all.now → (values : List OneGiven) → values ≡ map (given_of (types_of table.now)) given.now.values.items → (violation : OneViolation) → ¬ (AssignedHave (globals_in table.now) (scope_of table.now visible.now) these values end violation)) }
+    ensures one { IfErr result (λ violation. (end : ℕ) → end ≡ given.now.end + 1 → (these : List Place) → these ≡ places_at all.now → (values : List OneGiven) → values ≡ map (given_of (types_of table.now)) given.now.values.items → AssignedHave (globals_in table.now) (scope_of table.now visible.now) these values end violation) }
 {
     numbers_agree(given.values.len(), all.len(), given.end)?;
     places_take(table, visible, all, given.values.as_slice())
@@ -44,7 +44,7 @@ pub(crate) fn assign<'a>(
 ) -> Result<NodeId, Refusal>
     requires small { first + simple_size (Assign (places_in targets) (source_of source)) < 2 ^ 32 }
     ensures end { IfOk result (λ end. end ≡ first + simple_size (Assign (places_in targets.entry) (source_of source.entry))) }
-    ensures none { IfOk result (λ _. (flaw : OneFlaw) → ¬ (SimpleHas (globals_in table.now) (scope_of table.now visible.now) first (Assign (places_in targets.entry) (source_of source.entry)) flaw)) }
+    ensures none { IfOk result (λ _. (violation : OneViolation) → ¬ (SimpleHas (globals_in table.now) (scope_of table.now visible.now) first (Assign (places_in targets.entry) (source_of source.entry)) violation)) }
     ensures one { IfErr result (Refuses (SimpleHas (globals_in table.now) (scope_of table.now visible.now) first (Assign (places_in targets.entry) (source_of source.entry)))) }
 {
     let all = references(alloc, targets)?;

@@ -3,7 +3,7 @@
 ghost use Rattle.std.specs.Prelude.{◌≡◌, ◌+◌, ◌^◌, ◌<◌, IfOk, IfErr};
 ghost use Rattle.syntax.specs.Measures.{arguments_size};
 ghost use Rattle.syntax.specs.View.{arguments_of, name_of};
-ghost use Rattle.typing_rules.specs.declared.flaw.Flaw.{Flaw as OneFlaw};
+ghost use Rattle.typing_rules.specs.declared.violation.Violation.{Violation as OneViolation};
 ghost use Rattle.checker_base.specs.Views.{Refuses};
 ghost use Rattle.typing_rules.specs.Operations.{CallHas};
 ghost use Rattle.type_table.specs.Visible.{globals_in, scope_of};
@@ -24,7 +24,7 @@ pub fn call_alone(
 ) -> Result<NodeId, Refusal>
     requires small { first + (arguments_size (arguments_of arguments.now) + 1) < 2 ^ 32 }
     ensures end { IfOk result (λ end. end ≡ first + (arguments_size (arguments_of arguments.now) + 1)) }
-    ensures none { IfOk result (λ _. (flaw : OneFlaw) → ¬ (CallHas (globals_in table.now) (scope_of table.now visible.now) first (name_of function.now) (arguments_of arguments.now) flaw)) }
+    ensures none { IfOk result (λ _. (violation : OneViolation) → ¬ (CallHas (globals_in table.now) (scope_of table.now visible.now) first (name_of function.now) (arguments_of arguments.now) violation)) }
     ensures one { IfErr result (Refuses (CallHas (globals_in table.now) (scope_of table.now visible.now) first (name_of function.now) (arguments_of arguments.now))) }
 {
     let called = call(table, visible, first, function, arguments.values.as_slice())?;

@@ -4,7 +4,7 @@ ghost use Rattle.std.specs.Prelude.{◌≡◌, ◌+◌, ◌^◌, ◌<◌, IfOk, 
 ghost use Rattle.syntax.specs.Tree.{Close, ReceiveAlone, Send};
 ghost use Rattle.syntax.specs.Measures.{simple_size};
 ghost use Rattle.syntax.specs.View.{expression_of};
-ghost use Rattle.typing_rules.specs.declared.flaw.Flaw.{Flaw as OneFlaw};
+ghost use Rattle.typing_rules.specs.declared.violation.Violation.{Violation as OneViolation};
 ghost use Rattle.checker_base.specs.Views.{Refuses};
 ghost use Rattle.typing_rules.specs.Simples.{SimpleHas};
 ghost use Rattle.type_table.specs.Visible.{globals_in, scope_of};
@@ -25,7 +25,7 @@ pub(crate) fn close(
 ) -> Result<NodeId, Refusal>
     requires small { first + simple_size (Close (expression_of of.now)) < 2 ^ 32 }
     ensures end { IfOk result (λ end. end ≡ first + simple_size (Close (expression_of of.now))) }
-    ensures none { IfOk result (λ _. (flaw : OneFlaw) → ¬ (SimpleHas (globals_in table.now) (scope_of table.now visible.now) first (Close (expression_of of.now)) flaw)) }
+    ensures none { IfOk result (λ _. (violation : OneViolation) → ¬ (SimpleHas (globals_in table.now) (scope_of table.now visible.now) first (Close (expression_of of.now)) violation)) }
     ensures one { IfErr result (Refuses (SimpleHas (globals_in table.now) (scope_of table.now visible.now) first (Close (expression_of of.now)))) }
 {
     let operand = measured(table, visible, first, of)?;
@@ -43,7 +43,7 @@ pub(crate) fn send<'a>(
 ) -> Result<NodeId, Refusal>
     requires small { first + simple_size (Send (expression_of to.now) (expression_of item.now)) < 2 ^ 32 }
     ensures end { IfOk result (λ end. end ≡ first + simple_size (Send (expression_of to.now) (expression_of item.now))) }
-    ensures none { IfOk result (λ _. (flaw : OneFlaw) → ¬ (SimpleHas (globals_in table.now) (scope_of table.now visible.now) first (Send (expression_of to.now) (expression_of item.now)) flaw)) }
+    ensures none { IfOk result (λ _. (violation : OneViolation) → ¬ (SimpleHas (globals_in table.now) (scope_of table.now visible.now) first (Send (expression_of to.now) (expression_of item.now)) violation)) }
     ensures one { IfErr result (Refuses (SimpleHas (globals_in table.now) (scope_of table.now visible.now) first (Send (expression_of to.now) (expression_of item.now)))) }
 {
     let to = checked(table, visible, first, to)?;
@@ -63,7 +63,7 @@ pub(crate) fn receive_alone(
 ) -> Result<NodeId, Refusal>
     requires small { first + simple_size (ReceiveAlone (expression_of from.now)) < 2 ^ 32 }
     ensures end { IfOk result (λ end. end ≡ first + simple_size (ReceiveAlone (expression_of from.now))) }
-    ensures none { IfOk result (λ _. (flaw : OneFlaw) → ¬ (SimpleHas (globals_in table.now) (scope_of table.now visible.now) first (ReceiveAlone (expression_of from.now)) flaw)) }
+    ensures none { IfOk result (λ _. (violation : OneViolation) → ¬ (SimpleHas (globals_in table.now) (scope_of table.now visible.now) first (ReceiveAlone (expression_of from.now)) violation)) }
     ensures one { IfErr result (Refuses (SimpleHas (globals_in table.now) (scope_of table.now visible.now) first (ReceiveAlone (expression_of from.now)))) }
 {
     let made = receive(table, visible, first, from)?;

@@ -4,7 +4,7 @@ ghost use Rattle.std.specs.Prelude.{◌≡◌, ℕ, ◌+◌, ◌^◌, ◌<◌, L
 ghost use Rattle.syntax.specs.Tree.{Define};
 ghost use Rattle.syntax.specs.Measures.{simple_size};
 ghost use Rattle.type_table.specs.Visible.{types_of, globals_in, scope_of, Keeps};
-ghost use Rattle.typing_rules.specs.declared.flaw.Flaw.{Flaw as OneFlaw};
+ghost use Rattle.typing_rules.specs.declared.violation.Violation.{Violation as OneViolation};
 ghost use Rattle.typing_rules.specs.Operations.{Given as OneGiven};
 ghost use Rattle.checker_base.specs.Views.{Refuses};
 ghost use Rattle.checker_simple.specs.Givens.{given_of, source_of};
@@ -29,7 +29,7 @@ fn define_given<'a>(
 ) -> Result<(), Refusal>
     ensures after { IfOk result (λ _. scope_of table.now visible.new ≡ with_defined (globals_in table.now) (scope_of table.now visible.old) (names_at names.now) (map (given_of (types_of table.now)) given.now.values.items)) }
     ensures kept { IfOk result (λ _. Keeps visible.old visible.new) }
-    ensures none { IfOk result (λ _. (end : ℕ) → end ≡ given.now.end + 1 → (all : List (List ℕ)) → all ≡ names_at names.now → (values : List OneGiven) → values ≡ map (given_of (types_of table.now)) given.now.values.items → (flaw : OneFlaw) → ¬ (NamesHave (scope_of table.now visible.old) all values end flaw)) }
+    ensures none { IfOk result (λ _. (end : ℕ) → end ≡ given.now.end + 1 → (all : List (List ℕ)) → all ≡ names_at names.now → (values : List OneGiven) → values ≡ map (given_of (types_of table.now)) given.now.values.items → (violation : OneViolation) → ¬ (NamesHave (scope_of table.now visible.old) all values end violation)) }
     ensures one { (end : ℕ) → end ≡ given.now.end + 1 → (all : List (List ℕ)) → all ≡ names_at names.now → (values : List OneGiven) → values ≡ map (given_of (types_of table.now)) given.now.values.items → IfErr result (Refuses (NamesHave (scope_of table.now visible.old) all values end)) }
 {
     numbers_agree(given.values.len(), names.len(), given.end)?;
@@ -51,7 +51,7 @@ pub(crate) fn define<'a>(
     ensures end { IfOk result (λ end. end ≡ first + simple_size (Define (names_in names.entry) (source_of source.entry))) }
     ensures after { IfOk result (λ _. scope_of table.now visible.new ≡ after_simple (globals_in table.now) (scope_of table.now visible.old) (Define (names_in names.entry) (source_of source.entry))) }
     ensures kept { IfOk result (λ _. Keeps visible.old visible.new) }
-    ensures none { IfOk result (λ _. (flaw : OneFlaw) → ¬ (SimpleHas (globals_in table.now) (scope_of table.now visible.old) first (Define (names_in names.entry) (source_of source.entry)) flaw)) }
+    ensures none { IfOk result (λ _. (violation : OneViolation) → ¬ (SimpleHas (globals_in table.now) (scope_of table.now visible.old) first (Define (names_in names.entry) (source_of source.entry)) violation)) }
     ensures one { IfErr result (Refuses (SimpleHas (globals_in table.now) (scope_of table.now visible.old) first (Define (names_in names.entry) (source_of source.entry)))) }
 {
     let all = references(alloc, names)?;

@@ -4,7 +4,7 @@ ghost use Rattle.std.specs.Prelude.{◌≡◌, ℕ, ◌+◌, ◌^◌, ◌<◌, �
 ghost use Rattle.syntax.specs.Tree.{expressions, Receive};
 ghost use Rattle.syntax.specs.Measures.{expression_size};
 ghost use Rattle.syntax.specs.View.{expression_of};
-ghost use Rattle.typing_rules.specs.declared.flaw.Flaw.{Flaw as OneFlaw};
+ghost use Rattle.typing_rules.specs.declared.violation.Violation.{Violation as OneViolation};
 ghost use Rattle.type_table.specs.Types.{ValueType as OneType};
 ghost use Rattle.typing_rules.specs.Expressions.{ExpressionHas, ExpressionsHave, NumbersHave, default_type};
 ghost use Rattle.typing_rules.specs.Operations.{given, given_values, is_receive, GoesHas, RightHas};
@@ -23,7 +23,7 @@ use syntax::{ExpressionNode, NodeId};
 use type_table::scope::Visible;
 use type_table::table::TypeTable;
 use type_table::value_type::ValueType;
-use typing_rules::flaw::Flaw;
+use typing_rules::violation::Violation;
 
 /// What gives values to lvalues or names.
 #[derive(Clone, Copy)]
@@ -46,24 +46,24 @@ pub fn fits<'a>(
     table: &TypeTable<'a>,
     kind: Option<ValueType<'a>>,
     operand: Operand<'a>,
-) -> Result<(), Flaw>
-    ensures none { IfOk result (λ _. (k : Option OneType) → k ≡ option_map (kind_of (types_of table.now)) kind.entry → (flaw : OneFlaw) → ¬ (GoesHas false (given_of (types_of table.now) operand.entry) k flaw)) }
-    ensures one { IfErr result (λ flaw. (k : Option OneType) → k ≡ option_map (kind_of (types_of table.now)) kind.entry → GoesHas false (given_of (types_of table.now) operand.entry) k flaw) }
+) -> Result<(), Violation>
+    ensures none { IfOk result (λ _. (k : Option OneType) → k ≡ option_map (kind_of (types_of table.now)) kind.entry → (violation : OneViolation) → ¬ (GoesHas false (given_of (types_of table.now) operand.entry) k violation)) }
+    ensures one { IfErr result (λ violation. (k : Option OneType) → k ≡ option_map (kind_of (types_of table.now)) kind.entry → GoesHas false (given_of (types_of table.now) operand.entry) k violation) }
 {
     match kind {
         None => Ok(()),
         Some(kind) => match value(table, operand, kind) {
             Ok(()) => Ok(()),
-            Err(flaw) => Err(flaw),
+            Err(violation) => Err(violation),
         },
     }
 }
 
 /// Checks that a value is assignable to a variable that takes its type, and returns that type.
-pub fn fits_any<'a>(operand: Operand<'a>) -> Result<ValueType<'a>, Flaw>
+pub fn fits_any<'a>(operand: Operand<'a>) -> Result<ValueType<'a>, Violation>
     ensures kind { IfOk result (λ kind. (types : List (List ℕ)) → default_type (Some (worth_of types operand.entry.worth)) ≡ Some (kind_of types kind)) }
-    ensures none { IfOk result (λ _. (types : List (List ℕ)) → (k : Option OneType) → (flaw : OneFlaw) → ¬ (GoesHas true (given_of types operand.entry) k flaw)) }
-    ensures one { IfErr result (λ flaw. (types : List (List ℕ)) → (k : Option OneType) → GoesHas true (given_of types operand.entry) k flaw) }
+    ensures none { IfOk result (λ _. (types : List (List ℕ)) → (k : Option OneType) → (violation : OneViolation) → ¬ (GoesHas true (given_of types operand.entry) k violation)) }
+    ensures one { IfErr result (λ violation. (types : List (List ℕ)) → (k : Option OneType) → GoesHas true (given_of types operand.entry) k violation) }
 {
     default_type(operand)
 }
@@ -79,7 +79,7 @@ fn operands<'a>(
     requires small { first + sum_by expression_size (map expression_of values.now) < 2 ^ 32 }
     ensures end { IfOk result (λ all. all.end ≡ first + sum_by expression_size (map expression_of values.now)) }
     ensures given { IfOk result (λ all. map (given_of (types_of table.now)) all.values.items ≡ given_values (globals_in table.now) (scope_of table.now visible.now) first (map expression_of values.now)) }
-    ensures none { IfOk result (λ _. (flaw : OneFlaw) → ¬ (ExpressionsHave (globals_in table.now) (scope_of table.now visible.now) first (expressions (map expression_of values.now)) flaw)) }
+    ensures none { IfOk result (λ _. (violation : OneViolation) → ¬ (ExpressionsHave (globals_in table.now) (scope_of table.now visible.now) first (expressions (map expression_of values.now)) violation)) }
     ensures one { IfErr result (Refuses (ExpressionsHave (globals_in table.now) (scope_of table.now visible.now) first (expressions (map expression_of values.now)))) }
 {
     let mut all = Vec::new(alloc);
@@ -103,7 +103,7 @@ fn item<'a>(
     requires small { first + expression_size (expression_of from.now) + 1 < 2 ^ 32 }
     ensures end { IfOk result (λ all. all.end ≡ first + expression_size (expression_of from.now) + 1) }
     ensures given { IfOk result (λ all. map (given_of (types_of table.now)) all.values.items ≡ given_values (globals_in table.now) (scope_of table.now visible.now) first (Receive (expression_of from.now) ∷ [])) }
-    ensures none { IfOk result (λ _. (flaw : OneFlaw) → ¬ (ExpressionHas (globals_in table.now) (scope_of table.now visible.now) first (Receive (expression_of from.now)) flaw)) }
+    ensures none { IfOk result (λ _. (violation : OneViolation) → ¬ (ExpressionHas (globals_in table.now) (scope_of table.now visible.now) first (Receive (expression_of from.now)) violation)) }
     ensures one { IfErr result (Refuses (ExpressionHas (globals_in table.now) (scope_of table.now visible.now) first (Receive (expression_of from.now)))) }
 {
     let operand = receive(table, visible, first, from)?;
@@ -126,7 +126,7 @@ fn values_of<'a>(
     requires small { first + sum_by expression_size (source_of source) < 2 ^ 32 }
     ensures end { IfOk result (λ all. all.end ≡ first + sum_by expression_size (source_of source.entry)) }
     ensures given { IfOk result (λ all. map (given_of (types_of table.now)) all.values.items ≡ given_values (globals_in table.now) (scope_of table.now visible.now) first (source_of source.entry)) }
-    ensures none { IfOk result (λ _. (flaw : OneFlaw) → ¬ (RightHas (globals_in table.now) (scope_of table.now visible.now) first (source_of source.entry) flaw)) }
+    ensures none { IfOk result (λ _. (violation : OneViolation) → ¬ (RightHas (globals_in table.now) (scope_of table.now visible.now) first (source_of source.entry) violation)) }
     ensures one { IfErr result (Refuses (RightHas (globals_in table.now) (scope_of table.now visible.now) first (source_of source.entry))) }
 {
     match source {
@@ -168,7 +168,7 @@ pub fn given_by<'a>(
     requires small { first + sum_by expression_size (source_of source) < 2 ^ 32 }
     ensures end { IfOk result (λ all. all.end ≡ first + sum_by expression_size (source_of source.entry)) }
     ensures given { IfOk result (λ all. map (given_of (types_of table.now)) all.values.items ≡ given (globals_in table.now) (scope_of table.now visible.now) places first (source_of source.entry)) }
-    ensures none { IfOk result (λ _. (flaw : OneFlaw) → ¬ (RightHas (globals_in table.now) (scope_of table.now visible.now) first (source_of source.entry) flaw)) }
+    ensures none { IfOk result (λ _. (violation : OneViolation) → ¬ (RightHas (globals_in table.now) (scope_of table.now visible.now) first (source_of source.entry) violation)) }
     ensures one { IfErr result (Refuses (RightHas (globals_in table.now) (scope_of table.now visible.now) first (source_of source.entry))) }
 {
     let mut given = values_of(alloc, table, visible, first, source)?;
@@ -184,14 +184,14 @@ pub fn given_by<'a>(
 }
 
 /// Checks that there are as many values as lvalues; `node` is the own node of what gives the values.
-pub fn numbers_agree(values: usize, places: usize, node: NodeId) -> Result<(), Flaw>
+pub fn numbers_agree(values: usize, places: usize, node: NodeId) -> Result<(), Violation>
     ensures same { IfOk result (λ _. values ≡ places) }
-    ensures none { IfOk result (λ _. (end : ℕ) → end ≡ node + 1 → (flaw : OneFlaw) → ¬ (NumbersHave values places end flaw)) }
-    ensures one { IfErr result (λ flaw. (end : ℕ) → end ≡ node + 1 → NumbersHave values places end flaw) }
+    ensures none { IfOk result (λ _. (end : ℕ) → end ≡ node + 1 → (violation : OneViolation) → ¬ (NumbersHave values places end violation)) }
+    ensures one { IfErr result (λ violation. (end : ℕ) → end ≡ node + 1 → NumbersHave values places end violation) }
 {
     if values == places {
         Ok(())
     } else {
-        Err(Flaw::Broken(Rule::Numbers, node))
+        Err(Violation::Broken(Rule::Numbers, node))
     }
 }

@@ -4,7 +4,7 @@ ghost use Rattle.std.specs.Prelude.{◌≡◌, ℕ, ◌+◌, ◌||◌, Some, Non
 ghost use Rattle.std.specs.Option.{is_none, is_some};
 ghost use Rattle.std.specs.List.{list_any};
 ghost use Rattle.syntax.specs.View.{name_of};
-ghost use Rattle.typing_rules.specs.declared.flaw.Flaw.{Flaw as OneFlaw};
+ghost use Rattle.typing_rules.specs.declared.violation.Violation.{Violation as OneViolation};
 ghost use Rattle.type_table.specs.Scopes.{Variable as OneVariable, is_reserved, own_variable, declared};
 ghost use Rattle.typing_rules.specs.Worths.{kind_of as variable_kind};
 ghost use Rattle.typing_rules.specs.Operations.{GoesHas};
@@ -23,7 +23,7 @@ use std::alloc::{AllocError, Global};
 use syntax::{Name, NodeId};
 use type_table::scope::{Entry, Visible, declare, is_blank, is_reserved, own_variable};
 use type_table::table::TypeTable;
-use typing_rules::flaw::Flaw;
+use typing_rules::violation::Violation;
 
 /// The names that a statement declares.
 #[derive(Clone, Copy)]
@@ -117,16 +117,16 @@ pub(crate) fn may_define(
     visible: &Visible<'_>,
     names: &[&Name],
     node: NodeId,
-) -> Result<(), Flaw>
+) -> Result<(), Violation>
     ensures once { IfOk result (λ _. has_twice (names_at names.now) ≡ false) }
-    ensures none { IfOk result (λ _. (end : ℕ) → end ≡ node + 1 → (flaw : OneFlaw) → ¬ (DefinedHave (scope_of table.now visible.now) (names_at names.now) end flaw)) }
-    ensures one { IfErr result (λ flaw. (end : ℕ) → end ≡ node + 1 → DefinedHave (scope_of table.now visible.now) (names_at names.now) end flaw) }
+    ensures none { IfOk result (λ _. (end : ℕ) → end ≡ node + 1 → (violation : OneViolation) → ¬ (DefinedHave (scope_of table.now visible.now) (names_at names.now) end violation)) }
+    ensures one { IfErr result (λ violation. (end : ℕ) → end ≡ node + 1 → DefinedHave (scope_of table.now visible.now) (names_at names.now) end violation) }
 {
     if any_reserved(names) {
-        return Err(Flaw::Broken(Rule::Declared, node));
+        return Err(Violation::Broken(Rule::Declared, node));
     }
     if has_twice(names) || !any_declarable(table, visible, names) {
-        return Err(Flaw::Broken(Rule::NewName, node));
+        return Err(Violation::Broken(Rule::NewName, node));
     }
     Ok(())
 }
@@ -137,13 +137,13 @@ pub(crate) fn may_declare(
     visible: &Visible<'_>,
     names: &[&Name],
     node: NodeId,
-) -> Result<(), Flaw>
+) -> Result<(), Violation>
     ensures once { IfOk result (λ _. has_twice (names_at names.now) ≡ false) }
-    ensures none { IfOk result (λ _. (end : ℕ) → end ≡ node + 1 → (flaw : OneFlaw) → ¬ (VariablesHave (scope_of table.now visible.now) (names_at names.now) end flaw)) }
-    ensures one { IfErr result (λ flaw. (end : ℕ) → end ≡ node + 1 → VariablesHave (scope_of table.now visible.now) (names_at names.now) end flaw) }
+    ensures none { IfOk result (λ _. (end : ℕ) → end ≡ node + 1 → (violation : OneViolation) → ¬ (VariablesHave (scope_of table.now visible.now) (names_at names.now) end violation)) }
+    ensures one { IfErr result (λ violation. (end : ℕ) → end ≡ node + 1 → VariablesHave (scope_of table.now visible.now) (names_at names.now) end violation) }
 {
     if any_reserved(names) || has_twice(names) || any_own(table, visible, names) {
-        return Err(Flaw::Broken(Rule::Declared, node));
+        return Err(Violation::Broken(Rule::Declared, node));
     }
     Ok(())
 }
@@ -160,9 +160,9 @@ fn own_takes<'a>(
     table: &TypeTable<'a>,
     own: Option<Entry<'a>>,
     operand: Operand<'a>,
-) -> Result<(), Flaw>
-    ensures none { IfOk result (λ _. (o : Option OneVariable) → o ≡ option_map (variable_of (types_of table.now)) own.entry → (flaw : OneFlaw) → ¬ (GoesHas (is_none o) (given_of (types_of table.now) operand.entry) (variable_kind o) flaw)) }
-    ensures one { IfErr result (λ flaw. (o : Option OneVariable) → o ≡ option_map (variable_of (types_of table.now)) own.entry → GoesHas (is_none o) (given_of (types_of table.now) operand.entry) (variable_kind o) flaw) }
+) -> Result<(), Violation>
+    ensures none { IfOk result (λ _. (o : Option OneVariable) → o ≡ option_map (variable_of (types_of table.now)) own.entry → (violation : OneViolation) → ¬ (GoesHas (is_none o) (given_of (types_of table.now) operand.entry) (variable_kind o) violation)) }
+    ensures one { IfErr result (λ violation. (o : Option OneVariable) → o ≡ option_map (variable_of (types_of table.now)) own.entry → GoesHas (is_none o) (given_of (types_of table.now) operand.entry) (variable_kind o) violation) }
 {
     match own {
         Some(entry) => fits(table, Some(entry.kind), operand),
@@ -179,8 +179,8 @@ fn name_takes<'a>(
     visible: &Visible<'a>,
     name: &Name,
     operand: Operand<'a>,
-) -> Result<(), Flaw>
-    ensures none { IfOk result (λ _. (flaw : OneFlaw) → ¬ (GoesHas (is_none (own_variable (scope_of table.now visible.now) (name_of name.now))) (given_of (types_of table.now) operand.entry) (variable_kind (own_variable (scope_of table.now visible.now) (name_of name.now))) flaw)) }
+) -> Result<(), Violation>
+    ensures none { IfOk result (λ _. (violation : OneViolation) → ¬ (GoesHas (is_none (own_variable (scope_of table.now visible.now) (name_of name.now))) (given_of (types_of table.now) operand.entry) (variable_kind (own_variable (scope_of table.now visible.now) (name_of name.now))) violation)) }
     ensures one { IfErr result (GoesHas (is_none (own_variable (scope_of table.now visible.now) (name_of name.now))) (given_of (types_of table.now) operand.entry) (variable_kind (own_variable (scope_of table.now visible.now) (name_of name.now)))) }
 {
     let own = own_named(table, visible, name);
@@ -198,7 +198,7 @@ fn define<'a>(
     requires new { is_declarable (scope_of table.now visible.old) (name_of name.now) ≡ true }
     ensures after { IfOk result (λ _. scope_of table.now visible.new ≡ declared (globals_in table.now).structs (scope_of table.now visible.old) (default_type (Some (worth_of (types_of table.now) operand.entry.worth))) (name_of name.now)) }
     ensures kept { IfOk result (λ _. Keeps visible.old visible.new) }
-    ensures none { IfOk result (λ _. (flaw : OneFlaw) → ¬ (GoesHas true (given_of (types_of table.now) operand.entry) (variable_kind (own_variable (scope_of table.now visible.old) (name_of name.now))) flaw)) }
+    ensures none { IfOk result (λ _. (violation : OneViolation) → ¬ (GoesHas true (given_of (types_of table.now) operand.entry) (variable_kind (own_variable (scope_of table.now visible.old) (name_of name.now))) violation)) }
     ensures one { IfErr result (Refuses (GoesHas true (given_of (types_of table.now) operand.entry) (variable_kind (own_variable (scope_of table.now visible.old) (name_of name.now))))) }
 {
     let kind = fits_any(operand)?;
@@ -215,7 +215,7 @@ fn take_name<'a>(
 ) -> Result<(), Refusal>
     ensures after { IfOk result (λ _. scope_of table.now visible.new ≡ after_name (globals_in table.now) (scope_of table.now visible.old) (name_of name.now) (default_type (Some (worth_of (types_of table.now) operand.entry.worth)))) }
     ensures kept { IfOk result (λ _. Keeps visible.old visible.new) }
-    ensures none { IfOk result (λ _. (flaw : OneFlaw) → ¬ (GoesHas (is_none (own_variable (scope_of table.now visible.old) (name_of name.now))) (given_of (types_of table.now) operand.entry) (variable_kind (own_variable (scope_of table.now visible.old) (name_of name.now))) flaw)) }
+    ensures none { IfOk result (λ _. (violation : OneViolation) → ¬ (GoesHas (is_none (own_variable (scope_of table.now visible.old) (name_of name.now))) (given_of (types_of table.now) operand.entry) (variable_kind (own_variable (scope_of table.now visible.old) (name_of name.now))) violation)) }
     ensures one { IfErr result (Refuses (GoesHas (is_none (own_variable (scope_of table.now visible.old) (name_of name.now))) (given_of (types_of table.now) operand.entry) (variable_kind (own_variable (scope_of table.now visible.old) (name_of name.now))))) }
 {
     if is_declarable(table, visible, name.bytes.as_slice()) {
@@ -237,7 +237,7 @@ pub(crate) fn take_names<'a>(
     requires once { has_twice (names_at names.now) ≡ false }
     ensures after { IfOk result (λ _. scope_of table.now visible.new ≡ with_defined (globals_in table.now) (scope_of table.now visible.old) (names_at names.now) (map (given_of (types_of table.now)) values.now)) }
     ensures kept { IfOk result (λ _. Keeps visible.old visible.new) }
-    ensures none { IfOk result (λ _. (flaw : OneFlaw) → ¬ (NamesFail (scope_of table.now visible.old) (names_at names.now) (map (given_of (types_of table.now)) values.now) flaw)) }
+    ensures none { IfOk result (λ _. (violation : OneViolation) → ¬ (NamesFail (scope_of table.now visible.old) (names_at names.now) (map (given_of (types_of table.now)) values.now) violation)) }
     ensures one { IfErr result (Refuses (NamesFail (scope_of table.now visible.old) (names_at names.now) (map (given_of (types_of table.now)) values.now))) }
 {
     let Some((name, rest)) = names.split_first() else {

@@ -3,7 +3,7 @@
 ghost use Rattle.std.specs.Prelude.{◌≡◌, ℕ, ◌+◌, ◌^◌, ◌<◌, List, Some, None, length, map, option_map, IfOk, IfErr, OnErr};
 ghost use Rattle.std.specs.Option.{is_none};
 ghost use Rattle.syntax.specs.View.{name_of, place_of};
-ghost use Rattle.typing_rules.specs.declared.flaw.Flaw.{Flaw as OneFlaw};
+ghost use Rattle.typing_rules.specs.declared.violation.Violation.{Violation as OneViolation};
 ghost use Rattle.type_table.specs.Scopes.{is_blank};
 ghost use Rattle.typing_rules.specs.Operations.{place_type, PathHas, PlaceHas, ReadPlaceHas, PlacesHave, PlacesFail, GoesHas};
 ghost use Rattle.type_table.specs.Views.{kind_of};
@@ -20,7 +20,7 @@ use type_table::layout::field_of;
 use type_table::scope::{Visible, is_blank, variable_named};
 use type_table::table::TypeTable;
 use type_table::value_type::ValueType;
-use typing_rules::flaw::Flaw;
+use typing_rules::violation::Violation;
 
 /// The type of the field to which a path leads from a value of a type; the lvalue's node is `node`.
 #[tactic(auto, using(crate::proofs::Paths::path_types))]
@@ -29,17 +29,17 @@ fn path<'a>(
     kind: ValueType<'a>,
     fields: &[Name],
     node: NodeId,
-) -> Result<ValueType<'a>, Flaw>
+) -> Result<ValueType<'a>, Violation>
     ensures kind { IfOk result (λ k. path_type (globals_in table.now).structs (Some (kind_of (types_of table.now) kind.entry)) (map name_of fields.now) ≡ Some (kind_of (types_of table.now) k)) }
     ensures lost { OnErr result (path_type (globals_in table.now).structs (Some (kind_of (types_of table.now) kind.entry)) (map name_of fields.now) ≡ None) }
-    ensures none { IfOk result (λ _. (end : ℕ) → end ≡ node + 1 → (flaw : OneFlaw) → ¬ (PathHas (globals_in table.now).structs (Some (kind_of (types_of table.now) kind.entry)) (map name_of fields.now) end flaw)) }
-    ensures one { IfErr result (λ flaw. (end : ℕ) → end ≡ node + 1 → PathHas (globals_in table.now).structs (Some (kind_of (types_of table.now) kind.entry)) (map name_of fields.now) end flaw) }
+    ensures none { IfOk result (λ _. (end : ℕ) → end ≡ node + 1 → (violation : OneViolation) → ¬ (PathHas (globals_in table.now).structs (Some (kind_of (types_of table.now) kind.entry)) (map name_of fields.now) end violation)) }
+    ensures one { IfErr result (λ violation. (end : ℕ) → end ≡ node + 1 → PathHas (globals_in table.now).structs (Some (kind_of (types_of table.now) kind.entry)) (map name_of fields.now) end violation) }
 {
     let Some((field, rest)) = fields.split_first() else {
         return Ok(kind);
     };
     match field_of(table, kind, field.bytes.as_slice()) {
-        None => Err(Flaw::Broken(Rule::Assigned, node)),
+        None => Err(Violation::Broken(Rule::Assigned, node)),
         Some(selected) => path(table, selected.kind, rest, node),
     }
 }
@@ -51,11 +51,11 @@ pub fn place<'a>(
     visible: &Visible<'a>,
     first: NodeId,
     place: &PlaceNode,
-) -> Result<Option<ValueType<'a>>, Flaw>
+) -> Result<Option<ValueType<'a>>, Violation>
     ensures kind { IfOk result (λ kind. place_type (globals_in table.now) (scope_of table.now visible.now) (place_of place.now) ≡ option_map (kind_of (types_of table.now)) kind) }
     ensures blank { IfOk result (λ kind. is_none kind ≡ is_blank (name_of place.now.name)) }
     ensures lost { OnErr result (place_type (globals_in table.now) (scope_of table.now visible.now) (place_of place.now) ≡ None) }
-    ensures none { IfOk result (λ _. (flaw : OneFlaw) → ¬ (PlaceHas (globals_in table.now) (scope_of table.now visible.now) first (place_of place.now) flaw)) }
+    ensures none { IfOk result (λ _. (violation : OneViolation) → ¬ (PlaceHas (globals_in table.now) (scope_of table.now visible.now) first (place_of place.now) violation)) }
     ensures one { IfErr result (PlaceHas (globals_in table.now) (scope_of table.now visible.now) first (place_of place.now)) }
 {
     let name = place.name.bytes.as_slice();
@@ -64,11 +64,11 @@ pub fn place<'a>(
         return if fields.is_empty() {
             Ok(None)
         } else {
-            Err(Flaw::Broken(Rule::Assigned, first))
+            Err(Violation::Broken(Rule::Assigned, first))
         };
     }
     match variable_named(table, visible, name) {
-        None => Err(Flaw::Broken(Rule::Visible, first)),
+        None => Err(Violation::Broken(Rule::Visible, first)),
         Some(entry) => {
             let kind = path(table, entry.kind, fields, first)?;
             Ok(Some(kind))
@@ -83,14 +83,14 @@ pub fn read_place<'a>(
     visible: &Visible<'a>,
     first: NodeId,
     node: &PlaceNode,
-) -> Result<ValueType<'a>, Flaw>
+) -> Result<ValueType<'a>, Violation>
     ensures kind { IfOk result (λ kind. place_type (globals_in table.now) (scope_of table.now visible.now) (place_of node.now) ≡ Some (kind_of (types_of table.now) kind)) }
-    ensures none { IfOk result (λ _. (flaw : OneFlaw) → ¬ (ReadPlaceHas (globals_in table.now) (scope_of table.now visible.now) first (place_of node.now) flaw)) }
+    ensures none { IfOk result (λ _. (violation : OneViolation) → ¬ (ReadPlaceHas (globals_in table.now) (scope_of table.now visible.now) first (place_of node.now) violation)) }
     ensures one { IfErr result (ReadPlaceHas (globals_in table.now) (scope_of table.now visible.now) first (place_of node.now)) }
 {
     match place(table, visible, first, node)? {
         Some(kind) => Ok(kind),
-        None => Err(Flaw::Broken(Rule::Assigned, first)),
+        None => Err(Violation::Broken(Rule::Assigned, first)),
     }
 }
 
@@ -128,10 +128,10 @@ pub fn places<'a>(
     visible: &Visible<'a>,
     first: NodeId,
     all: &[&PlaceNode],
-) -> Result<NodeId, Flaw>
+) -> Result<NodeId, Violation>
     requires small { first + length (places_at all.now) < 2 ^ 32 }
     ensures end { IfOk result (λ end. end ≡ first + length (places_at all.now)) }
-    ensures none { IfOk result (λ _. (flaw : OneFlaw) → ¬ (PlacesHave (globals_in table.now) (scope_of table.now visible.now) first (places_at all.now) flaw)) }
+    ensures none { IfOk result (λ _. (violation : OneViolation) → ¬ (PlacesHave (globals_in table.now) (scope_of table.now visible.now) first (places_at all.now) violation)) }
     ensures one { IfErr result (PlacesHave (globals_in table.now) (scope_of table.now visible.now) first (places_at all.now)) }
 {
     let Some((one, rest)) = all.split_first() else {
@@ -161,8 +161,8 @@ pub fn place_takes<'a>(
     visible: &Visible<'a>,
     node: &PlaceNode,
     operand: Operand<'a>,
-) -> Result<(), Flaw>
-    ensures none { IfOk result (λ _. (flaw : OneFlaw) → ¬ (GoesHas (is_blank (place_of node.now).name) (given_of (types_of table.now) operand.entry) (place_type (globals_in table.now) (scope_of table.now visible.now) (place_of node.now)) flaw)) }
+) -> Result<(), Violation>
+    ensures none { IfOk result (λ _. (violation : OneViolation) → ¬ (GoesHas (is_blank (place_of node.now).name) (given_of (types_of table.now) operand.entry) (place_type (globals_in table.now) (scope_of table.now visible.now) (place_of node.now)) violation)) }
     ensures one { IfErr result (GoesHas (is_blank (place_of node.now).name) (given_of (types_of table.now) operand.entry) (place_type (globals_in table.now) (scope_of table.now visible.now) (place_of node.now))) }
 {
     if is_blank(node.name.bytes.as_slice()) {
@@ -180,8 +180,8 @@ pub fn places_take<'a>(
     visible: &Visible<'a>,
     places: &[&PlaceNode],
     values: &[Operand<'a>],
-) -> Result<(), Flaw>
-    ensures none { IfOk result (λ _. (flaw : OneFlaw) → ¬ (PlacesFail (globals_in table.now) (scope_of table.now visible.now) (places_at places.now) (map (given_of (types_of table.now)) values.now) flaw)) }
+) -> Result<(), Violation>
+    ensures none { IfOk result (λ _. (violation : OneViolation) → ¬ (PlacesFail (globals_in table.now) (scope_of table.now visible.now) (places_at places.now) (map (given_of (types_of table.now)) values.now) violation)) }
     ensures one { IfErr result (PlacesFail (globals_in table.now) (scope_of table.now visible.now) (places_at places.now) (map (given_of (types_of table.now)) values.now)) }
 {
     let Some((place, rest)) = places.split_first() else {

@@ -3,7 +3,7 @@
 ghost use Rattle.std.specs.Prelude.{◌≡◌, ℕ, ◌+◌, ◌^◌, ◌<◌, map, sum_by, IfOk, IfErr};
 ghost use Rattle.syntax.specs.Measures.{part_size};
 ghost use Rattle.syntax.specs.View.{part_of};
-ghost use Rattle.typing_rules.specs.declared.flaw.Flaw.{Flaw as OneFlaw};
+ghost use Rattle.typing_rules.specs.declared.violation.Violation.{Violation as OneViolation};
 ghost use Rattle.typing_rules.specs.Simples.{PartHas, PartsHave};
 ghost use Rattle.type_table.specs.Visible.{globals_in, scope_of};
 
@@ -12,7 +12,7 @@ use checker_base::value::printed;
 use syntax::{NodeId, PartNode};
 use type_table::scope::Visible;
 use type_table::table::TypeTable;
-use typing_rules::flaw::Flaw;
+use typing_rules::violation::Violation;
 
 /// Checks an argument of a print, whose nodes have numbers from `first` on, and returns the number after them.
 fn part(
@@ -20,10 +20,10 @@ fn part(
     visible: &Visible<'_>,
     first: NodeId,
     part: &PartNode,
-) -> Result<NodeId, Flaw>
+) -> Result<NodeId, Violation>
     requires small { first + part_size (part_of part.now) < 2 ^ 32 }
     ensures end { IfOk result (λ end. end ≡ first + part_size (part_of part.now)) }
-    ensures none { IfOk result (λ _. (flaw : OneFlaw) → ¬ (PartHas (globals_in table.now) (scope_of table.now visible.now) first (part_of part.now) flaw)) }
+    ensures none { IfOk result (λ _. (violation : OneViolation) → ¬ (PartHas (globals_in table.now) (scope_of table.now visible.now) first (part_of part.now) violation)) }
     ensures one { IfErr result (PartHas (globals_in table.now) (scope_of table.now visible.now) first (part_of part.now)) }
 {
     match part {
@@ -42,10 +42,10 @@ pub fn parts<'a>(
     visible: &Visible<'a>,
     first: NodeId,
     all: &[PartNode],
-) -> Result<NodeId, Flaw>
+) -> Result<NodeId, Violation>
     requires small { first + sum_by part_size (map part_of all.now) < 2 ^ 32 }
     ensures end { IfOk result (λ end. end ≡ first + sum_by part_size (map part_of all.now)) }
-    ensures none { IfOk result (λ _. (flaw : OneFlaw) → ¬ (PartsHave (globals_in table.now) (scope_of table.now visible.now) first (map part_of all.now) flaw)) }
+    ensures none { IfOk result (λ _. (violation : OneViolation) → ¬ (PartsHave (globals_in table.now) (scope_of table.now visible.now) first (map part_of all.now) violation)) }
     ensures one { IfErr result (PartsHave (globals_in table.now) (scope_of table.now visible.now) first (map part_of all.now)) }
 {
     let Some((one, rest)) = all.split_first() else {

@@ -3,7 +3,7 @@
 ghost use Rattle.std.specs.Prelude.{◌≡◌, ◌+◌, ◌^◌, ◌<◌, IfOk, IfErr};
 ghost use Rattle.syntax.specs.Measures.{simple_size, comm_size};
 ghost use Rattle.syntax.specs.View.{simple_of, comm_of};
-ghost use Rattle.typing_rules.specs.declared.flaw.Flaw.{Flaw as OneFlaw};
+ghost use Rattle.typing_rules.specs.declared.violation.Violation.{Violation as OneViolation};
 ghost use Rattle.typing_rules.specs.Simples.{SimpleHas, after_simple, comm_simple};
 ghost use Rattle.type_table.specs.Visible.{globals_in, scope_of, Keeps};
 ghost use Rattle.checker_base.specs.Views.{Refuses};
@@ -36,7 +36,7 @@ pub fn simple<'a>(
     ensures end { IfOk result (λ end. end ≡ first + simple_size (simple_of simple.now)) }
     ensures after { IfOk result (λ _. scope_of table.now visible.new ≡ after_simple (globals_in table.now) (scope_of table.now visible.old) (simple_of simple.now)) }
     ensures kept { IfOk result (λ _. Keeps visible.old visible.new) }
-    ensures none { IfOk result (λ _. (flaw : OneFlaw) → ¬ (SimpleHas (globals_in table.now) (scope_of table.now visible.old) first (simple_of simple.now) flaw)) }
+    ensures none { IfOk result (λ _. (violation : OneViolation) → ¬ (SimpleHas (globals_in table.now) (scope_of table.now visible.old) first (simple_of simple.now) violation)) }
     ensures one { IfErr result (Refuses (SimpleHas (globals_in table.now) (scope_of table.now visible.old) first (simple_of simple.now))) }
 {
     match simple {
@@ -82,7 +82,7 @@ pub fn comm<'a>(
     ensures end { IfOk result (λ end. end ≡ first + comm_size (comm_of comm.now)) }
     ensures after { IfOk result (λ _. scope_of table.now visible.new ≡ after_simple (globals_in table.now) (scope_of table.now visible.old) (comm_simple (comm_of comm.now))) }
     ensures kept { IfOk result (λ _. Keeps visible.old visible.new) }
-    ensures none { IfOk result (λ _. (flaw : OneFlaw) → ¬ (SimpleHas (globals_in table.now) (scope_of table.now visible.old) first (comm_simple (comm_of comm.now)) flaw)) }
+    ensures none { IfOk result (λ _. (violation : OneViolation) → ¬ (SimpleHas (globals_in table.now) (scope_of table.now visible.old) first (comm_simple (comm_of comm.now)) violation)) }
     ensures one { IfErr result (Refuses (SimpleHas (globals_in table.now) (scope_of table.now visible.old) first (comm_simple (comm_of comm.now)))) }
 {
     match comm {

@@ -7,8 +7,8 @@ ghost use Rattle.syntax.specs.View.{expression_of, place_of};
 ghost use Rattle.type_table.specs.Types.{ValueType as OneType};
 ghost use Rattle.type_table.specs.Views.{kind_of};
 ghost use Rattle.type_table.specs.Visible.{types_of, globals_in, scope_of};
-ghost use Rattle.typing_rules.specs.declared.flaw.Flaw.{Flaw as OneFlaw};
-ghost use Rattle.typing_rules.specs.Flaws.{Nodes};
+ghost use Rattle.typing_rules.specs.declared.violation.Violation.{Violation as OneViolation};
+ghost use Rattle.typing_rules.specs.Violations.{Nodes};
 ghost use Rattle.typing_rules.specs.Worths.{Worth as OneWorth};
 ghost use Rattle.checker_base.specs.Views.{worth_of, IsSmall, Refuses};
 ghost use Rattle.typing_rules.specs.Simples.{UpdatedHas, StepHas, SimpleHas};
@@ -24,7 +24,7 @@ use syntax::{BinaryOperator, ExpressionNode, NodeId, PlaceNode};
 use type_table::scope::Visible;
 use type_table::table::TypeTable;
 use type_table::value_type::ValueType;
-use typing_rules::flaw::Flaw;
+use typing_rules::violation::Violation;
 
 /// Checks `++` or `--`, whose nodes have numbers from `first` on, and returns the number after them.
 pub(crate) fn step(
@@ -35,12 +35,12 @@ pub(crate) fn step(
 ) -> Result<NodeId, Refusal>
     requires small { first + 2 < 2 ^ 32 }
     ensures end { IfOk result (λ end. end ≡ first + 2) }
-    ensures none { IfOk result (λ _. (flaw : OneFlaw) → ¬ (StepHas (globals_in table.now) (scope_of table.now visible.now) first (place_of node.now) flaw)) }
+    ensures none { IfOk result (λ _. (violation : OneViolation) → ¬ (StepHas (globals_in table.now) (scope_of table.now visible.now) first (place_of node.now) violation)) }
     ensures one { IfErr result (Refuses (StepHas (globals_in table.now) (scope_of table.now visible.now) first (place_of node.now))) }
 {
     match read_place(table, visible, first, node)? {
         ValueType::Int => Ok(first + 2),
-        _ => Err(Refusal::Flawed(Flaw::Broken(Rule::Operands, first + 1))),
+        _ => Err(Refusal::Violated(Violation::Broken(Rule::Operands, first + 1))),
     }
 }
 
@@ -51,11 +51,11 @@ fn updates<'a>(
     operator: BinaryOperator,
     kind: ValueType<'a>,
     operand: Operand<'a>,
-) -> Result<(), Flaw>
+) -> Result<(), Violation>
     requires small { IsSmall operand.worth }
     requires next { operand.node + 1 < 2 ^ 32 }
-    ensures none { IfOk result (λ _. (k : Option OneType) → k ≡ Some (kind_of (types_of table.now) kind.entry) → (w : Option OneWorth) → w ≡ Some (worth_of (types_of table.now) operand.entry.worth) → (nodes : Nodes) → nodes.first ≡ operand.entry.first → nodes.end ≡ operand.entry.node + 1 → (end : ℕ) → end ≡ operand.entry.node + 2 → (flaw : OneFlaw) → ¬ (UpdatedHas operator k w nodes end flaw)) }
-    ensures one { IfErr result (λ flaw. (k : Option OneType) → k ≡ Some (kind_of (types_of table.now) kind.entry) → (w : Option OneWorth) → w ≡ Some (worth_of (types_of table.now) operand.entry.worth) → (nodes : Nodes) → nodes.first ≡ operand.entry.first → nodes.end ≡ operand.entry.node + 1 → (end : ℕ) → end ≡ operand.entry.node + 2 → UpdatedHas operator k w nodes end flaw) }
+    ensures none { IfOk result (λ _. (k : Option OneType) → k ≡ Some (kind_of (types_of table.now) kind.entry) → (w : Option OneWorth) → w ≡ Some (worth_of (types_of table.now) operand.entry.worth) → (nodes : Nodes) → nodes.first ≡ operand.entry.first → nodes.end ≡ operand.entry.node + 1 → (end : ℕ) → end ≡ operand.entry.node + 2 → (violation : OneViolation) → ¬ (UpdatedHas operator k w nodes end violation)) }
+    ensures one { IfErr result (λ violation. (k : Option OneType) → k ≡ Some (kind_of (types_of table.now) kind.entry) → (w : Option OneWorth) → w ≡ Some (worth_of (types_of table.now) operand.entry.worth) → (nodes : Nodes) → nodes.first ≡ operand.entry.first → nodes.end ≡ operand.entry.node + 1 → (end : ℕ) → end ≡ operand.entry.node + 2 → UpdatedHas operator k w nodes end violation) }
 {
     match binary_worth(table, operator, Worth::Typed(kind), operand.worth) {
         Ok(worth) => value(table, Operand { worth, ..operand }, kind),
@@ -83,7 +83,7 @@ pub(crate) fn update(
 ) -> Result<NodeId, Refusal>
     requires small { first + simple_size (Update (place_of node.now) operator (expression_of value.now)) < 2 ^ 32 }
     ensures end { IfOk result (λ end. end ≡ first + simple_size (Update (place_of node.now) operator (expression_of value.now))) }
-    ensures none { IfOk result (λ _. (flaw : OneFlaw) → ¬ (SimpleHas (globals_in table.now) (scope_of table.now visible.now) first (Update (place_of node.now) operator (expression_of value.now)) flaw)) }
+    ensures none { IfOk result (λ _. (violation : OneViolation) → ¬ (SimpleHas (globals_in table.now) (scope_of table.now visible.now) first (Update (place_of node.now) operator (expression_of value.now)) violation)) }
     ensures one { IfErr result (Refuses (SimpleHas (globals_in table.now) (scope_of table.now visible.now) first (Update (place_of node.now) operator (expression_of value.now)))) }
 {
     let kind = read_place(table, visible, first, node)?;

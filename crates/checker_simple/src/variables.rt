@@ -3,7 +3,7 @@
 ghost use Rattle.std.specs.Prelude.{◌≡◌, ℕ, ◌+◌, ◌^◌, ◌<◌, List, Some, length, map, sum_by, option_map, IfOk, IfErr};
 ghost use Rattle.syntax.specs.Measures.{if_any, type_size, expression_size};
 ghost use Rattle.syntax.specs.View.{name_of, type_of, right_of};
-ghost use Rattle.typing_rules.specs.declared.flaw.Flaw.{Flaw as OneFlaw};
+ghost use Rattle.typing_rules.specs.declared.violation.Violation.{Violation as OneViolation};
 ghost use Rattle.type_table.specs.Scopes.{type_in, declared_unless_blank};
 ghost use Rattle.typing_rules.specs.Operations.{Given as OneGiven, given};
 ghost use Rattle.typing_rules.specs.Simples.{AllFail, TypedHave, UntypedHave, IfRightHas, with_variables, with_defined, TypedVariablesHave, UntypedVariablesHave};
@@ -24,15 +24,15 @@ use syntax::{ExpressionNode, Name, NodeId, TypeNode};
 use type_table::scope::{Visible, declare, is_blank};
 use type_table::table::TypeTable;
 use type_table::value_type::{ValueType, type_in};
-use typing_rules::flaw::Flaw;
+use typing_rules::violation::Violation;
 
 /// Checks that values go to variables of a type.
 fn all_fit<'a>(
     table: &TypeTable<'a>,
     kind: ValueType<'a>,
     values: &[Operand<'a>],
-) -> Result<(), Flaw>
-    ensures none { IfOk result (λ _. (flaw : OneFlaw) → ¬ (AllFail (Some (kind_of (types_of table.now) kind.entry)) (length values.now) (map (given_of (types_of table.now)) values.now) flaw)) }
+) -> Result<(), Violation>
+    ensures none { IfOk result (λ _. (violation : OneViolation) → ¬ (AllFail (Some (kind_of (types_of table.now) kind.entry)) (length values.now) (map (given_of (types_of table.now)) values.now) violation)) }
     ensures one { IfErr result (AllFail (Some (kind_of (types_of table.now) kind.entry)) (length values.now) (map (given_of (types_of table.now)) values.now)) }
 {
     let Some((operand, rest)) = values.split_first() else {
@@ -48,9 +48,9 @@ fn typed_given<'a>(
     kind: ValueType<'a>,
     names: usize,
     given: &Given<'a>,
-) -> Result<(), Flaw>
-    ensures none { IfOk result (λ _. (end : ℕ) → end ≡ given.now.end + 1 → (values : List OneGiven) → values ≡ map (given_of (types_of table.now)) given.now.values.items → (flaw : OneFlaw) → ¬ (TypedHave (Some (kind_of (types_of table.now) kind.entry)) names values end flaw)) }
-    ensures one { IfErr result (λ flaw. (end : ℕ) → end ≡ given.now.end + 1 → (values : List OneGiven) → values ≡ map (given_of (types_of table.now)) given.now.values.items → TypedHave (Some (kind_of (types_of table.now) kind.entry)) names values end flaw) }
+) -> Result<(), Violation>
+    ensures none { IfOk result (λ _. (end : ℕ) → end ≡ given.now.end + 1 → (values : List OneGiven) → values ≡ map (given_of (types_of table.now)) given.now.values.items → (violation : OneViolation) → ¬ (TypedHave (Some (kind_of (types_of table.now) kind.entry)) names values end violation)) }
+    ensures one { IfErr result (λ violation. (end : ℕ) → end ≡ given.now.end + 1 → (values : List OneGiven) → values ≡ map (given_of (types_of table.now)) given.now.values.items → TypedHave (Some (kind_of (types_of table.now) kind.entry)) names values end violation) }
 {
     numbers_agree(given.values.len(), names, given.end)?;
     all_fit(table, kind, given.values.as_slice())
@@ -68,7 +68,7 @@ fn typed_right<'a>(
 ) -> Result<NodeId, Refusal>
     requires small { first + if_any (sum_by expression_size) (option_map right_of right.now) < 2 ^ 32 }
     ensures end { IfOk result (λ end. end ≡ first + if_any (sum_by expression_size) (option_map right_of right.now)) }
-    ensures none { IfOk result (λ _. (flaw : OneFlaw) → ¬ (IfRightHas (globals_in table.now) (scope_of table.now visible.now) names (Some (kind_of (types_of table.now) kind.entry)) first (option_map right_of right.now) flaw)) }
+    ensures none { IfOk result (λ _. (violation : OneViolation) → ¬ (IfRightHas (globals_in table.now) (scope_of table.now visible.now) names (Some (kind_of (types_of table.now) kind.entry)) first (option_map right_of right.now) violation)) }
     ensures one { IfErr result (Refuses (IfRightHas (globals_in table.now) (scope_of table.now visible.now) names (Some (kind_of (types_of table.now) kind.entry)) first (option_map right_of right.now))) }
 {
     match right {
@@ -131,7 +131,7 @@ fn declare_given<'a>(
 ) -> Result<(), Refusal>
     ensures after { IfOk result (λ _. scope_of table.now visible.new ≡ with_defined (globals_in table.now) (scope_of table.now visible.old) (names_at names.now) (map (given_of (types_of table.now)) given.now.values.items)) }
     ensures kept { IfOk result (λ _. Keeps visible.old visible.new) }
-    ensures none { IfOk result (λ _. (end : ℕ) → end ≡ given.now.end + 1 → (all : List (List ℕ)) → all ≡ names_at names.now → (values : List OneGiven) → values ≡ map (given_of (types_of table.now)) given.now.values.items → (flaw : OneFlaw) → ¬ (UntypedHave (scope_of table.now visible.old) all values end flaw)) }
+    ensures none { IfOk result (λ _. (end : ℕ) → end ≡ given.now.end + 1 → (all : List (List ℕ)) → all ≡ names_at names.now → (values : List OneGiven) → values ≡ map (given_of (types_of table.now)) given.now.values.items → (violation : OneViolation) → ¬ (UntypedHave (scope_of table.now visible.old) all values end violation)) }
     ensures one { (end : ℕ) → end ≡ given.now.end + 1 → (all : List (List ℕ)) → all ≡ names_at names.now → (values : List OneGiven) → values ≡ map (given_of (types_of table.now)) given.now.values.items → IfErr result (Refuses (UntypedHave (scope_of table.now visible.old) all values end)) }
 {
     numbers_agree(given.values.len(), names.len(), given.end)?;
@@ -154,12 +154,12 @@ pub fn typed_variables<'a>(
     ensures end { IfOk result (λ end. end ≡ first + type_size (type_of kind.now) + if_any (sum_by expression_size) (option_map right_of right.now) + 1) }
     ensures after { IfOk result (λ _. scope_of table.now visible.new ≡ with_variables (globals_in table.now) (scope_of table.now visible.old) (type_in (globals_in table.now).types (scope_of table.now visible.old) (type_of kind.now)) (map name_of names.now)) }
     ensures kept { IfOk result (λ _. Keeps visible.old visible.new) }
-    ensures none { IfOk result (λ _. (flaw : OneFlaw) → ¬ (TypedVariablesHave (globals_in table.now) (scope_of table.now visible.old) first (map name_of names.now) (type_of kind.now) (option_map right_of right.now) flaw)) }
+    ensures none { IfOk result (λ _. (violation : OneViolation) → ¬ (TypedVariablesHave (globals_in table.now) (scope_of table.now visible.old) first (map name_of names.now) (type_of kind.now) (option_map right_of right.now) violation)) }
     ensures one { IfErr result (Refuses (TypedVariablesHave (globals_in table.now) (scope_of table.now visible.old) first (map name_of names.now) (type_of kind.now) (option_map right_of right.now))) }
 {
     let all = references(alloc, Names::All(names))?;
     let Some(known) = type_in(table, visible, kind) else {
-        return Err(Refusal::Flawed(Flaw::Broken(Rule::Visible, first)));
+        return Err(Refusal::Violated(Violation::Broken(Rule::Visible, first)));
     };
     let middle = first + type_size(kind);
     let node = typed_right(alloc, table, visible, names.len(), known, middle, right)?;
@@ -182,7 +182,7 @@ pub fn untyped_variables<'a>(
     ensures end { IfOk result (λ end. end ≡ first + sum_by expression_size (right_of right.now) + 1) }
     ensures after { IfOk result (λ _. scope_of table.now visible.new ≡ with_defined (globals_in table.now) (scope_of table.now visible.old) (map name_of names.now) (given (globals_in table.now) (scope_of table.now visible.old) (length (map name_of names.now)) 0 (right_of right.now))) }
     ensures kept { IfOk result (λ _. Keeps visible.old visible.new) }
-    ensures none { IfOk result (λ _. (flaw : OneFlaw) → ¬ (UntypedVariablesHave (globals_in table.now) (scope_of table.now visible.old) first (map name_of names.now) (right_of right.now) flaw)) }
+    ensures none { IfOk result (λ _. (violation : OneViolation) → ¬ (UntypedVariablesHave (globals_in table.now) (scope_of table.now visible.old) first (map name_of names.now) (right_of right.now) violation)) }
     ensures one { IfErr result (Refuses (UntypedVariablesHave (globals_in table.now) (scope_of table.now visible.old) first (map name_of names.now) (right_of right.now))) }
 {
     let all = references(alloc, Names::All(names))?;

@@ -6,9 +6,9 @@ use Rattle.std.proofs.Math.Seq.{take-length}
 use Rattle.std.specs.Result.{IfOk}
 use Rattle.syntax.specs.Tree.{Comm, Statement, Statements, Then, Clauses, Clause}
 use Rattle.syntax.specs.Measures.{if_any, comm_size, statement_size, statements_size}
-use Rattle.typing_rules.specs.declared.flaw.Flaw.{Flaw}
+use Rattle.typing_rules.specs.declared.violation.Violation.{Violation}
 use Rattle.checker_base.specs.declared.refusal.Refusal.{Refusal}
-use Rattle.checker_base.specs.declared.refusal.Refusal.TheVariants.{Memory, Flawed}
+use Rattle.checker_base.specs.declared.refusal.Refusal.TheVariants.{Memory, Violated}
 use Rattle.checker_base.specs.Views.{Refuses}
 use Rattle.type_table.specs.declared.table.TypeTable.{TypeTable}
 use Rattle.type_table.specs.declared.visible.Visible.{Visible}
@@ -36,9 +36,9 @@ pub always : {X Y : Type 0} (r : Result X Y) (P : Type 0) → P → IfOk r (λ _
 always (Ok x) P p = p
 always (Err e) P p = tt
 
-pub refuses_more : (P Q : Flaw → Type 0) (e : Refusal) → ((flaw : Flaw) → P flaw → Q flaw) → Refuses P e → Refuses Q e
+pub refuses_more : (P Q : Violation → Type 0) (e : Refusal) → ((violation : Violation) → P violation → Q violation) → Refuses P e → Refuses Q e
 refuses_more P Q Memory more r = tt
-refuses_more P Q (Flawed flaw) more r = more flaw r
+refuses_more P Q (Violated violation) more r = more violation r
 
 -- after a block, the variables from before it are visible, and what it took of the frame stays taken
 pub block_left : (table : TypeTable) (old begun inner new : Visible) (count : ℕ) (scope : Scope)
@@ -51,35 +51,35 @@ block_left table old begun inner new count scope counts same keeps is items oute
 
 -- ---- one statement further
 
-pub found_next : (setting : Setting) (P : Flaw → Type 0) (before scope : Scope) (first end : ℕ) (one : Statement) (rest : Statements)
+pub found_next : (setting : Setting) (P : Violation → Type 0) (before scope : Scope) (first end : ℕ) (one : Statement) (rest : Statements)
     → scope ≡ after setting.globals before one → end ≡ first + statement_size one
-    → ((flaw : Flaw) → StatementsHave setting before first (Then one rest) flaw → P flaw)
-    → (flaw : Flaw) → StatementsHave setting scope end rest flaw → P flaw
-found_next setting P before scope first end one rest is ends found = λ flaw has. found flaw (inr (rw (is, ends) at has))
+    → ((violation : Violation) → StatementsHave setting before first (Then one rest) violation → P violation)
+    → (violation : Violation) → StatementsHave setting scope end rest violation → P violation
+found_next setting P before scope first end one rest is ends found = λ violation has. found violation (inr (rw (is, ends) at has))
 
-pub passed_next : (setting : Setting) (P : Flaw → Type 0) (before scope : Scope) (first end : ℕ) (one : Statement) (rest : Statements)
+pub passed_next : (setting : Setting) (P : Violation → Type 0) (before scope : Scope) (first end : ℕ) (one : Statement) (rest : Statements)
     → scope ≡ after setting.globals before one → end ≡ first + statement_size one
-    → ((flaw : Flaw) → P flaw → StatementsHave setting before first (Then one rest) flaw) → ((flaw : Flaw) → StatementHas setting before first one flaw → ⊥)
-    → (flaw : Flaw) → P flaw → StatementsHave setting scope end rest flaw
-passed_next setting P before scope first end one rest is ends passed good = λ flaw p. elim (passed flaw p) [ inl bad ↦ absurd (good flaw bad) | inr more ↦ rw (is, ends) more ]
+    → ((violation : Violation) → P violation → StatementsHave setting before first (Then one rest) violation) → ((violation : Violation) → StatementHas setting before first one violation → ⊥)
+    → (violation : Violation) → P violation → StatementsHave setting scope end rest violation
+passed_next setting P before scope first end one rest is ends passed good = λ violation p. elim (passed violation p) [ inl bad ↦ absurd (good violation bad) | inr more ↦ rw (is, ends) more ]
 
 -- ---- one clause further
 
-pub found_clause : (setting : Setting) (P : Flaw → Type 0) (before scope : Scope) (first end : ℕ) (comm : Option Comm) (body : Statements) (rest : Clauses)
+pub found_clause : (setting : Setting) (P : Violation → Type 0) (before scope : Scope) (first end : ℕ) (comm : Option Comm) (body : Statements) (rest : Clauses)
     → scope ≡ left before (after_clause setting.globals (entered before) comm body) → end ≡ first + (if_any comm_size comm + statements_size body + 1)
-    → ((flaw : Flaw) → ClausesHave setting before first (Clause comm body rest) flaw → P flaw)
-    → (flaw : Flaw) → ClausesHave setting scope end rest flaw → P flaw
+    → ((violation : Violation) → ClausesHave setting before first (Clause comm body rest) violation → P violation)
+    → (violation : Violation) → ClausesHave setting scope end rest violation → P violation
 found_clause setting P before scope first end comm body rest is ends found =
     let same : end ≡ first + if_any comm_size comm + statements_size body + 1 = omega (arith, ends) in
-    λ flaw has. found flaw (inr (inr (rw (is, same) at has)))
+    λ violation has. found violation (inr (inr (rw (is, same) at has)))
 
-pub passed_clause : (setting : Setting) (P : Flaw → Type 0) (before scope : Scope) (first end : ℕ) (comm : Option Comm) (body : Statements) (rest : Clauses)
+pub passed_clause : (setting : Setting) (P : Violation → Type 0) (before scope : Scope) (first end : ℕ) (comm : Option Comm) (body : Statements) (rest : Clauses)
     → scope ≡ left before (after_clause setting.globals (entered before) comm body) → end ≡ first + (if_any comm_size comm + statements_size body + 1)
-    → ((flaw : Flaw) → P flaw → ClausesHave setting before first (Clause comm body rest) flaw) → ((flaw : Flaw) → ClauseHas setting (entered before) first comm body flaw → ⊥)
-    → (flaw : Flaw) → P flaw → ClausesHave setting scope end rest flaw
+    → ((violation : Violation) → P violation → ClausesHave setting before first (Clause comm body rest) violation) → ((violation : Violation) → ClauseHas setting (entered before) first comm body violation → ⊥)
+    → (violation : Violation) → P violation → ClausesHave setting scope end rest violation
 passed_clause setting P before scope first end comm body rest is ends passed good =
     let same : end ≡ first + if_any comm_size comm + statements_size body + 1 = omega (arith, ends) in
-    λ flaw p. elim (passed flaw p) [ inl bad ↦ absurd (good flaw (inl bad)) | inr more ↦ elim more [ inl bad ↦ absurd (good flaw (inr bad)) | inr left ↦ rw (is, same) left ] ]
+    λ violation p. elim (passed violation p) [ inl bad ↦ absurd (good violation (inl bad)) | inr more ↦ elim more [ inl bad ↦ absurd (good violation (inr bad)) | inr left ↦ rw (is, same) left ] ]
 
 -- fewer than two
 pub few_defaults : (n : ℕ) → n < 2 → nat_le 2 n ≡ true → ⊥

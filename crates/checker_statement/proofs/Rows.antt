@@ -4,8 +4,8 @@ use Rattle.go_text.specs.declared.rule.Rule.TheVariants as rules
 use Rattle.syntax.specs.declared.node.Direction.TheVariants as directions
 use Rattle.syntax.specs.declared.node.BinaryOperator.TheVariants as ops
 use Rattle.syntax.specs.Tree.{NamedType, Expression, Integer, Named, Parenthesized, Binary, Receive, Length, Place, Simple, Define, Assign, Bare, First, NoTarget, DefineTarget, Forever, While, ForClauses, Range, CommReceive, CommDefine, NoValue, ReturnedValue, Statement, Empty, Alone, VarTyped, Block, If, For, Select, Return, Break, Continue, Statements, NoStatement, Then, Conditional, NoElse, ElseBlock, NoClause, Clause}
-use Rattle.typing_rules.specs.declared.flaw.Flaw.{Flaw}
-use Rattle.typing_rules.specs.declared.flaw.Flaw.TheVariants.{Broken}
+use Rattle.typing_rules.specs.declared.violation.Violation.{Violation}
+use Rattle.typing_rules.specs.declared.violation.Violation.TheVariants.{Broken}
 use Rattle.type_table.specs.Types.{IntType, BoolType, ChannelType}
 use Rattle.type_table.specs.Scopes.{nothing_declared, Globals, Scope, Variable, NoResult, Yields}
 use Rattle.typing_rules.specs.Statements.{Setting, in_for, in_select, after_all, StatementHas, StatementsHave}
@@ -200,11 +200,11 @@ no_break = (refl, (refl, refl))
 no_continue : StatementHas plain nothing_declared 0 (Select (Clause None (alone Continue) NoClause)) (Broken rules.Branch 0)
 no_continue = inl (inr (inl (inl (refl, (refl, refl)))))
 
-may_break : (flaw : Flaw) → StatementHas (in_select plain) nothing_declared 0 Break flaw → ⊥
-may_break flaw h = let e = h.0 in cc
+may_break : (violation : Violation) → StatementHas (in_select plain) nothing_declared 0 Break violation → ⊥
+may_break violation h = let e = h.0 in cc
 
-may_continue : (flaw : Flaw) → StatementHas (in_select (in_for plain)) nothing_declared 0 Continue flaw → ⊥
-may_continue flaw h = let e = h.0 in cc
+may_continue : (violation : Violation) → StatementHas (in_select (in_for plain)) nothing_declared 0 Continue violation → ⊥
+may_continue violation h = let e = h.0 in cc
 
 -- select { default: default: } violates rule 20 at the select
 defaults : StatementHas plain nothing_declared 0 (Select (Clause None NoStatement (Clause None NoStatement NoClause))) (Broken rules.OneDefault 2)

@@ -7,8 +7,8 @@ ghost use Rattle.syntax.specs.View.{name_of, expression_of, simple_of, if_head_o
 ghost use Rattle.type_table.specs.Scopes.{is_blank};
 ghost use Rattle.type_table.specs.Views.{kind_of};
 ghost use Rattle.type_table.specs.Visible.{types_of, globals_in, scope_of, Keeps, Leaves};
-ghost use Rattle.typing_rules.specs.declared.flaw.Flaw.{Flaw as OneFlaw};
-ghost use Rattle.typing_rules.specs.Flaws.{IsBroken};
+ghost use Rattle.typing_rules.specs.declared.violation.Violation.{Violation as OneViolation};
+ghost use Rattle.typing_rules.specs.Violations.{IsBroken};
 ghost use Rattle.checker_base.specs.Views.{Refuses};
 ghost use Rattle.typing_rules.specs.Worths.{worth};
 ghost use Rattle.typing_rules.specs.Expressions.{element_of, TestHas};
@@ -32,16 +32,16 @@ use syntax::{
 use type_table::scope::{Visible, declare, is_blank, is_reserved, leave, own_variable};
 use type_table::table::TypeTable;
 use type_table::value_type::ValueType;
-use typing_rules::flaw::Flaw;
+use typing_rules::violation::Violation;
 
 /// The violation of a rule by a statement as a whole: at its own node, which is the last of those from `first` on. That takes a count of
 /// its nodes, so it is called only if the statement is refused.
-pub(crate) fn broken_at(whole: &StatementNode, first: NodeId, rule: Rule) -> Flaw
+pub(crate) fn broken_at(whole: &StatementNode, first: NodeId, rule: Rule) -> Violation
     requires small { first + statement_size (statement_of whole.now) < 2 ^ 32 }
     requires own { 0 < statement_size (statement_of whole.now) }
     ensures { (end : ℕ) → end ≡ first + statement_size (statement_of whole.now) → IsBroken rule end result }
 {
-    Flaw::Broken(rule, first + (statement_size(whole) - 1))
+    Violation::Broken(rule, first + (statement_size(whole) - 1))
 }
 
 /// Checks a condition, whose nodes have numbers from `first` on, and returns the number after them.
@@ -50,10 +50,10 @@ fn test<'a>(
     visible: &Visible<'a>,
     first: NodeId,
     condition: &ExpressionNode,
-) -> Result<NodeId, Flaw>
+) -> Result<NodeId, Violation>
     requires small { first + expression_size (expression_of condition.now) < 2 ^ 32 }
     ensures end { IfOk result (λ end. end ≡ first + expression_size (expression_of condition.now)) }
-    ensures none { IfOk result (λ _. (flaw : OneFlaw) → ¬ (TestHas (globals_in table.now) (scope_of table.now visible.now) first (expression_of condition.now) flaw)) }
+    ensures none { IfOk result (λ _. (violation : OneViolation) → ¬ (TestHas (globals_in table.now) (scope_of table.now visible.now) first (expression_of condition.now) violation)) }
     ensures one { IfErr result (TestHas (globals_in table.now) (scope_of table.now visible.now) first (expression_of condition.now)) }
 {
     let operand = checked(table, visible, first, condition)?;
@@ -74,7 +74,7 @@ fn optional_simple<'a>(
     ensures end { IfOk result (λ end. end ≡ first + if_any simple_size (option_map simple_of optional.now)) }
     ensures after { IfOk result (λ _. scope_of table.now visible.new ≡ after_any (globals_in table.now) (scope_of table.now visible.old) (option_map simple_of optional.now)) }
     ensures kept { IfOk result (λ _. Keeps visible.old visible.new) }
-    ensures none { IfOk result (λ _. (flaw : OneFlaw) → ¬ (IfSimpleHas (globals_in table.now) (scope_of table.now visible.old) first (option_map simple_of optional.now) flaw)) }
+    ensures none { IfOk result (λ _. (violation : OneViolation) → ¬ (IfSimpleHas (globals_in table.now) (scope_of table.now visible.old) first (option_map simple_of optional.now) violation)) }
     ensures one { IfErr result (Refuses (IfSimpleHas (globals_in table.now) (scope_of table.now visible.old) first (option_map simple_of optional.now))) }
 {
     match optional {
@@ -89,10 +89,10 @@ fn optional_test<'a>(
     visible: &Visible<'a>,
     first: NodeId,
     optional: &Option<ExpressionNode>,
-) -> Result<NodeId, Flaw>
+) -> Result<NodeId, Violation>
     requires small { first + if_any expression_size (option_map expression_of optional.now) < 2 ^ 32 }
     ensures end { IfOk result (λ end. end ≡ first + if_any expression_size (option_map expression_of optional.now)) }
-    ensures none { IfOk result (λ _. (flaw : OneFlaw) → ¬ (IfTestHas (globals_in table.now) (scope_of table.now visible.now) first (option_map expression_of optional.now) flaw)) }
+    ensures none { IfOk result (λ _. (violation : OneViolation) → ¬ (IfTestHas (globals_in table.now) (scope_of table.now visible.now) first (option_map expression_of optional.now) violation)) }
     ensures one { IfErr result (IfTestHas (globals_in table.now) (scope_of table.now visible.now) first (option_map expression_of optional.now)) }
 {
     match optional {
@@ -114,7 +114,7 @@ fn post_statement<'a>(
     ensures end { IfOk result (λ end. end ≡ first + if_any simple_size (option_map simple_of post.now)) }
     ensures left { IfOk result (λ _. Leaves visible.old visible.new) }
     ensures words { IfOk result (λ _. visible.new.words ≡ visible.old.words) }
-    ensures none { IfOk result (λ _. (flaw : OneFlaw) → ¬ (IfSimpleHas (globals_in table.now) (scope_of table.now visible.old) first (option_map simple_of post.now) flaw)) }
+    ensures none { IfOk result (λ _. (violation : OneViolation) → ¬ (IfSimpleHas (globals_in table.now) (scope_of table.now visible.old) first (option_map simple_of post.now) violation)) }
     ensures one { IfErr result (Refuses (IfSimpleHas (globals_in table.now) (scope_of table.now visible.old) first (option_map simple_of post.now))) }
 {
     let count = visible.entries.len();
@@ -138,7 +138,7 @@ fn if_header<'a>(
     ensures end { IfOk result (λ end. end ≡ first + if_head_size (if_head_of header.now)) }
     ensures after { IfOk result (λ _. scope_of table.now visible.new ≡ after_any (globals_in table.now) (scope_of table.now visible.old) (head_simple (if_head_of header.now))) }
     ensures kept { IfOk result (λ _. Keeps visible.old visible.new) }
-    ensures none { IfOk result (λ _. (flaw : OneFlaw) → ¬ (IfSimpleHas (globals_in table.now) (scope_of table.now visible.old) first (head_simple (if_head_of header.now)) flaw)) }
+    ensures none { IfOk result (λ _. (violation : OneViolation) → ¬ (IfSimpleHas (globals_in table.now) (scope_of table.now visible.old) first (head_simple (if_head_of header.now)) violation)) }
     ensures one { IfErr result (Refuses (IfSimpleHas (globals_in table.now) (scope_of table.now visible.old) first (head_simple (if_head_of header.now)))) }
 {
     match header {
@@ -161,7 +161,7 @@ pub(crate) fn guard<'a>(
     ensures end { IfOk result (λ end. end ≡ first + if_head_size (if_head_of header.now) + expression_size (expression_of condition.now)) }
     ensures after { IfOk result (λ _. scope_of table.now visible.new ≡ after_any (globals_in table.now) (scope_of table.now visible.old) (head_simple (if_head_of header.now))) }
     ensures kept { IfOk result (λ _. Keeps visible.old visible.new) }
-    ensures none { IfOk result (λ _. (flaw : OneFlaw) → ¬ (GuardHas (globals_in table.now) (scope_of table.now visible.old) first (if_head_of header.now) (expression_of condition.now) flaw)) }
+    ensures none { IfOk result (λ _. (violation : OneViolation) → ¬ (GuardHas (globals_in table.now) (scope_of table.now visible.old) first (if_head_of header.now) (expression_of condition.now) violation)) }
     ensures one { IfErr result (Refuses (GuardHas (globals_in table.now) (scope_of table.now visible.old) first (if_head_of header.now) (expression_of condition.now))) }
 {
     let middle = if_header(alloc, table, visible, first, header)?;
@@ -174,10 +174,10 @@ fn range_target<'a>(
     visible: &Visible<'a>,
     first: NodeId,
     target: &RangeTarget,
-) -> Result<NodeId, Flaw>
+) -> Result<NodeId, Violation>
     requires small { first + target_size (target_of target.now) < 2 ^ 32 }
     ensures end { IfOk result (λ end. end ≡ first + target_size (target_of target.now)) }
-    ensures none { IfOk result (λ _. (flaw : OneFlaw) → ¬ (TargetHas (globals_in table.now) (scope_of table.now visible.now) first (target_of target.now) flaw)) }
+    ensures none { IfOk result (λ _. (violation : OneViolation) → ¬ (TargetHas (globals_in table.now) (scope_of table.now visible.now) first (target_of target.now) violation)) }
     ensures one { IfErr result (TargetHas (globals_in table.now) (scope_of table.now visible.now) first (target_of target.now)) }
 {
     match target {
@@ -206,14 +206,14 @@ fn ranged<'a>(
     source: &'a ExpressionNode,
     whole: &StatementNode,
     start: NodeId,
-) -> Result<Item<'a>, Flaw>
+) -> Result<Item<'a>, Violation>
     requires small { first + expression_size (expression_of source.now) < 2 ^ 32 }
     requires whole { start + statement_size (statement_of whole.now) < 2 ^ 32 }
     requires own { 0 < statement_size (statement_of whole.now) }
     ensures end { IfOk result (λ item. first + expression_size (expression_of source.now) ≡ item.operand.node + 1) }
     ensures kind { IfOk result (λ item. element_of (worth (globals_in table.now) (scope_of table.now visible.now) (expression_of source.now)) ≡ Some (kind_of (types_of table.now) item.kind)) }
     ensures given { IfOk result (λ item. item_given (globals_in table.now) (scope_of table.now visible.now) first (expression_of source.now) ≡ given_of (types_of table.now) item.operand) }
-    ensures none { IfOk result (λ _. (flaw : OneFlaw) → ¬ (RangedHas (globals_in table.now) (scope_of table.now visible.now) first (expression_of source.now) (start + statement_size (statement_of whole.now)) flaw)) }
+    ensures none { IfOk result (λ _. (violation : OneViolation) → ¬ (RangedHas (globals_in table.now) (scope_of table.now visible.now) first (expression_of source.now) (start + statement_size (statement_of whole.now)) violation)) }
     ensures one { IfErr result (RangedHas (globals_in table.now) (scope_of table.now visible.now) first (expression_of source.now) (start + statement_size (statement_of whole.now))) }
 {
     let operand = checked(table, visible, first, source)?;
@@ -240,11 +240,11 @@ fn may_define(
     name: &Name,
     whole: &StatementNode,
     start: NodeId,
-) -> Result<(), Flaw>
+) -> Result<(), Violation>
     requires whole { start + statement_size (statement_of whole.now) < 2 ^ 32 }
     requires own { 0 < statement_size (statement_of whole.now) }
     ensures named { IfOk result (λ _. is_blank (name_of name.now) ≡ false) }
-    ensures none { IfOk result (λ _. (flaw : OneFlaw) → ¬ (DefinedHave (scope_of table.now visible.now) (name_of name.now ∷ []) (start + statement_size (statement_of whole.now)) flaw)) }
+    ensures none { IfOk result (λ _. (violation : OneViolation) → ¬ (DefinedHave (scope_of table.now visible.now) (name_of name.now ∷ []) (start + statement_size (statement_of whole.now)) violation)) }
     ensures one { IfErr result (DefinedHave (scope_of table.now visible.now) (name_of name.now ∷ []) (start + statement_size (statement_of whole.now))) }
 {
     let bytes = name.bytes.as_slice();
@@ -274,7 +274,7 @@ fn taken<'a>(
     requires own { 0 < statement_size (statement_of whole.now) }
     ensures after { IfOk result (λ _. scope_of table.now visible.new ≡ after_target (globals_in table.now) (scope_of table.now visible.old) (Some (kind_of (types_of table.now) item.entry.kind)) (target_of target.now)) }
     ensures kept { IfOk result (λ _. Keeps visible.old visible.new) }
-    ensures none { IfOk result (λ _. (flaw : OneFlaw) → ¬ (TakenHas (globals_in table.now) (scope_of table.now visible.old) (target_of target.now) (given_of (types_of table.now) item.entry.operand) (start + statement_size (statement_of whole.now)) flaw)) }
+    ensures none { IfOk result (λ _. (violation : OneViolation) → ¬ (TakenHas (globals_in table.now) (scope_of table.now visible.old) (target_of target.now) (given_of (types_of table.now) item.entry.operand) (start + statement_size (statement_of whole.now)) violation)) }
     ensures one { IfErr result (Refuses (TakenHas (globals_in table.now) (scope_of table.now visible.old) (target_of target.now) (given_of (types_of table.now) item.entry.operand) (start + statement_size (statement_of whole.now)))) }
 {
     match target {
@@ -306,7 +306,7 @@ fn range<'a>(
     ensures end { IfOk result (λ end. end ≡ first + (target_size (target_of target.now) + expression_size (expression_of source.now))) }
     ensures after { IfOk result (λ _. scope_of table.now visible.new ≡ after_for_head (globals_in table.now) (scope_of table.now visible.old) (Range (target_of target.now) (expression_of source.now))) }
     ensures kept { IfOk result (λ _. Keeps visible.old visible.new) }
-    ensures none { IfOk result (λ _. (flaw : OneFlaw) → ¬ (ForHeadHas (globals_in table.now) (scope_of table.now visible.old) first (Range (target_of target.now) (expression_of source.now)) (first + statement_size (statement_of whole.now)) flaw)) }
+    ensures none { IfOk result (λ _. (violation : OneViolation) → ¬ (ForHeadHas (globals_in table.now) (scope_of table.now visible.old) first (Range (target_of target.now) (expression_of source.now)) (first + statement_size (statement_of whole.now)) violation)) }
     ensures one { IfErr result (Refuses (ForHeadHas (globals_in table.now) (scope_of table.now visible.old) first (Range (target_of target.now) (expression_of source.now)) (first + statement_size (statement_of whole.now)))) }
 {
     let middle = range_target(table, visible, first, target)?;
@@ -337,12 +337,12 @@ fn for_clauses<'a>(
     ensures end { IfOk result (λ end. end ≡ first + (if_any simple_size (option_map simple_of header.entry.first.now) + if_any expression_size (option_map expression_of header.entry.condition.now) + if_any simple_size (option_map simple_of header.entry.post.now))) }
     ensures after { IfOk result (λ _. scope_of table.now visible.new ≡ after_any (globals_in table.now) (scope_of table.now visible.old) (option_map simple_of header.entry.first.now)) }
     ensures kept { IfOk result (λ _. Keeps visible.old visible.new) }
-    ensures none { IfOk result (λ _. (flaw : OneFlaw) → ¬ (ForClausesHave (globals_in table.now) (scope_of table.now visible.old) first (option_map simple_of header.entry.first.now) (option_map expression_of header.entry.condition.now) (option_map simple_of header.entry.post.now) flaw)) }
+    ensures none { IfOk result (λ _. (violation : OneViolation) → ¬ (ForClausesHave (globals_in table.now) (scope_of table.now visible.old) first (option_map simple_of header.entry.first.now) (option_map expression_of header.entry.condition.now) (option_map simple_of header.entry.post.now) violation)) }
     ensures one { IfErr result (Refuses (ForClausesHave (globals_in table.now) (scope_of table.now visible.old) first (option_map simple_of header.entry.first.now) (option_map expression_of header.entry.condition.now) (option_map simple_of header.entry.post.now))) }
 {
     let middle = optional_simple(alloc, table, visible, first, header.first)?;
-    let behind = optional_test(table, visible, middle, header.condition)?;
-    post_statement(alloc, table, visible, behind, header.post)
+    let following = optional_test(table, visible, middle, header.condition)?;
+    post_statement(alloc, table, visible, following, header.post)
 }
 
 /// Checks the header of a `for`, whose nodes have numbers from `first` on, as those of the whole `for`
@@ -361,7 +361,7 @@ pub(crate) fn for_header<'a>(
     ensures end { IfOk result (λ end. end ≡ first + for_head_size (for_head_of header.now)) }
     ensures after { IfOk result (λ _. scope_of table.now visible.new ≡ after_for_head (globals_in table.now) (scope_of table.now visible.old) (for_head_of header.now)) }
     ensures kept { IfOk result (λ _. Keeps visible.old visible.new) }
-    ensures none { IfOk result (λ _. (flaw : OneFlaw) → ¬ (ForHeadHas (globals_in table.now) (scope_of table.now visible.old) first (for_head_of header.now) (first + statement_size (statement_of whole.now)) flaw)) }
+    ensures none { IfOk result (λ _. (violation : OneViolation) → ¬ (ForHeadHas (globals_in table.now) (scope_of table.now visible.old) first (for_head_of header.now) (first + statement_size (statement_of whole.now)) violation)) }
     ensures one { IfErr result (Refuses (ForHeadHas (globals_in table.now) (scope_of table.now visible.old) first (for_head_of header.now) (first + statement_size (statement_of whole.now)))) }
 {
     match header {

@@ -7,8 +7,8 @@ ghost use Rattle.syntax.specs.View.{expression_of, comm_of, returned_of, if_head
 ghost use Rattle.type_table.specs.Scopes.{entered, left};
 ghost use Rattle.type_table.specs.Views.{yield_of};
 ghost use Rattle.type_table.specs.Visible.{types_of, globals_in, scope_of, Keeps, Leaves};
-ghost use Rattle.typing_rules.specs.declared.flaw.Flaw.{Flaw as OneFlaw};
-ghost use Rattle.typing_rules.specs.Flaws.{IsBroken};
+ghost use Rattle.typing_rules.specs.declared.violation.Violation.{Violation as OneViolation};
+ghost use Rattle.typing_rules.specs.Violations.{IsBroken};
 ghost use Rattle.checker_base.specs.Views.{worth_of, Refuses};
 ghost use Rattle.typing_rules.specs.Operations.{Given};
 ghost use Rattle.typing_rules.specs.Simples.{comm_simple};
@@ -30,7 +30,7 @@ use syntax::{
 use type_table::scope::{Visible, enter, leave};
 use type_table::table::TypeTable;
 use type_table::value_type::ValueType;
-use typing_rules::flaw::Flaw;
+use typing_rules::violation::Violation;
 
 /// The context of a statement.
 #[derive(Clone, Copy)]
@@ -50,14 +50,14 @@ fn returns(
     table: &TypeTable<'_>,
     result_type: Option<ValueType<'_>>,
     operand: Operand<'_>,
-) -> Result<NodeId, Flaw>
+) -> Result<NodeId, Violation>
     requires small { operand.node + 2 < 2 ^ 32 }
     ensures end { IfOk result (λ end. end ≡ operand.entry.node + 2) }
-    ensures none { IfOk result (λ _. (g : Given) → g.worth ≡ Some (worth_of (types_of table.now) operand.entry.worth) → g.nodes.first ≡ operand.entry.first → g.nodes.end ≡ operand.entry.node + 1 → (end : ℕ) → end ≡ operand.entry.node + 2 → (flaw : OneFlaw) → ¬ (ReturnHas (yield_of (types_of table.now) result_type.entry) (Some g) end flaw)) }
-    ensures one { IfErr result (λ flaw. (g : Given) → g.worth ≡ Some (worth_of (types_of table.now) operand.entry.worth) → g.nodes.first ≡ operand.entry.first → g.nodes.end ≡ operand.entry.node + 1 → (end : ℕ) → end ≡ operand.entry.node + 2 → ReturnHas (yield_of (types_of table.now) result_type.entry) (Some g) end flaw) }
+    ensures none { IfOk result (λ _. (g : Given) → g.worth ≡ Some (worth_of (types_of table.now) operand.entry.worth) → g.nodes.first ≡ operand.entry.first → g.nodes.end ≡ operand.entry.node + 1 → (end : ℕ) → end ≡ operand.entry.node + 2 → (violation : OneViolation) → ¬ (ReturnHas (yield_of (types_of table.now) result_type.entry) (Some g) end violation)) }
+    ensures one { IfErr result (λ violation. (g : Given) → g.worth ≡ Some (worth_of (types_of table.now) operand.entry.worth) → g.nodes.first ≡ operand.entry.first → g.nodes.end ≡ operand.entry.node + 1 → (end : ℕ) → end ≡ operand.entry.node + 2 → ReturnHas (yield_of (types_of table.now) result_type.entry) (Some g) end violation) }
 {
     match result_type {
-        None => Err(Flaw::Broken(Rule::Returned, operand.node + 1)),
+        None => Err(Violation::Broken(Rule::Returned, operand.node + 1)),
         Some(kind) => {
             value(table, operand, kind)?;
             Ok(operand.node + 2)
@@ -72,16 +72,16 @@ fn return_statement<'a>(
     visible: &Visible<'a>,
     first: NodeId,
     returned: &'a ReturnNode,
-) -> Result<NodeId, Flaw>
+) -> Result<NodeId, Violation>
     requires small { first + returned_size (returned_of returned.now) + 1 < 2 ^ 32 }
     ensures end { IfOk result (λ end. end ≡ first + (returned_size (returned_of returned.now) + 1)) }
-    ensures none { IfOk result (λ _. (flaw : OneFlaw) → ¬ (ReturnStatementHas (globals_in table.now) (yield_of (types_of table.now) result_type.entry) (scope_of table.now visible.now) first (returned_of returned.now) flaw)) }
+    ensures none { IfOk result (λ _. (violation : OneViolation) → ¬ (ReturnStatementHas (globals_in table.now) (yield_of (types_of table.now) result_type.entry) (scope_of table.now visible.now) first (returned_of returned.now) violation)) }
     ensures one { IfErr result (ReturnStatementHas (globals_in table.now) (yield_of (types_of table.now) result_type.entry) (scope_of table.now visible.now) first (returned_of returned.now)) }
 {
     match returned {
         ReturnNode::Nothing => match result_type {
             None => Ok(first + 1),
-            Some(_) => Err(Flaw::Broken(Rule::Returned, first)),
+            Some(_) => Err(Violation::Broken(Rule::Returned, first)),
         },
         ReturnNode::Value(one) => {
             let operand = checked(table, visible, first, one)?;
@@ -95,13 +95,13 @@ fn return_statement<'a>(
 fn jump(may: bool, first: NodeId) -> Result<NodeId, Refusal>
     requires small { first + 1 < 2 ^ 32 }
     ensures end { IfOk result (λ end. end ≡ first + 1) }
-    ensures none { IfOk result (λ _. (flaw : OneFlaw) → ¬ ((may ≡ false) × IsBroken Rule.Branch (first + 1) flaw)) }
-    ensures one { IfErr result (Refuses (λ flaw. (may ≡ false) × IsBroken Rule.Branch (first + 1) flaw)) }
+    ensures none { IfOk result (λ _. (violation : OneViolation) → ¬ ((may ≡ false) × IsBroken Rule.Branch (first + 1) violation)) }
+    ensures one { IfErr result (Refuses (λ violation. (may ≡ false) × IsBroken Rule.Branch (first + 1) violation)) }
 {
     if may {
         Ok(first + 1)
     } else {
-        Err(Refusal::Flawed(Flaw::Broken(Rule::Branch, first)))
+        Err(Refusal::Violated(Violation::Broken(Rule::Branch, first)))
     }
 }
 
@@ -118,7 +118,7 @@ fn optional_comm<'a>(
     ensures end { IfOk result (λ end. end ≡ first + if_any comm_size (option_map comm_of optional.now)) }
     ensures after { IfOk result (λ _. scope_of table.now visible.new ≡ after_any (globals_in table.now) (scope_of table.now visible.old) (option_map comm_simple (option_map comm_of optional.now))) }
     ensures kept { IfOk result (λ _. Keeps visible.old visible.new) }
-    ensures none { IfOk result (λ _. (flaw : OneFlaw) → ¬ (IfSimpleHas (globals_in table.now) (scope_of table.now visible.old) first (option_map comm_simple (option_map comm_of optional.now)) flaw)) }
+    ensures none { IfOk result (λ _. (violation : OneViolation) → ¬ (IfSimpleHas (globals_in table.now) (scope_of table.now visible.old) first (option_map comm_simple (option_map comm_of optional.now)) violation)) }
     ensures one { IfErr result (Refuses (IfSimpleHas (globals_in table.now) (scope_of table.now visible.old) first (option_map comm_simple (option_map comm_of optional.now)))) }
 {
     match optional {
@@ -154,7 +154,7 @@ fn statement<'a>(
     ensures end { IfOk result (λ end. end ≡ first + statement_size (statement_of whole.now)) }
     ensures after { IfOk result (λ _. scope_of table.now visible.new ≡ after (globals_in table.now) (scope_of table.now visible.old) (statement_of whole.now)) }
     ensures kept { IfOk result (λ _. Keeps visible.old visible.new) }
-    ensures none { IfOk result (λ _. (flaw : OneFlaw) → ¬ (StatementHas (setting_in table.now inside.entry) (scope_of table.now visible.old) first (statement_of whole.now) flaw)) }
+    ensures none { IfOk result (λ _. (violation : OneViolation) → ¬ (StatementHas (setting_in table.now inside.entry) (scope_of table.now visible.old) first (statement_of whole.now) violation)) }
     ensures one { IfErr result (Refuses (StatementHas (setting_in table.now inside.entry) (scope_of table.now visible.old) first (statement_of whole.now))) }
 {
     match whole {
@@ -207,7 +207,7 @@ pub fn statements<'a>(
     ensures end { IfOk result (λ end. end ≡ first + statements_size (body_of body.now)) }
     ensures after { IfOk result (λ _. scope_of table.now visible.new ≡ after_all (globals_in table.now) (scope_of table.now visible.old) (body_of body.now)) }
     ensures kept { IfOk result (λ _. Keeps visible.old visible.new) }
-    ensures none { IfOk result (λ _. (flaw : OneFlaw) → ¬ (StatementsHave (setting_in table.now inside.entry) (scope_of table.now visible.old) first (body_of body.now) flaw)) }
+    ensures none { IfOk result (λ _. (violation : OneViolation) → ¬ (StatementsHave (setting_in table.now inside.entry) (scope_of table.now visible.old) first (body_of body.now) violation)) }
     ensures one { IfErr result (Refuses (StatementsHave (setting_in table.now inside.entry) (scope_of table.now visible.old) first (body_of body.now))) }
 {
     let mut end = first;
@@ -232,7 +232,7 @@ fn block<'a>(
     ensures end { IfOk result (λ end. end ≡ first + statements_size (body_of body.now)) }
     ensures after { IfOk result (λ _. scope_of table.now visible.new ≡ left (scope_of table.now visible.old) (after_all (globals_in table.now) (entered (scope_of table.now visible.old)) (body_of body.now))) }
     ensures left { IfOk result (λ _. Leaves visible.old visible.new) }
-    ensures none { IfOk result (λ _. (flaw : OneFlaw) → ¬ (StatementsHave (setting_in table.now inside.entry) (entered (scope_of table.now visible.old)) first (body_of body.now) flaw)) }
+    ensures none { IfOk result (λ _. (violation : OneViolation) → ¬ (StatementsHave (setting_in table.now inside.entry) (entered (scope_of table.now visible.old)) first (body_of body.now) violation)) }
     ensures one { IfErr result (Refuses (StatementsHave (setting_in table.now inside.entry) (entered (scope_of table.now visible.old)) first (body_of body.now))) }
 {
     let count = visible.entries.len();
@@ -258,7 +258,7 @@ fn if_statement<'a>(
     ensures end { IfOk result (λ end. end ≡ first + branch_size (branch_of branch.now)) }
     ensures after { IfOk result (λ _. scope_of table.now visible.new ≡ left (scope_of table.now visible.old) (after_parts (globals_in table.now) (entered (scope_of table.now visible.old)) (if_head_of branch.now.header) (body_of branch.now.body.items) (otherwise_of branch.now.otherwise))) }
     ensures left { IfOk result (λ _. Leaves visible.old visible.new) }
-    ensures none { IfOk result (λ _. (flaw : OneFlaw) → ¬ (PartsHave (setting_in table.now inside.entry) (entered (scope_of table.now visible.old)) first (if_head_of branch.now.header) (expression_of branch.now.condition) (body_of branch.now.body.items) (otherwise_of branch.now.otherwise) flaw)) }
+    ensures none { IfOk result (λ _. (violation : OneViolation) → ¬ (PartsHave (setting_in table.now inside.entry) (entered (scope_of table.now visible.old)) first (if_head_of branch.now.header) (expression_of branch.now.condition) (body_of branch.now.body.items) (otherwise_of branch.now.otherwise) violation)) }
     ensures one { IfErr result (Refuses (PartsHave (setting_in table.now inside.entry) (entered (scope_of table.now visible.old)) first (if_head_of branch.now.header) (expression_of branch.now.condition) (body_of branch.now.body.items) (otherwise_of branch.now.otherwise))) }
 {
     let count = visible.entries.len();
@@ -284,7 +284,7 @@ fn if_parts<'a>(
     ensures end { IfOk result (λ node. node + 1 ≡ first + branch_size (branch_of branch.now)) }
     ensures after { IfOk result (λ _. scope_of table.now visible.new ≡ after_parts (globals_in table.now) (scope_of table.now visible.old) (if_head_of branch.now.header) (body_of branch.now.body.items) (otherwise_of branch.now.otherwise)) }
     ensures kept { IfOk result (λ _. Keeps visible.old visible.new) }
-    ensures none { IfOk result (λ _. (flaw : OneFlaw) → ¬ (PartsHave (setting_in table.now inside.entry) (scope_of table.now visible.old) first (if_head_of branch.now.header) (expression_of branch.now.condition) (body_of branch.now.body.items) (otherwise_of branch.now.otherwise) flaw)) }
+    ensures none { IfOk result (λ _. (violation : OneViolation) → ¬ (PartsHave (setting_in table.now inside.entry) (scope_of table.now visible.old) first (if_head_of branch.now.header) (expression_of branch.now.condition) (body_of branch.now.body.items) (otherwise_of branch.now.otherwise) violation)) }
     ensures one { IfErr result (Refuses (PartsHave (setting_in table.now inside.entry) (scope_of table.now visible.old) first (if_head_of branch.now.header) (expression_of branch.now.condition) (body_of branch.now.body.items) (otherwise_of branch.now.otherwise))) }
 {
     let start = guard(
@@ -295,8 +295,15 @@ fn if_parts<'a>(
         &branch.header,
         &branch.condition,
     )?;
-    let behind = block(alloc, table, inside, visible, start, branch.body.as_slice())?;
-    otherwise(alloc, table, inside, visible, behind + 1, &branch.otherwise)
+    let following = block(alloc, table, inside, visible, start, branch.body.as_slice())?;
+    otherwise(
+        alloc,
+        table,
+        inside,
+        visible,
+        following + 1,
+        &branch.otherwise,
+    )
 }
 
 /// Checks what comes after the block of an `if`, and returns the number after its nodes.
@@ -313,7 +320,7 @@ fn otherwise<'a>(
     ensures end { IfOk result (λ end. end ≡ first + otherwise_size (otherwise_of otherwise.now)) }
     ensures after { IfOk result (λ _. scope_of table.now visible.new ≡ after_otherwise (globals_in table.now) (scope_of table.now visible.old) (otherwise_of otherwise.now)) }
     ensures left { IfOk result (λ _. Leaves visible.old visible.new) }
-    ensures none { IfOk result (λ _. (flaw : OneFlaw) → ¬ (OtherwiseHas (setting_in table.now inside.entry) (scope_of table.now visible.old) first (otherwise_of otherwise.now) flaw)) }
+    ensures none { IfOk result (λ _. (violation : OneViolation) → ¬ (OtherwiseHas (setting_in table.now inside.entry) (scope_of table.now visible.old) first (otherwise_of otherwise.now) violation)) }
     ensures one { IfErr result (Refuses (OtherwiseHas (setting_in table.now inside.entry) (scope_of table.now visible.old) first (otherwise_of otherwise.now))) }
 {
     match otherwise {
@@ -344,7 +351,7 @@ fn for_statement<'a>(
     ensures end { IfOk result (λ end. end ≡ first + statement_size (For (for_head_of header.now) (body_of body.now))) }
     ensures after { IfOk result (λ _. scope_of table.now visible.new ≡ after (globals_in table.now) (scope_of table.now visible.old) (For (for_head_of header.now) (body_of body.now))) }
     ensures left { IfOk result (λ _. Leaves visible.old visible.new) }
-    ensures none { IfOk result (λ _. (flaw : OneFlaw) → ¬ (StatementHas (setting_in table.now inside.entry) (scope_of table.now visible.old) first (For (for_head_of header.now) (body_of body.now)) flaw)) }
+    ensures none { IfOk result (λ _. (violation : OneViolation) → ¬ (StatementHas (setting_in table.now inside.entry) (scope_of table.now visible.old) first (For (for_head_of header.now) (body_of body.now)) violation)) }
     ensures one { IfErr result (Refuses (StatementHas (setting_in table.now inside.entry) (scope_of table.now visible.old) first (For (for_head_of header.now) (body_of body.now)))) }
 {
     let count = visible.entries.len();
@@ -378,7 +385,7 @@ fn select<'a>(
     ensures end { IfOk result (λ end. end ≡ first + statement_size (Select (clauses (map clause_of all.now)))) }
     ensures after { IfOk result (λ _. scope_of table.now visible.new ≡ after_clauses (globals_in table.now) (scope_of table.now visible.old) (clauses (map clause_of all.now))) }
     ensures left { IfOk result (λ _. Leaves visible.old visible.new) }
-    ensures none { IfOk result (λ _. (flaw : OneFlaw) → ¬ (StatementHas (setting_in table.now inside.entry) (scope_of table.now visible.old) first (Select (clauses (map clause_of all.now))) flaw)) }
+    ensures none { IfOk result (λ _. (violation : OneViolation) → ¬ (StatementHas (setting_in table.now inside.entry) (scope_of table.now visible.old) first (Select (clauses (map clause_of all.now))) violation)) }
     ensures one { IfErr result (Refuses (StatementHas (setting_in table.now inside.entry) (scope_of table.now visible.old) first (Select (clauses (map clause_of all.now))))) }
 {
     let mut end = first;
@@ -386,7 +393,7 @@ fn select<'a>(
     for one in all {
         defaults = with_clause(defaults, one);
         if defaults > 1 {
-            return Err(Refusal::Flawed(broken_at(whole, first, Rule::OneDefault)));
+            return Err(Refusal::Violated(broken_at(whole, first, Rule::OneDefault)));
         }
         end = clause(alloc, table, inside, visible, end, one)?;
     }
@@ -407,7 +414,7 @@ fn clause<'a>(
     ensures end { IfOk result (λ end. end ≡ first + (if_any comm_size (clause_of one.now).comm + statements_size (clause_of one.now).body + 1)) }
     ensures after { IfOk result (λ _. scope_of table.now visible.new ≡ left (scope_of table.now visible.old) (after_clause (globals_in table.now) (entered (scope_of table.now visible.old)) (clause_of one.now).comm (clause_of one.now).body)) }
     ensures left { IfOk result (λ _. Leaves visible.old visible.new) }
-    ensures none { IfOk result (λ _. (flaw : OneFlaw) → ¬ (ClauseHas (setting_in table.now inside.entry) (entered (scope_of table.now visible.old)) first (clause_of one.now).comm (clause_of one.now).body flaw)) }
+    ensures none { IfOk result (λ _. (violation : OneViolation) → ¬ (ClauseHas (setting_in table.now inside.entry) (entered (scope_of table.now visible.old)) first (clause_of one.now).comm (clause_of one.now).body violation)) }
     ensures one { IfErr result (Refuses (ClauseHas (setting_in table.now inside.entry) (entered (scope_of table.now visible.old)) first (clause_of one.now).comm (clause_of one.now).body)) }
 {
     let count = visible.entries.len();
@@ -433,13 +440,20 @@ fn clause_parts<'a>(
     ensures end { IfOk result (λ end. end ≡ first + (if_any comm_size (clause_of one.now).comm + statements_size (clause_of one.now).body)) }
     ensures after { IfOk result (λ _. scope_of table.now visible.new ≡ after_clause (globals_in table.now) (scope_of table.now visible.old) (clause_of one.now).comm (clause_of one.now).body) }
     ensures kept { IfOk result (λ _. Keeps visible.old visible.new) }
-    ensures none { IfOk result (λ _. (flaw : OneFlaw) → ¬ (ClauseHas (setting_in table.now inside.entry) (scope_of table.now visible.old) first (clause_of one.now).comm (clause_of one.now).body flaw)) }
+    ensures none { IfOk result (λ _. (violation : OneViolation) → ¬ (ClauseHas (setting_in table.now inside.entry) (scope_of table.now visible.old) first (clause_of one.now).comm (clause_of one.now).body violation)) }
     ensures one { IfErr result (Refuses (ClauseHas (setting_in table.now inside.entry) (scope_of table.now visible.old) first (clause_of one.now).comm (clause_of one.now).body)) }
 {
-    let behind = optional_comm(alloc, table, visible, first, &one.comm)?;
+    let following = optional_comm(alloc, table, visible, first, &one.comm)?;
     let within = Inside {
         breaks: true,
         ..inside
     };
-    statements(alloc, table, within, visible, behind, one.body.as_slice())
+    statements(
+        alloc,
+        table,
+        within,
+        visible,
+        following,
+        one.body.as_slice(),
+    )
 }

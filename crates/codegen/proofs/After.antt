@@ -1,4 +1,4 @@
--- Behind each statement in which nothing is wrong, the layout has the variables that the typing rules see.
+-- After each statement in which nothing is wrong, the layout has the variables that the typing rules see.
 use Rattle.std.proofs.Common.{◌≡◌, ℕ, ◌+◌, ◌≤◌, ◌||◌, List, [], ◌∷◌, length, drop, Option, Some, None, IfSome, refl, sym, ap, ◌∙◌, subst, arith, inl, inr, sum_by}
 use Rattle.std.specs.Prelude.{if◌then◌else◌}
 use Rattle.std.specs.Option.{is_some}
@@ -25,20 +25,20 @@ use Rattle.codegen_base.proofs.Static.{AllKnown, Nested, IsPlaced, variables_kno
 use Rattle.codegen_base.proofs.Typing.{Free, broken}
 use Rattle.codegen_follows.proofs.Stands.{View, scope_of, variables, Fine, SimpleMakes, ValuesMake}
 use Rattle.codegen_follows.proofs.Grown.{grown}
-use Rattle.codegen_follows.proofs.Begun.{FineBehind}
+use Rattle.codegen_follows.proofs.Begun.{FineAfter}
 use Rattle.codegen_follows.proofs.Defined.{given_same}
 use Rattle.codegen_fine.proofs.Layouts.{own_same}
 use Rattle.codegen_fine.proofs.Variables.{three_false, not_true, new_by, alike_values, all_each, variables_are}
 use Rattle.codegen.proofs.Given.{AllWell, right_well}
 use Rattle.codegen_fine.proofs.Makes.{written as type_there, written_noted}
-use Rattle.codegen.proofs.Behind.{Good, good_all}
+use Rattle.codegen.proofs.Following.{Good, good_all}
 
 -- ---- selects keep the variables that are visible
 
 -- a layout with the same variables in the same blocks
-record Kept (layout behind : Layout) : Type 0 where
-  variables : behind.scope.variables ≡ layout.scope.variables
-  outer : behind.scope.outer ≡ layout.scope.outer
+record Kept (layout following : Layout) : Type 0 where
+  variables : following.scope.variables ≡ layout.scope.variables
+  outer : following.scope.outer ≡ layout.scope.outer
 
 kept_on : (a b c : Layout) → Kept a b → Kept b c → Kept a c
 kept_on a b c g h = record { variables = h.variables ∙ g.variables; outer = h.outer ∙ g.outer }
@@ -55,7 +55,7 @@ alike_kept s t u variables outer a =
     }
 
 module _ (globals : Globals) (elements : List Element) (result : Yield) where
-  kept_ways : (site : Site) (default : Site → Option Made) (clauses : Clauses) → ((behind : Site) → IfSome (default behind) (λ m. Kept behind.layout m.layout)) → IfSome (made_ways globals elements result site default clauses) (λ m. Kept site.layout m.layout)
+  kept_ways : (site : Site) (default : Site → Option Made) (clauses : Clauses) → ((following : Site) → IfSome (default following) (λ m. Kept following.layout m.layout)) → IfSome (made_ways globals elements result site default clauses) (λ m. Kept site.layout m.layout)
   kept_ways site default NoClause d = d site
   kept_ways site default (Clause None body more) d = kept_ways site default more d
   kept_ways site default (Clause (Some comm) body more) d =
@@ -73,7 +73,7 @@ module _ (globals : Globals) (elements : List Element) (result : Yield) where
 
   kept_select : (site : Site) (clauses : Clauses) → Kept site.layout (made globals elements result site (Select clauses)).layout
   kept_select site clauses =
-      go (made_ways globals elements result (within_select globals elements result site) (λ behind. made_default globals elements result behind clauses) clauses) (kept_ways (within_select globals elements result site) (λ behind. made_default globals elements result behind clauses) clauses (λ behind. kept_default behind clauses)) where
+      go (made_ways globals elements result (within_select globals elements result site) (λ following. made_default globals elements result following clauses) clauses) (kept_ways (within_select globals elements result site) (λ following. made_default globals elements result following clauses) clauses (λ following. kept_default following clauses)) where
         go : (o : Option Made) → IfSome o (λ m. Kept site.layout m.layout) → Kept site.layout (made_select globals elements result site clauses o).layout
         go None g = record { variables = refl; outer = refl }
         go (Some m) g = g
@@ -125,14 +125,14 @@ module _ {globals : Globals} {program : Compiled globals} (coded : Coded program
   define_fine : (view : View) (names : List (List ℕ)) (right : List Expression) (first : ℕ) → IsFine view → Free (SimpleHas G view.checked first (Define names right)) → ValuesMake globals elements right → IsFine (past_one view (Alone (Define names right)))
   define_fine view names right first fine free makes =
       let g = named_good view names right fine
-      (right_well program view.checked (scope_of view) (variables_known view.checked (scope_of view) fine.alike fine.placed.known) fine.alike fine.noted names right first (first + sum_by expression_size right + 1) (omega arith) makes (λ flaw h. free flaw (inl h)) (λ flaw h. free flaw (inr (inl h))) (λ flaw h. free flaw (inr (inr (inr h))))) in
+      (right_well program view.checked (scope_of view) (variables_known view.checked (scope_of view) fine.alike fine.placed.known) fine.alike fine.noted names right first (first + sum_by expression_size right + 1) (omega arith) makes (λ violation h. free violation (inl h)) (λ violation h. free violation (inr (inl h))) (λ violation h. free violation (inr (inr (inr h))))) in
       record { placed = g.placed; alike = g.alike; noted = g.noted }
 
   untyped_fine : (view : View) (names : List (List ℕ)) (right : List Expression) (first : ℕ) → IsFine view → Free (UntypedVariablesHave G view.checked first names right) → ValuesMake globals elements right → IsFine (past_one view (VarUntyped names right))
   untyped_fine view names right first fine free makes =
       let g = named_good view names right fine
-      (right_well program view.checked (scope_of view) (variables_known view.checked (scope_of view) fine.alike fine.placed.known) fine.alike fine.noted names right first (first + sum_by expression_size right + 1) (omega arith) makes (λ flaw h. free flaw (inl h)) (λ flaw h. free flaw (inr (inl h)))
-      (untyped_names view.checked names (given G view.checked (length names) first right) (first + sum_by expression_size right + 1) (omega arith) (λ flaw h. free flaw (inr h)))) in
+      (right_well program view.checked (scope_of view) (variables_known view.checked (scope_of view) fine.alike fine.placed.known) fine.alike fine.noted names right first (first + sum_by expression_size right + 1) (omega arith) makes (λ violation h. free violation (inl h)) (λ violation h. free violation (inr (inl h)))
+      (untyped_names view.checked names (given G view.checked (length names) first right) (first + sum_by expression_size right + 1) (omega arith) (λ violation h. free violation (inr h)))) in
       record { placed = g.placed; alike = g.alike; noted = g.noted }
 
   alike_well : (s : Scope) (names : List (List ℕ)) (kind : ValueType) → Noted elements kind → AllWell elements s names (alike_values names kind)
@@ -142,7 +142,7 @@ module _ {globals : Globals} {program : Compiled globals} (coded : Coded program
   typed_fine : (view : View) (names : List (List ℕ)) (written : TypeExpression) (right : Option (List Expression)) (first : ℕ) → IsFine view → Free (TypedVariablesHave G view.checked first names written right) → Noted elements (known (type_in G.types nothing_declared written)) → IsFine (past_one view (VarTyped names written right))
   typed_fine view names written right first fine free noted =
       let s = view.checked in
-      let (kind, is) = type_there G.types s written first (λ flaw h. free flaw (inl h)) in
+      let (kind, is) = type_there G.types s written first (λ violation h. free violation (inl h)) in
       let own = written_noted G.types elements s written kind noted is in
       let end = first + type_size written + if_any (sum_by expression_size) right + 1 in
       let b = broken rules.Declared end (omega arith) in
@@ -186,7 +186,7 @@ module _ {globals : Globals} {program : Compiled globals} (coded : Coded program
       let b = alike_kept (scope_of next) view.checked next.checked checked checked-outer (alike_sym view.checked (scope_of next) a) in
       fine_left view next refl same outer ((grown G elements result view.site s).words) (alike_sym (scope_of next) next.checked b) fine
 
-  pub fine_after : FineBehind coded
+  pub fine_after : FineAfter coded
   fine_after view Empty first b c fine free makes = same_fine view (past_one view Empty) refl refl refl fine
   fine_after view (Alone simple) first b c fine free makes = simple_fine view simple first fine free makes
   fine_after view (VarTyped names kind right) first b c fine free makes = typed_fine view names kind right first fine free makes.0

@@ -30,8 +30,8 @@ use Rattle.codegen_base.proofs.Running.{Compiled, Coded}
 use Rattle.codegen_base.proofs.Seen.{seen}
 use Rattle.codegen_base.proofs.Static.{Holding}
 use Rattle.codegen_follows.proofs.Stands.{nowhere, View, variables, Fine, IsOn, LeadsOn, Fits, Sits, Live}
-use Rattle.codegen_follows.proofs.Begun.{FineBehind, parts, sits_all, SitsSoon}
-use Rattle.codegen_follows.proofs.Matching.{SitsBehind}
+use Rattle.codegen_follows.proofs.Begun.{FineAfter, parts, sits_all, SitsSoon}
+use Rattle.codegen_follows.proofs.Matching.{SitsAfter}
 use Rattle.codegen_fine.proofs.Operands.{Grounds}
 use Rattle.codegen_fine.proofs.Places.{housed_of}
 use Rattle.codegen_fine.proofs.Layouts.{longer_no, Begins, begins_before}
@@ -44,7 +44,7 @@ use Rattle.codegen_fine.proofs.Signatures.{parameters_locals}
 use Rattle.codegen.proofs.Located.{Located}
 use Rattle.codegen.proofs.Passed.{arguments_fitted, fitted_length, passed}
 
-module _ (file : File) (program : Compiled (globals file)) (grounds : Grounds (globals file) program.elements program.code) (fine_behind : (coded : Coded program) → FineBehind coded) where
+module _ (file : File) (program : Compiled (globals file)) (grounds : Grounds (globals file) program.elements program.code) (fine_following : (coded : Coded program) → FineAfter coded) where
   open program use {elements, code}
 
   module _ (n : ℕ) (source : Option Function) (head : Option Signature) (L : Located (globals file) elements code grounds source (slice_get code.functions n) head) (declared : result_of (globals file) n ≡ made_result (globals file) elements L.function) where
@@ -100,7 +100,7 @@ module _ (file : File) (program : Compiled (globals file)) (grounds : Grounds (g
       holding : Holding (globals file).structs (locals vs) (variables view)
 
     soon_ready : (vs : List Value) → seen (globals file).structs (locals vs) (variables view) [] ≡ bound (globals file) fields vs (entered []) → Holding (globals file).structs (locals vs) (variables view)
-        → SitsSoon coded (fine_behind coded) view nowhere (Some 0) (all_of function.body ++ []) → Ready vs
+        → SitsSoon coded (fine_following coded) view nowhere (Some 0) (all_of function.body ++ []) → Ready vs
     soon_ready vs seen-is holding (None, lead, sits) = absurd lead
     soon_ready vs seen-is holding (Some place, lead, sits) = record { place = place; leads = lead; sits = sits; seen_is = seen-is; holding = holding }
 
@@ -115,7 +115,7 @@ module _ (file : File) (program : Compiled (globals file)) (grounds : Grounds (g
         let whole : Begins f m.layout = record { more = []; is = sym (append-nil m.layout.locals) } in
         let (room, alike) = parameters_fit G elements code grounds f fields empty nothing_declared L.fine.takes (record { housed = tt; words = refl; there = λ n k e. absurd cc }) (alike_refl nothing_declared (omega arith)) (begins_before f start m.layout longer whole) in
         let made = all_make G elements function.body L.some L.fine.still L.grows in
-        let b = typed_body G elements code f grounds result yields function.body site (parameters G function) _ room alike L.fine.still (λ flaw h. L.free flaw (inl h)) made (record { begins = whole; prints = L.tables_are }) in
+        let b = typed_body G elements code f grounds result yields function.body site (parameters G function) _ room alike L.fine.still (λ violation h. L.free violation (inl h)) made (record { begins = whole; prints = L.tables_are }) in
         let tab = tabled code.selects m.plan 0 L.selects L.rest (numbered_body G elements result function.body site) L.selects_are in
         let on = function_on code f m.plan [] tab refl (b.runs 0 tab) b.ends in
         let enough = b.room.words in
@@ -129,15 +129,15 @@ module _ (file : File) (program : Compiled (globals file)) (grounds : Grounds (g
           breaks = false;
           continues = false;
           fine = fine;
-          good = λ flaw h. L.free flaw (inl h);
+          good = λ violation h. L.free violation (inl h);
           makes = made;
           on = p.on;
           fits = p.fits;
         } in
-        soon_ready vs arrived.seen_is arrived.holding (sits_all coded (fine_behind coded) function.body view nowhere (Some 0) p.mid [] live tt (λ last t. end_sits p.mid p.others last))
+        soon_ready vs arrived.seen_is arrived.holding (sits_all coded (fine_following coded) function.body view nowhere (Some 0) p.mid [] live tt (λ last t. end_sits p.mid p.others last))
 
     -- whoever waits for it, it sits at the beginning of its code
-    pub begins_sits : (vs : List Value) → AreLike (globals file).structs types vs → (callers : CodeFrames) → SitsBehind file program n (entered_with (globals file) function vs) callers (begun f.locals n (all_words_of vs) ∷ callers)
+    pub begins_sits : (vs : List Value) → AreLike (globals file).structs types vs → (callers : CodeFrames) → SitsAfter file program n (entered_with (globals file) function vs) callers (begun f.locals n (all_words_of vs) ∷ callers)
     begins_sits vs like callers =
         let r = ready vs like in
         record {

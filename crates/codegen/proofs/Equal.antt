@@ -24,8 +24,8 @@ use Rattle.plan.specs.Plan.{table_count}
 use Rattle.syntax.specs.Grammar.{FormedTops}
 use Rattle.codegen_fine.proofs.Main.{first_place, position_is, named_main, label_same, free_of}
 use Rattle.codegen_base.proofs.Near.{Near}
-use Rattle.codegen_follows.proofs.Matching.{SitsBehind, near_match}
-use Rattle.codegen.proofs.Programs.{program, fine_behind, all_entered, all_started, starts_near}
+use Rattle.codegen_follows.proofs.Matching.{SitsAfter, near_match}
+use Rattle.codegen.proofs.Programs.{program, fine_following, all_entered, all_started, starts_near}
 
 -- ---- the main function
 
@@ -70,9 +70,9 @@ module _ (file : File) (free : Free (FileHas file)) (still : FormedTops file.top
       let n = main.number in
       let source : number_of (globals file) (codes "main") ≡ n = ap (λ o. unwrap_or o 0) main.first in
       let target : unwrap_or (main_of (code_of file).functions) 0 ≡ n = ap (λ o. unwrap_or o 0) (code_main file ∙ main.first) in
-      let R = Near file (program file free still) (SitsBehind file (program file free still)) in
+      let R = Near file (program file free still) (SitsAfter file (program file free still)) in
       equal (source_kind file) (code_kind (code_of file)) R weight
-      (near_match file (program file free still) (fine_behind file free still) (all_entered file free still) (all_started file free still))
+      (near_match file (program file free still) (fine_following file free still) (all_entered file free still) (all_started file free still))
       (source_falls file)
       (subst (λ k. R (begun file (slice_get (functions file) k) []) (code_begin (code_of file) (unwrap_or (main_of (code_of file).functions) 0) [])) (sym source)
       (subst (λ k. R (begun file (slice_get (functions file) n) []) (code_begin (code_of file) k [])) (sym target) (starts_near file free still (codes "main") n main.first main.plain)))

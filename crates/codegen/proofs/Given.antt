@@ -40,16 +40,16 @@ module _ {globals : Globals} (program : Compiled globals) (s scope : Scope) (var
 
   value_well : (e : Expression) (second : ℕ) → Free (ExpressionHas globals s second e) → OneMakes globals elements e → Free (DefaultHas (worth globals s e) (nodes_of second e)) → Well elements (default_type (worth globals s e))
   value_well e second free makes goes =
-      let w = worth_there globals s program.types_known variables e second free in subst (λ o. Well elements (default_type o)) (sym w.1) (go w.0 w.1 (λ flaw h. goes flaw (subst (λ o. DefaultHas o (nodes_of second e) flaw) (sym w.1) h))) where
+      let w = worth_there globals s program.types_known variables e second free in subst (λ o. Well elements (default_type o)) (sym w.1) (go w.0 w.1 (λ violation h. goes violation (subst (λ o. DefaultHas o (nodes_of second e) violation) (sym w.1) h))) where
         go : (w : Worth) → worth globals s e ≡ Some w → Free (DefaultHas (Some w) (nodes_of second e)) → Well elements (default_type (Some w))
         go (Typed t) is goes = (refl, worth_noted elements globals program.fields_noted program.results_noted scope noted e makes t (sym (worth_alike s scope alike globals e) ∙ is))
         go (Constant z) is goes = (refl, tt)
         go Nil is goes = let b = broken rules.Nil ((nodes_of second e).first + 1) (omega arith) in absurd (goes b.0 b.1)
 
   goes_new : (name : List ℕ) (value : Given) → Free (GoesHas (is_none (own_variable s name)) value (kind_of (own_variable s name))) → is_declarable s name ≡ true → Free (DefaultHas value.worth value.nodes)
-  goes_new name value goes declarable flaw h =
+  goes_new name value goes declarable violation h =
       let d = declarable_parts s name declarable in
-      goes flaw (subst (λ (o : Option Variable). GoesHas (is_none o) value (kind_of o) flaw) (sym d.1) h)
+      goes violation (subst (λ (o : Option Variable). GoesHas (is_none o) value (kind_of o) violation) (sym d.1) h)
 
   values_well : (names : List (List ℕ)) (es : List Expression) (second n : ℕ) → length es ≡ length names → Free (ExpressionsHave globals s second (expressions es)) → ValuesMake globals elements es → Free (NamesFail s names (given_values globals s second es)) → AllWell elements s names (given_values globals s n es)
   values_well [] [] second n many free makes goes = tt
@@ -57,8 +57,8 @@ module _ {globals : Globals} (program : Compiled globals) (s scope : Scope) (var
   values_well (name ∷ names) [] second n many free makes goes = absurd cc
   values_well (name ∷ names) (e ∷ es) second n many free makes goes =
       let left : suc (length es) ≡ suc (length names) = many in (
-        λ declarable. value_well e second (λ flaw h. free flaw (inl h)) makes.0 (goes_new name (record { worth = worth globals s e; nodes = nodes_of second e }) (λ flaw h. goes flaw (inl h)) declarable),
-        values_well names es (second + expression_size e) (n + expression_size e) (omega (arith, left)) (λ flaw h. free flaw (inr h)) makes.1 (λ flaw h. goes flaw (inr h)),
+        λ declarable. value_well e second (λ violation h. free violation (inl h)) makes.0 (goes_new name (record { worth = worth globals s e; nodes = nodes_of second e }) (λ violation h. goes violation (inl h)) declarable),
+        values_well names es (second + expression_size e) (n + expression_size e) (omega (arith, left)) (λ violation h. free violation (inr h)) makes.1 (λ violation h. goes violation (inr h)),
       )
 
   -- one receive for two names
@@ -68,7 +68,7 @@ module _ {globals : Globals} (program : Compiled globals) (s scope : Scope) (var
   both_well (item ∷ []) channel first many makes free goes = absurd (omega (arith, many))
   both_well (item ∷ (ok ∷ (other ∷ more))) channel first many makes free goes = absurd (omega (arith, many))
   both_well (item ∷ (ok ∷ [])) channel first many makes free goes = (
-    λ declarable. value_well (Receive channel) first (λ flaw h. free flaw (inl h)) makes.0 (goes_new item (record { worth = worth globals s (Receive channel); nodes = nodes_of first (Receive channel) }) (λ flaw h. goes flaw (inl h)) declarable),
+    λ declarable. value_well (Receive channel) first (λ violation h. free violation (inl h)) makes.0 (goes_new item (record { worth = worth globals s (Receive channel); nodes = nodes_of first (Receive channel) }) (λ violation h. goes violation (inl h)) declarable),
     (λ declarable. (refl, tt), tt),
   )
 
@@ -80,10 +80,10 @@ module _ {globals : Globals} (program : Compiled globals) (s scope : Scope) (var
     go (inl (channel, two, is)) =
         subst (λ n. AllWell elements s names (given globals s n 0 right)) (sym two)
         (subst (λ (l : List Expression). AllWell elements s names (given globals s (suc (suc zero)) 0 l)) (sym is)
-        (both_well names channel first two (subst (ValuesMake globals elements) is makes) (λ flaw h. free flaw (subst (λ (l : List Expression). RightHas globals s first l flaw) (sym is) h))
-        (λ flaw h. goes flaw (subst (λ n. NamesFail s names (given globals s n first right) flaw) (sym two) (subst (λ (l : List Expression). NamesFail s names (given globals s (suc (suc zero)) first l) flaw) (sym is) h)))))
+        (both_well names channel first two (subst (ValuesMake globals elements) is makes) (λ violation h. free violation (subst (λ (l : List Expression). RightHas globals s first l violation) (sym is) h))
+        (λ violation h. goes violation (subst (λ n. NamesFail s names (given globals s n first right) violation) (sym two) (subst (λ (l : List Expression). NamesFail s names (given globals s (suc (suc zero)) first l) violation) (sym is) h)))))
     go (inr plain) =
         let seen = plain_given globals s (length names) first right plain in
         let many = same_count (length (given globals s (length names) first right)) (length names) end le numbers in
         subst (λ (l : List Given). AllWell elements s names l) (sym (plain_given globals s (length names) 0 right plain))
-        (values_well names right first 0 (sym (given_long globals s first right) ∙ sym (ap length seen) ∙ many) free makes (λ flaw h. goes flaw (subst (λ (l : List Given). NamesFail s names l flaw) (sym seen) h)))
+        (values_well names right first 0 (sym (given_long globals s first right) ∙ sym (ap length seen) ∙ many) free makes (λ violation h. goes violation (subst (λ (l : List Given). NamesFail s names l violation) (sym seen) h)))

@@ -15,9 +15,9 @@ use Rattle.codegen.specs.Codes.{HasKnownResult, IsKnown}
 
 module _ (globals : Globals) (elements : List Element) where
   -- parameters after others
-  parameters_behind : (first rest : List Field) (layout : Layout) → with_parameters globals elements (first ++ rest) layout ≡ with_parameters globals elements rest (with_parameters globals elements first layout)
-  parameters_behind [] rest layout = refl
-  parameters_behind (field ∷ first) rest layout = parameters_behind first rest (declaring globals elements (known field.kind) field.name layout)
+  parameters_after : (first rest : List Field) (layout : Layout) → with_parameters globals elements (first ++ rest) layout ≡ with_parameters globals elements rest (with_parameters globals elements first layout)
+  parameters_after [] rest layout = refl
+  parameters_after (field ∷ first) rest layout = parameters_after first rest (declaring globals elements (known field.kind) field.name layout)
 
   -- parameters of a type that is not known are ints
   same_fields : (o : Option ValueType) (names : List (List ℕ)) (rest : List Field) (layout : Layout) → with_parameters globals elements (all_fields (Some (known o)) names ++ rest) layout ≡ with_parameters globals elements (all_fields o names ++ rest) layout
@@ -27,10 +27,10 @@ module _ (globals : Globals) (elements : List Element) where
   -- a group of parameters of one type, and those after it
   pub parameters_grouped : (types : List (List ℕ)) (group : Declared) (rest : List Declared) (kind : ValueType) (names : List (List ℕ)) (l0 l1 l2 : Layout) → kind ≡ known (type_in types nothing_declared group.type_expression) → names ≡ group.names
       → l1 ≡ with_parameters globals elements (all_fields (Some kind) names) l0 → l2 ≡ with_parameters globals elements (fields_declared types rest) l1 → l2 ≡ with_parameters globals elements (fields_declared types (group ∷ rest)) l0
-  parameters_grouped types group rest kind names l0 l1 l2 of are first behind =
-      behind
+  parameters_grouped types group rest kind names l0 l1 l2 of are first following =
+      following
       ∙ ap (with_parameters globals elements (fields_declared types rest)) first
-      ∙ sym (parameters_behind (all_fields (Some kind) names) (fields_declared types rest) l0)
+      ∙ sym (parameters_after (all_fields (Some kind) names) (fields_declared types rest) l0)
       ∙ ap (λ n. with_parameters globals elements (all_fields (Some kind) n ++ fields_declared types rest) l0) are
       ∙ ap (λ k. with_parameters globals elements (all_fields (Some k) group.names ++ fields_declared types rest) l0) of
       ∙ same_fields (type_in types nothing_declared group.type_expression) group.names (fields_declared types rest) l0

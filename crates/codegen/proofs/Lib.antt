@@ -1,5 +1,5 @@
 pub mod Given
-pub mod Behind
+pub mod Following
 pub mod After
 pub mod Located
 pub mod Passed

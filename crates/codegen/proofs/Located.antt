@@ -12,7 +12,7 @@ use Rattle.codegen_base.specs.Program.{noting_any, noting_declared, noting_state
 use Rattle.codegen_base.proofs.Noted.{Grows, grows_no, grows_on}
 use Rattle.codegen_base.proofs.Typing.{Free}
 use Rattle.plan.specs.Plan.{tables, table_count}
-use Rattle.plan.proofs.Lists.{behind}
+use Rattle.plan.proofs.Lists.{following}
 use Rattle.plan.proofs.Tables.{tables_size}
 use Rattle.codegen_fine.proofs.Operands.{Grounds}
 use Rattle.codegen_fine.proofs.Simples.{Prints}
@@ -47,7 +47,7 @@ module _ (globals : Globals) (elements : List Element) (code : Code) (grounds : 
       → Located (slice_get (functions_in tops) n) (slice_get (functions_code globals elements prints selects tops) n) (slice_get (signatures globals.types tops) n)
   all_located [] prints selects first fine free all grows tables-of selects-of n lt = absurd (omega (arith, lt))
   all_located (StructTop struct ∷ rest) prints selects first fine free all grows tables-of selects-of n lt =
-      all_located rest prints selects (first + top_size (StructTop struct)) fine (λ flaw h. free flaw (inr h)) (noting_top globals.types (StructTop struct) all) grows tables-of selects-of n lt
+      all_located rest prints selects (first + top_size (StructTop struct)) fine (λ violation h. free violation (inr h)) (noting_top globals.types (StructTop struct) all) grows tables-of selects-of n lt
   all_located (FunctionTop function ∷ rest) prints selects first fine free all grows tables-of selects-of zero lt =
       let m = made_function globals elements prints selects function in
       let noted = noting_top globals.types (FunctionTop function) all in
@@ -62,7 +62,7 @@ module _ (globals : Globals) (elements : List Element) (code : Code) (grounds : 
         made_is = refl;
         head_is = refl;
         fine = fine.0;
-        free = λ flaw h. free flaw (inl h);
+        free = λ violation h. free violation (inl h);
         grows = grows_on noted (noting_tops globals.types rest noted) elements (tops_grow globals.types rest noted) grows;
         tables_are = prints_front code prints m.prints (all_prints globals elements (prints + length m.prints) (selects + table_count m.plan) rest) tables-of;
         selects_are = selects-of;
@@ -71,8 +71,8 @@ module _ (globals : Globals) (elements : List Element) (code : Code) (grounds : 
       let m = made_function globals elements prints selects function in
       let more = all_prints globals elements (prints + length m.prints) (selects + table_count m.plan) rest in
       let next = all_selects globals elements (prints + length m.prints) (selects + table_count m.plan) rest in
-      let left = ap (λ n. drop (selects + n) code.selects) (sym (tables_size m.plan 0)) ∙ behind code.selects selects (tables 0 m.plan) next selects-of in
-      all_located rest (prints + length m.prints) (selects + table_count m.plan) (first + top_size (FunctionTop function)) fine.1 (λ flaw h. free flaw (inr h)) (noting_top globals.types (FunctionTop function) all) grows
+      let left = ap (λ n. drop (selects + n) code.selects) (sym (tables_size m.plan 0)) ∙ following code.selects selects (tables 0 m.plan) next selects-of in
+      all_located rest (prints + length m.prints) (selects + table_count m.plan) (first + top_size (FunctionTop function)) fine.1 (λ violation h. free violation (inr h)) (noting_top globals.types (FunctionTop function) all) grows
       (prints_back code prints m.prints more tables-of) left n (omega (arith, lt))
 
 -- each function of a file that the checker takes
@@ -82,5 +82,5 @@ located file free still n lt =
     let globals = globals_of file.tops in
     let elements = elements_of file in
     let grounds = grounds_of file free in
-    all_located globals elements (code_of file) grounds file.tops 0 0 0 (all_fine globals elements (code_of file) grounds file.tops (function_names file.tops) 0 0 (λ flaw h. free flaw (inl (inr h))) still [] (grows_no elements)) (λ flaw h. free flaw (inr (inr h))) [] (grows_no elements)
+    all_located globals elements (code_of file) grounds file.tops 0 0 0 (all_fine globals elements (code_of file) grounds file.tops (function_names file.tops) 0 0 (λ violation h. free violation (inl (inr h))) still [] (grows_no elements)) (λ violation h. free violation (inr (inr h))) [] (grows_no elements)
     (λ n x is. let z : 0 + n ≡ n = omega arith in subst (λ k. slice_get (code_of file).prints k ≡ Some x) (sym z) is) refl n lt

@@ -22,8 +22,8 @@ use Rattle.codegen_base.proofs.Likeness.{AreLike, all_words_of, kinds_long}
 use Rattle.codegen_base.proofs.Near.{Near, AllEntered, AllStarted}
 use Rattle.codegen_base.proofs.Running.{Compiled, Coded}
 use Rattle.codegen_base.proofs.Typing.{Free}
-use Rattle.codegen_follows.proofs.Begun.{FineBehind}
-use Rattle.codegen_follows.proofs.Matching.{SitsBehind}
+use Rattle.codegen_follows.proofs.Begun.{FineAfter}
+use Rattle.codegen_follows.proofs.Matching.{SitsAfter}
 use Rattle.codegen_fine.proofs.Operands.{Grounds}
 use Rattle.codegen_fine.proofs.Shapes.{struct_narrow}
 use Rattle.codegen_fine.proofs.Structs.{grounds_of}
@@ -73,13 +73,13 @@ module _ (file : File) (free : Free (FileHas file)) (still : FormedTops file.top
     functions = λ name n is. let L : At n = located file free still n (grounds.functions.there name n is) in (_, L.made_is, λ vs like. params_fit n _ L.made_is vs like);
   }
 
-  pub fine_behind : (coded : Coded program) → FineBehind coded
-  fine_behind coded = fine_after coded
+  pub fine_following : (coded : Coded program) → FineAfter coded
+  fine_following coded = fine_after coded
 
   -- ---- functions
 
   abbrev Sat : ℕ → Frame → CodeFrames → CodeFrames → Type 0
-  Sat = SitsBehind file program
+  Sat = SitsAfter file program
 
   -- the code of a function that is entered, or that a goroutine begins with, begins at a pc where the function sits
   enters : (n : ℕ) (L : At n) (vs : List Value) (callee : CodeFunction) → AreLike (globals file).structs (map known (parameters_of (globals file) n)) vs → slice_get code.functions n ≡ Some callee → (callers : CodeFrames)
@@ -88,27 +88,27 @@ module _ (file : File) (free : Free (FileHas file)) (still : FormedTops file.top
       let own = subst (λ o. AreLike (globals file).structs (map known (parameters_in o)) vs) L.head_is like in
       let declared : result_of (globals file) n ≡ made_result (globals file) elements L.function = ap result_in L.head_is in
       subst (λ (x : CodeFunction). Sat n (entered_with (globals file) L.function vs) callers (code_begun x.locals n (all_words_of vs) ∷ callers)) (same_Some _ callee (sym L.made_is ∙ has))
-      (begins_sits file program grounds fine_behind n (slice_get (functions file) n) (slice_get (globals file).functions n) L declared vs own callers)
+      (begins_sits file program grounds fine_following n (slice_get (functions file) n) (slice_get (globals file).functions n) L declared vs own callers)
 
-  pub all_entered : AllEntered file program (SitsBehind file program)
+  pub all_entered : AllEntered file program (SitsAfter file program)
   all_entered n vs callee like has =
       let L : At n = located file free still n (slice_get_within code.functions n callee has) in
       (L.function, L.source_is, λ callers. enters n L vs callee like has callers)
 
-  pub all_started : AllStarted file program (SitsBehind file program)
+  pub all_started : AllStarted file program (SitsAfter file program)
   all_started n vs callee like has =
       let L : At n = located file free still n (slice_get_within code.functions n callee has) in
       let own = subst (λ o. AreLike (globals file).structs (map known (parameters_in o)) vs) L.head_is like in
       let top : Frame = entered_with (globals file) L.function vs in
       let d : CodeFrames = code_begun callee.locals n (all_words_of vs) ∷ [] in
-      let near : Near file program (SitsBehind file program) (top ∷ []) d = (n, [], record { from = d; sat = enters n L vs callee like has []; gave = here; taken = (tasks_fair (globals file) top.blocks top.tasks).none }, tt) in
+      let near : Near file program (SitsAfter file program) (top ∷ []) d = (n, [], record { from = d; sat = enters n L vs callee like has []; gave = here; taken = (tasks_fair (globals file) top.blocks top.tasks).none }, tt) in
       let same : begun file (slice_get (functions file) n) (all_words_of vs) ≡ top ∷ [] =
       ap (λ o. begun file o (all_words_of vs)) L.source_is ∙ ap (λ (a : List Value). entered_with (globals file) L.function a ∷ []) (split_words file (fields_declared (globals file).types L.function.parameters) vs own) in
-      subst (λ (x : Frames). Near file program (SitsBehind file program) x (code_begin code n (all_words_of vs))) (sym same)
-      (subst (λ o. Near file program (SitsBehind file program) (top ∷ []) (code_begun (locals_in o) n (all_words_of vs) ∷ [])) (sym has) near)
+      subst (λ (x : Frames). Near file program (SitsAfter file program) x (code_begin code n (all_words_of vs))) (sym same)
+      (subst (λ o. Near file program (SitsAfter file program) (top ∷ []) (code_begun (locals_in o) n (all_words_of vs) ∷ [])) (sym has) near)
 
   -- a goroutine that runs a function without parameters begins near its code
-  pub starts_near : (name : List ℕ) (n : ℕ) → function_number (globals file).functions name ≡ Some n → parameters_of (globals file) n ≡ [] → Near file program (SitsBehind file program) (begun file (slice_get (functions file) n) []) (code_begin code n [])
+  pub starts_near : (name : List ℕ) (n : ℕ) → function_number (globals file).functions name ≡ Some n → parameters_of (globals file) n ≡ [] → Near file program (SitsAfter file program) (begun file (slice_get (functions file) n) []) (code_begin code n [])
   starts_near name n is plain =
       let L : At n = located file free still n (grounds.functions.there name n is) in
       all_started n [] _ (subst (λ ks. AreLike (globals file).structs (map known ks) []) (sym plain) tt) L.made_is

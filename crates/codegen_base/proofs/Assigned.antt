@@ -125,10 +125,10 @@ module _ (structs : Structs) where
       (v : Variable) × (last_named scope.variables name ≡ Some v) × Holds structs (known v.kind) at.from at.kind × (zero_words structs at.kind ≡ zero_words structs kind) × (spot ≡ Local (v.place + at.from) (words_in structs at.kind))
 
   -- the scope after a destination
-  abbrev pub behind_destination : Destination → Scope → Scope
-  behind_destination (New name kind) scope = declared structs scope (Some kind) name
-  behind_destination Nowhere scope = scope
-  behind_destination (Into name at) scope = scope
+  abbrev pub after_destination : Destination → Scope → Scope
+  after_destination (New name kind) scope = declared structs scope (Some kind) name
+  after_destination Nowhere scope = scope
+  after_destination (Into name at) scope = scope
 
   -- the words that the typing rules count for a variable are those of its values
   pub counted_words : AllWide structs → (kind : ValueType) → variable_words structs (Some kind) ≡ words_in structs kind
@@ -159,12 +159,12 @@ module _ (structs : Structs) where
 
     -- a value that is stored: the variables are those of the run, each with a value of its type
     pub record IsStored (d : Destination) (v : Value) (scope : Scope) (ns : List ℕ) (ls ms : Words) : Type 0 where
-      pub seen_is : seen structs ms (behind_destination d scope).variables ns ≡ stored structs d v (seen structs ls scope.variables ns)
-      pub placed : IsPlaced structs (behind_destination d scope) ns
-      pub holding : Holding structs ms (behind_destination d scope).variables
+      pub seen_is : seen structs ms (after_destination d scope).variables ns ≡ stored structs d v (seen structs ls scope.variables ns)
+      pub placed : IsPlaced structs (after_destination d scope) ns
+      pub holding : Holding structs ms (after_destination d scope).variables
       pub many : length ms ≡ length ls
 
-    pub stores_one : (d : Destination) (kind : ValueType) (spot : Spot) (v : Value) (scope : Scope) (ns : List ℕ) (ls : Words) → IsPlaced structs scope ns → Holding structs ls scope.variables → (behind_destination d scope).words ≤ length ls → IsSpot scope d kind spot → Like structs kind v
+    pub stores_one : (d : Destination) (kind : ValueType) (spot : Spot) (v : Value) (scope : Scope) (ns : List ℕ) (ls : Words) → IsPlaced structs scope ns → Holding structs ls scope.variables → (after_destination d scope).words ≤ length ls → IsSpot scope d kind spot → Like structs kind v
         → IsStored d v scope ns ls (put_spot spot v ls)
     stores_one Nowhere kind spot v scope ns ls p h room is like =
         subst (λ s. IsStored Nowhere v scope ns ls (put_spot s v ls)) (sym is) (record { seen_is = refl; placed = p; holding = h; many = refl })
@@ -201,12 +201,12 @@ module _ (structs : Structs) where
     -- spots for destinations that take values of these types, each in the scope in which the ones before have declared theirs
     abbrev pub AreSpots : Scope → List Destination → List ValueType → List Spot → Type 0
     AreSpots scope [] [] [] = Unit {0}
-    AreSpots scope (d ∷ ds) (kind ∷ types) (spot ∷ spots) = IsSpot scope d kind spot × AreSpots (behind_destination d scope) ds types spots
+    AreSpots scope (d ∷ ds) (kind ∷ types) (spot ∷ spots) = IsSpot scope d kind spot × AreSpots (after_destination d scope) ds types spots
     AreSpots scope ds types spots = ⊥
 
-    abbrev pub behind_all : List Destination → Scope → Scope
-    behind_all [] scope = scope
-    behind_all (d ∷ ds) scope = behind_all ds (behind_destination d scope)
+    abbrev pub following_all : List Destination → Scope → Scope
+    following_all [] scope = scope
+    following_all (d ∷ ds) scope = following_all ds (after_destination d scope)
 
     pub spot_long : (scope : Scope) (d : Destination) (kind : ValueType) (spot : Spot) → IsSpot scope d kind spot → spot_words spot ≡ words_in structs kind
     spot_long scope Nowhere kind spot is = ap spot_words is
@@ -216,21 +216,21 @@ module _ (structs : Structs) where
     take_first : (v : Value) (rest : Words) (n : ℕ) → n ≡ length v → (take n (v ++ rest) ≡ v) × (drop n (v ++ rest) ≡ rest)
     take_first v rest n e = (ap (λ k. take k (v ++ rest)) e ∙ take-append_seam v rest, ap (λ k. drop k (v ++ rest)) e ∙ drop-append_seam v rest)
 
-    pub more_words : (ds : List Destination) (scope : Scope) → scope.words ≤ (behind_all ds scope).words
+    pub more_words : (ds : List Destination) (scope : Scope) → scope.words ≤ (following_all ds scope).words
     more_words [] scope = omega arith
-    more_words (d ∷ ds) scope = let m = more_words ds (behind_destination d scope) in let n = one_more d in omega (arith, m, n) where
-      one_more : (d : Destination) → scope.words ≤ (behind_destination d scope).words
+    more_words (d ∷ ds) scope = let m = more_words ds (after_destination d scope) in let n = one_more d in omega (arith, m, n) where
+      one_more : (d : Destination) → scope.words ≤ (after_destination d scope).words
       one_more Nowhere = omega arith
       one_more (New name kind) = omega arith
       one_more (Into name at) = omega arith
 
     pub record AreStored (ds : List Destination) (vs : List Value) (scope : Scope) (ns : List ℕ) (ls ms : Words) : Type 0 where
-      pub seen_is : seen structs ms (behind_all ds scope).variables ns ≡ all_stored structs ds vs (seen structs ls scope.variables ns)
-      pub placed : IsPlaced structs (behind_all ds scope) ns
-      pub holding : Holding structs ms (behind_all ds scope).variables
+      pub seen_is : seen structs ms (following_all ds scope).variables ns ≡ all_stored structs ds vs (seen structs ls scope.variables ns)
+      pub placed : IsPlaced structs (following_all ds scope) ns
+      pub holding : Holding structs ms (following_all ds scope).variables
       pub many : length ms ≡ length ls
 
-    pub stores_forward : (ds : List Destination) (types : List ValueType) (spots : List Spot) (vs : List Value) (scope : Scope) (ns : List ℕ) (ls : Words) → IsPlaced structs scope ns → Holding structs ls scope.variables → (behind_all ds scope).words ≤ length ls → AreSpots scope ds types spots → AreLike structs types vs
+    pub stores_forward : (ds : List Destination) (types : List ValueType) (spots : List Spot) (vs : List Value) (scope : Scope) (ns : List ℕ) (ls : Words) → IsPlaced structs scope ns → Holding structs ls scope.variables → (following_all ds scope).words ≤ length ls → AreSpots scope ds types spots → AreLike structs types vs
         → AreStored ds vs scope ns ls (put_forward spots (all_words_of vs) ls)
     stores_forward [] [] [] [] scope ns ls p h room are like = record { seen_is = refl; placed = p; holding = h; many = refl }
     stores_forward [] [] [] (v ∷ vs) scope ns ls p h room are like = absurd like
@@ -242,9 +242,9 @@ module _ (structs : Structs) where
     stores_forward (d ∷ ds) (kind ∷ types) (spot ∷ spots) (v ∷ vs) scope ns ls p h room are like =
         let long : spot_words spot ≡ length v = spot_long scope d kind spot are.0 ∙ sym (like_long structs kind v like.0) in
         let first = take_first v (all_words_of vs) (spot_words spot) long in
-        let one = stores_one d kind spot v scope ns ls p h (let m = more_words ds (behind_destination d scope) in omega (arith, m, room)) are.0 like.0 in
+        let one = stores_one d kind spot v scope ns ls p h (let m = more_words ds (after_destination d scope) in omega (arith, m, room)) are.0 like.0 in
         let ms = put_spot spot v ls in
-        let more = stores_forward ds types spots vs (behind_destination d scope) ns ms one.placed one.holding (omega (arith, room, one.many)) are.1 like.1 in
+        let more = stores_forward ds types spots vs (after_destination d scope) ns ms one.placed one.holding (omega (arith, room, one.many)) are.1 like.1 in
         subst (λ (x : Words). AreStored (d ∷ ds) (v ∷ vs) scope ns ls (put_forward spots (drop (spot_words spot) (v ++ all_words_of vs)) (put_spot spot x ls))) (sym first.0)
         (subst (λ (x : Words). AreStored (d ∷ ds) (v ∷ vs) scope ns ls (put_forward spots x ms)) (sym first.1) (record {
           seen_is = more.seen_is ∙ ap (all_stored structs ds vs) one.seen_is;

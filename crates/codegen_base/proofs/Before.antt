@@ -5,7 +5,7 @@ use Rattle.syntax.specs.declared.node.UnaryOperator.{UnaryOperator}
 use Rattle.syntax.specs.declared.node.UnaryOperator.TheVariants as signs
 use Rattle.syntax.specs.declared.node.BinaryOperator.{BinaryOperator}
 use Rattle.syntax.specs.declared.node.BinaryOperator.TheVariants as symbols
-use Rattle.syntax.specs.Tree.{Expression, Integer, Named, Parenthesized, Selection, Composite, Unary, Binary, Call, Receive, Make, MakeSized, Length, Capacity, Expressions, NoMore, Behind, expressions, Comm, CommSend, CommReceive, CommDefine, CommAssign, Clauses, NoClause, Clause}
+use Rattle.syntax.specs.Tree.{Expression, Integer, Named, Parenthesized, Selection, Composite, Unary, Binary, Call, Receive, Make, MakeSized, Length, Capacity, Expressions, NoMore, Following, expressions, Comm, CommSend, CommReceive, CommDefine, CommAssign, Clauses, NoClause, Clause}
 use Rattle.bytecode.specs.declared.instr.WordKind.{WordKind}
 use Rattle.bytecode.specs.declared.instr.Instr.{Instr}
 use Rattle.bytecode.specs.declared.instr.Instr.TheVariants as instrs
@@ -131,7 +131,7 @@ module _ (globals : Globals) (elements : List Element) (scope : Scope) where
     emits_before (Parenthesized inner) rest = emits_before inner rest
     emits_before (Selection of field) rest = before_on (emits globals elements scope (Selection of field) rest) (selects globals elements scope (type_of globals elements scope of) field rest) rest (emits_before of (selects globals elements scope (type_of globals elements scope of) field rest)) (Step _ rest rest (Here rest))
     emits_before (Composite name NoMore trailing) rest = zeros_before (kinds_of globals.structs elements (type_of globals elements scope (Composite name NoMore trailing))) rest
-    emits_before (Composite name (Behind first others) trailing) rest = all_before (literal_types globals elements scope (type_of globals elements scope (Composite name (Behind first others) trailing))) (Behind first others) rest
+    emits_before (Composite name (Following first others) trailing) rest = all_before (literal_types globals elements scope (type_of globals elements scope (Composite name (Following first others) trailing))) (Following first others) rest
     emits_before (Unary operator operand) rest = before_on (emits globals elements scope operand (signed operator rest)) (signed operator rest) rest (emits_before operand (signed operator rest)) (signed_before operator rest)
     emits_before (Binary operator left right) rest =
         operates_before elements operator (type_of globals elements scope left) (type_of globals elements scope right) (emits globals elements scope left) (emits globals elements scope right) (emits_before left) (emits_before right) (worth globals scope left) (worth globals scope right) rest
@@ -139,21 +139,21 @@ module _ (globals : Globals) (elements : List Element) (scope : Scope) where
         let number = number_of globals function in
         before_on (emits globals elements scope (Call function values trailing) rest) (Do (instrs.Call number) rest) rest (all_before (argument_types globals elements scope number) values (Do (instrs.Call number) rest)) (Step _ rest rest (Here rest))
     emits_before (Receive channel) rest =
-        let behind = receives globals elements scope channel (Do (instrs.Discard 1) rest) in
-        before_on (emits globals elements scope channel behind) behind rest (emits_before channel behind) (Step _ rest (Do (instrs.Discard 1) rest) (Step _ rest rest (Here rest)))
+        let following = receives globals elements scope channel (Do (instrs.Discard 1) rest) in
+        before_on (emits globals elements scope channel following) following rest (emits_before channel following) (Step _ rest (Do (instrs.Discard 1) rest) (Step _ rest rest (Here rest)))
     emits_before (Make kind) rest = Step _ rest (makes globals elements scope kind rest) (Step _ rest rest (Here rest))
     emits_before (MakeSized kind size) rest =
-        let behind = makes globals elements scope kind rest in
-        before_on (emits globals elements scope (MakeSized kind size) rest) behind rest (settled_before elements (worth globals scope size) IntType behind (emits globals elements scope size behind) (emits_before size behind)) (Step _ rest rest (Here rest))
+        let following = makes globals elements scope kind rest in
+        before_on (emits globals elements scope (MakeSized kind size) rest) following rest (settled_before elements (worth globals scope size) IntType following (emits globals elements scope size following) (emits_before size following)) (Step _ rest rest (Here rest))
     emits_before (Length channel) rest = before_on (emits globals elements scope channel (Do instrs.Len rest)) (Do instrs.Len rest) rest (emits_before channel (Do instrs.Len rest)) (Step _ rest rest (Here rest))
     emits_before (Capacity channel) rest = before_on (emits globals elements scope channel (Do instrs.Cap rest)) (Do instrs.Cap rest) rest (emits_before channel (Do instrs.Cap rest)) (Step _ rest rest (Here rest))
 
     all_before : (types : List ValueType) (values : Expressions) → Stands (emits_all globals elements scope types values)
     all_before types NoMore rest = Here rest
-    all_before [] (Behind first others) rest = Here rest
-    all_before (kind ∷ types) (Behind first others) rest =
-        let behind = emits_all globals elements scope types others rest in
-        before_on (emits_all globals elements scope (kind ∷ types) (Behind first others) rest) behind rest (settled_before elements (worth globals scope first) kind behind (emits globals elements scope first behind) (emits_before first behind)) (all_before types others rest)
+    all_before [] (Following first others) rest = Here rest
+    all_before (kind ∷ types) (Following first others) rest =
+        let following = emits_all globals elements scope types others rest in
+        before_on (emits_all globals elements scope (kind ∷ types) (Following first others) rest) following rest (settled_before elements (worth globals scope first) kind following (emits globals elements scope first following) (emits_before first following)) (all_before types others rest)
 
   pub pushes_before : (kind : ValueType) (e : Expression) → Stands (pushes globals elements scope kind e)
   pushes_before kind e rest = settled_before elements (worth globals scope e) kind rest (emits globals elements scope e rest) (emits_before e rest)

@@ -9,8 +9,8 @@ use Rattle.syntax.specs.Tree.{Expression, Integer, Named, Parenthesized, Selecti
 use Rattle.type_table.specs.Types.{ValueType, IntType, BoolType, StructType, is_int_type, is_bool_type, is_channel_type}
 use Rattle.type_table.specs.Scopes.{Globals, Scope, is_truth, is_nil, variable_named, type_in}
 use Rattle.typing_rules.specs.Calls.{callee, result_type, made_of}
-use Rattle.typing_rules.specs.declared.flaw.Misuse.{Misuse}
-use Rattle.typing_rules.specs.declared.flaw.Misuse.TheVariants as misuses
+use Rattle.typing_rules.specs.declared.violation.Misuse.{Misuse}
+use Rattle.typing_rules.specs.declared.violation.Misuse.TheVariants as misuses
 use Rattle.typing_rules.specs.Worths.{Worth, Typed, Constant, Nil, bounded, literal, is_int, is_equality, is_order, is_logical, is_not, is_far, is_wrong_right, made_type, element_of, exact_unary, exact_binary, sized, if_good, fit_operator, unary_worth, binary_worth, kind_of, named_worth, selected_worth, literal_struct, worth}
 use Rattle.word.specs.declared.value.Word.TheVariants.{Int, Bool as Truth, Chan}
 use Rattle.meaning.specs.Variables.{Blocks, scope_in, lookup, value_of}

@@ -21,7 +21,7 @@ use Rattle.plan.specs.Plan.{Plan, Skip, Do, Seq, IfElse}
 use Rattle.plan.proofs.Words.{Words, part}
 use Rattle.plan.proofs.Places.{At, On, Leads}
 use Rattle.plan.proofs.Steps.{spots, slips_more, pushes_int, pushes_bool, applies, panics, chooses, passes}
-use Rattle.codegen_base.proofs.Gave.{Follows, stays, behind, bind as follows_then, panics as panics_at}
+use Rattle.codegen_base.proofs.Gave.{Follows, stays, following, bind as follows_then, panics as panics_at}
 use Rattle.codegen_base.proofs.Seen.{Like}
 use Rattle.codegen_base.proofs.Likeness.{is_bool}
 use Rattle.codegen_base.proofs.Operators.{Gives, IsPlain}
@@ -64,11 +64,11 @@ module _ {globals : Globals} {program : Compiled globals} {coded : Coded program
   -- it is there at once
   pub lies : (v : Value) (kind : ValueType) (rest : Plan) (out : Option ℕ) (place : ℕ) (stack base : List Word) (to : ℕ) → Like structs kind v → Slip place stack to (base ++ v) → Stands rest to out → Evals (ready v) kind rest out place stack base
   lies v kind rest out place stack base to like s on =
-      behind context (ready v) (Lies (zero_words structs kind) rest out base) (at place stack) (at to (base ++ v)) s
+      following context (ready v) (Lies (zero_words structs kind) rest out base) (at place stack) (at to (base ++ v)) s
       (stays context v (Lies (zero_words structs kind) rest out base) (at to (base ++ v)) (to, like, refl, on))
 
-  pub behind_slip : (o : Worked Value) (kind : ValueType) (rest : Plan) (out : Option ℕ) (place : ℕ) (stack base : List Word) (mid : ℕ) (result : List Word) → Slip place stack mid result → Evals o kind rest out mid result base → Evals o kind rest out place stack base
-  behind_slip o kind rest out place stack base mid result s e = behind context o (Lies (zero_words structs kind) rest out base) (at place stack) (at mid result) s e
+  pub after_slip : (o : Worked Value) (kind : ValueType) (rest : Plan) (out : Option ℕ) (place : ℕ) (stack base : List Word) (mid : ℕ) (result : List Word) → Slip place stack mid result → Evals o kind rest out mid result base → Evals o kind rest out place stack base
+  after_slip o kind rest out place stack base mid result s e = following context o (Lies (zero_words structs kind) rest out base) (at place stack) (at mid result) s e
 
   -- a value, and what is made of it
   pub bind : (o : Worked Value) (go : Value → Worked Value) (i k : ValueType) (first rest : Plan) (end out : Option ℕ) (place : ℕ) (stack base : List Word) → Evals o i first end place stack stack
@@ -137,7 +137,7 @@ module _ {globals : Globals} {program : Compiled globals} {coded : Coded program
   right_value : (r : Worked Value) (rest : Plan) (m : ℕ) (out : Option ℕ) (place : ℕ) (stack : List Word) (from : ℕ) (start : List Word) → Slip place start from stack → Evals r BoolType Skip (Some m) from stack stack → Stands rest m out
       → Evals (and_then r (λ b. ready (word_in b ∷ []))) BoolType rest out place start stack
   right_value r rest m out place stack from start s e on =
-      behind_slip (and_then r (λ b. ready (word_in b ∷ []))) BoolType rest out place start stack from stack s
+      after_slip (and_then r (λ b. ready (word_in b ∷ []))) BoolType rest out place start stack from stack s
       (bind r (λ b. ready (word_in b ∷ [])) BoolType BoolType Skip rest (Some m) out from stack stack e
       (λ v like to lead. let b = is_bool structs v like in
       subst (λ (x : Value). Evals (ready (word_in x ∷ [])) BoolType rest out to (stack ++ x) stack) (sym b.1)

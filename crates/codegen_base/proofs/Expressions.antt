@@ -12,7 +12,7 @@ use Rattle.type_table.specs.Containment.{Selected, field_of}
 use Rattle.type_table.specs.Scopes.{Globals, Scope, Variable, is_blank, is_truth, is_nil, last_named, variable_named}
 use Rattle.typing_rules.specs.Worths.{Typed, Nil, kind_of, named_worth, worth}
 use Rattle.typing_rules.specs.Expressions.{default_type}
-use Rattle.meaning.specs.Values.{Value, Slot, known, whole, slot_behind, field_slot, words_in, words_at}
+use Rattle.meaning.specs.Values.{Value, Slot, known, whole, slot_after, field_slot, words_in, words_at}
 use Rattle.meaning.specs.Worked.{ready, and_then}
 use Rattle.meaning.specs.Variables.{Blocks, scope_in, lookup, value_of}
 use Rattle.meaning.specs.Expressions.{type_of as type_of_value, named as named_value, selected as selected_value, value}
@@ -93,7 +93,7 @@ module _ {globals : Globals} {program : Compiled globals} {coded : Coded program
   selection_goes e field kind t found rest out place stack is has ev =
       let held = field_held globals.structs all kind field found t is has in
       let begin : 0 + found.place ≡ found.place = omega arith in
-      let slot : field_slot globals.structs (whole kind) field ≡ record { from = found.place; kind = t } = ap (slot_behind 0) is ∙ ap (λ n. record { from = n; kind = known found.kind }) begin ∙ ap (λ o. record { from = found.place; kind = known o }) has in
+      let slot : field_slot globals.structs (whole kind) field ≡ record { from = found.place; kind = t } = ap (slot_after 0) is ∙ ap (λ n. record { from = n; kind = known found.kind }) begin ∙ ap (λ o. record { from = found.place; kind = known o }) has in
       let w = words_in globals.structs t in
       bind standing (value globals blocks e) (λ words. ready (selected_value globals blocks kind field words)) kind t (selects_plan globals elements scope kind field rest) rest out out place stack stack ev
       (λ v like to on.

@@ -90,8 +90,8 @@ module _ {globals : Globals} {code : Code} (context : Context globals code) wher
   pub stays : {A : Type 0} (a : A) (L : A → Frames → Type 0) (c : Frames) → L a c → Follows (ready a) L c
   stays a L c l = record { ends = λ given d gave. (c, l, gave) }
 
-  pub behind : {A : Type 0} (work : Worked A) (L : A → Frames → Type 0) (c c' : Frames) → Slips (code_next code) c c' → Follows work L c' → Follows work L c
-  behind work L c c' s f = record { ends = λ given d gave. f.ends given d (gave_on globals code c c' given d s gave) }
+  pub following : {A : Type 0} (work : Worked A) (L : A → Frames → Type 0) (c c' : Frames) → Slips (code_next code) c c' → Follows work L c' → Follows work L c
+  following work L c c' s f = record { ends = λ given d gave. f.ends given d (gave_on globals code c c' given d s gave) }
 
   pub bind : {A B : Type 0} (work : Worked A) (f : A → Worked B) (L : A → Frames → Type 0) (M : B → Frames → Type 0) (c : Frames) → Follows work L c → ((a : A) (d : Frames) → L a d → Follows (f a) M d) → Follows (and_then work f) M c
   bind work f L M c first each = record { ends = λ given d gave. go (work given) d (first.ends given d gave) } where

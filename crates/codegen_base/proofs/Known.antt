@@ -12,7 +12,7 @@ use Rattle.meaning.specs.Values.{known}
 use Rattle.codegen_base.proofs.Makes.{ExpressionMakes, type_anywhere}
 use Rattle.type_table.specs.Containment.{Selected, field_of}
 use Rattle.type_table.specs.Scopes.{Globals, Scope, Variable, Yield, NoResult, Yields, is_truth, is_nil, nothing_declared, variable_named, type_in}
-use Rattle.typing_rules.specs.declared.flaw.Misuse.{Misuse}
+use Rattle.typing_rules.specs.declared.violation.Misuse.{Misuse}
 use Rattle.typing_rules.specs.Worths.{Worth, Typed, Constant, Nil, is_equality, is_order, is_logical, is_not, made_type, kind_of, type_of_field, selected_worth, literal, literal_struct, unary_worth, binary_worth, element_of, worth}
 use Rattle.codegen_base.specs.declared.element.Element.{Element}
 use Rattle.codegen_base.proofs.Noted.{Noted}

@@ -2,7 +2,7 @@
 use Rattle.std.proofs.Common.{◌≡◌, ℕ, Bool, true, false, List, Option, Some, None, option_map, refl, ap, ◌∙◌}
 use Rattle.std.specs.Prelude.{if◌then◌else◌}
 use Rattle.std.specs.Option.{is_some}
-use Rattle.syntax.specs.Tree.{TypeExpression, NamedType, ParenthesizedType, Channel, Expression, Integer, Named, Parenthesized, Selection, Composite, Unary, Binary, Call, Receive, Make, MakeSized, Length, Capacity, Expressions, NoMore, Behind}
+use Rattle.syntax.specs.Tree.{TypeExpression, NamedType, ParenthesizedType, Channel, Expression, Integer, Named, Parenthesized, Selection, Composite, Unary, Binary, Call, Receive, Make, MakeSized, Length, Capacity, Expressions, NoMore, Following}
 use Rattle.type_table.specs.Types.{ValueType, ChannelType}
 use Rattle.type_table.specs.Scopes.{Variable, Scope, nothing_declared, is_blank, variable_named, type_in}
 use Rattle.meaning.specs.Values.{known}
@@ -50,7 +50,7 @@ module _ (types : List (List ℕ)) (elements : List Element) where
 
     pub ExpressionsMake : Expressions → Type 0
     ExpressionsMake NoMore = Unit {0}
-    ExpressionsMake (Behind first rest) = ExpressionMakes first × ExpressionsMake rest
+    ExpressionsMake (Following first rest) = ExpressionMakes first × ExpressionsMake rest
 
 module _ (types : List (List ℕ)) where
   -- ---- what was noted stays so
@@ -73,7 +73,7 @@ module _ (types : List (List ℕ)) where
 
     pub make_grow : (a b : List Element) → Grows a b → (es : Expressions) → ExpressionsMake types a es → ExpressionsMake types b es
     make_grow a b g NoMore m = tt
-    make_grow a b g (Behind first rest) m = (makes_grows a b g first m.0, make_grow a b g rest m.1)
+    make_grow a b g (Following first rest) m = (makes_grows a b g first m.0, make_grow a b g rest m.1)
 
   -- ---- noting an expression notes what it makes
 
@@ -97,7 +97,7 @@ module _ (types : List (List ℕ)) where
 
     pub expressions_grow : (es : Expressions) (all : List Element) → Grows all (noting_expressions types es all)
     expressions_grow NoMore all = grows_no all
-    expressions_grow (Behind first rest) all =
+    expressions_grow (Following first rest) all =
         let one = noting_expression types first all in grows_on all one (noting_expressions types rest one) (expression_grows first all) (expressions_grow rest one)
 
   mutual
@@ -123,6 +123,6 @@ module _ (types : List (List ℕ)) where
 
     pub expressions_make : (es : Expressions) (all : List Element) → ExpressionsMake types (noting_expressions types es all) es
     expressions_make NoMore all = tt
-    expressions_make (Behind first rest) all =
+    expressions_make (Following first rest) all =
         let one = noting_expression types first all in
         (makes_grows one (noting_expressions types rest one) (expressions_grow rest one) first (expression_makes first all), expressions_make rest one)

@@ -82,8 +82,8 @@ module _ (globals : Globals) (elements : List Element) where
   clauses_head_makes first condition post some still g =
       let one = noting_first types first some in
       let two = noting_value types condition one in
-      let behind = grows_on two (noting_first types post two) elements (first_grows types post two) g in
-      (first_makes first some (grows_on one two elements (value_grows types condition one) behind), value_makes condition one behind, first_makes post two g, none_declared post still)
+      let following = grows_on two (noting_first types post two) elements (first_grows types post two) g in
+      (first_makes first some (grows_on one two elements (value_grows types condition one) following), value_makes condition one following, first_makes post two g, none_declared post still)
 
   comm_makes : (comm : Option Comm) (some : List Element) → Grown (noting_comm types comm some) → CommMakes globals elements comm
   comm_makes None some g = tt

@@ -7,7 +7,7 @@ use Rattle.std.proofs.lemmas.List.{append-nil, length-map, map-append}
 use Rattle.syntax.specs.declared.node.UnaryOperator.{UnaryOperator}
 use Rattle.syntax.specs.declared.node.UnaryOperator.TheVariants as signs
 use Rattle.syntax.specs.declared.node.BinaryOperator.{BinaryOperator}
-use Rattle.syntax.specs.Tree.{TypeExpression, Expression, Integer, Named, Parenthesized, Selection, Composite, Unary, Binary, Call, Receive, Make, MakeSized, Length, Capacity, Expressions, NoMore, Behind, expressions_in}
+use Rattle.syntax.specs.Tree.{TypeExpression, Expression, Integer, Named, Parenthesized, Selection, Composite, Unary, Binary, Call, Receive, Make, MakeSized, Length, Capacity, Expressions, NoMore, Following, expressions_in}
 use Rattle.syntax.specs.Measures.{type_size, expression_size}
 use Rattle.bytecode.specs.declared.instr.Instr.TheVariants as instrs
 use Rattle.bytecode.specs.declared.instr.WordKind.TheVariants as kinds
@@ -49,7 +49,7 @@ use Rattle.codegen_base.proofs.Typing.{Free, Fits, fits, nodes_end, yield_there,
 use Rattle.codegen_base.proofs.Operators.{Gives}
 use Rattle.codegen_base.proofs.Splits.{unary_typed, constant_untyped}
 use Rattle.codegen_base.proofs.Gave.{Follows, stays, bind as follows_then}
-use Rattle.codegen_base.proofs.Evaluates.{at, Slip, Stands, Lies, Evals, EvalsLike, lies, bind, behind_slip, operated}
+use Rattle.codegen_base.proofs.Evaluates.{at, Slip, Stands, Lies, Evals, EvalsLike, lies, bind, after_slip, operated}
 use Rattle.codegen_base.proofs.Told.{Lay, told_goes, told_one_goes, called_goes}
 use Rattle.codegen_base.proofs.Settled.{P, pushes_by, operator_goes}
 use Rattle.codegen_base.proofs.Expressions.{zeros_goes, blocks, same_worth, type_here, type_there, named_goes, selection_goes}
@@ -213,7 +213,7 @@ module _ {globals : Globals} {program : Compiled globals} {coded : Coded program
 
   value_fits : (v : Expression) (first : ℕ) (w : Worth) (kind : ValueType) (rest : List Expression) (o : Option ValueType) (kinds : List (Option ValueType)) → worth globals s v ≡ Some w → o ≡ Some kind → Free (ValuesFail globals s first (v ∷ rest) (o ∷ kinds)) → Fits w kind
   value_fits v first w kind rest o kinds is has free =
-      fits w kind (nodes_of first v) (nodes_end first v) (λ flaw h. free flaw (inl (subst (λ x. ValueHas (worth globals s v) x (nodes_of first v) flaw) (sym has) (subst (λ x. ValueHas x (Some kind) (nodes_of first v) flaw) (sym is) h))))
+      fits w kind (nodes_of first v) (nodes_end first v) (λ violation h. free violation (inl (subst (λ x. ValueHas (worth globals s v) x (nodes_of first v) violation) (sym has) (subst (λ x. ValueHas x (Some kind) (nodes_of first v) violation) (sym is) h))))
 
   binary_typed : (operator : BinaryOperator) (l r : Expression) (a b : Worth) (w : Worth) (k : ValueType) → worth globals scope l ≡ Some a → worth globals scope r ≡ Some b → binary_worth operator a b ≡ Ok w → worth globals scope (Binary operator l r) ≡ Some (Typed k) → binary_worth operator a b ≡ Ok (Typed k)
   binary_typed operator l r a b w k il ir made is = made ∙ ap Ok (same_Some w (Typed k) (sym (ap (option_and_then (λ x. option_and_then (λ y. result_ok (binary_worth operator x y)) (worth globals scope r))) il ∙ ap (option_and_then (λ y. result_ok (binary_worth operator a y))) ir ∙ ap result_ok made) ∙ is))
@@ -265,19 +265,19 @@ module _ {globals : Globals} {program : Compiled globals} {coded : Coded program
       let there-kind : type_of_value globals env (Composite name NoMore trailing) ≡ StructType n.0 = type_there standing (Composite name NoMore trailing) (StructType n.0) c in
       subst (λ j. EK (ready (zero_words globals.structs j)) k rest out place stack stack) (sym there-kind)
       (zero_goes n.0 k rest out place stack (typed_same (StructType n.0) k (sym c ∙ is)) (subst (λ j. ST (pushes_zeros (kinds_of globals.structs elements j) rest) place out) here-kind on))
-  literal_goes name (Behind v others) trailing first free k is by_fields rest out place stack on =
-      let values = Behind v others in
+  literal_goes name (Following v others) trailing first free k is by_fields rest out place stack on =
+      let values = Following v others in
       let n = literal_there globals s first name values trailing free in
       let c : worth globals scope (Composite name values trailing) ≡ Some (Typed (StructType n.0)) = sym (checked (Composite name values trailing)) ∙ ap (option_map (λ n. Typed (StructType n))) n.1 in
       let here-kind : type_of globals elements scope (Composite name values trailing) ≡ StructType n.0 = type_here standing (Composite name values trailing) (StructType n.0) c in
       let end = first + expression_size (Composite name values trailing) in
       let passed : Free (PassedHave globals s first (expressions_in values) (field_kinds (fields_of globals.structs n.0)) end) =
-      λ flaw h. free flaw (inr (subst (λ o. LiteralHas globals s o first (expressions_in values) end flaw) (sym n.1) h)) in
-      let many = same_count (length (expressions_in values)) (length (field_kinds (fields_of globals.structs n.0))) end (omega arith) (λ flaw h. passed flaw (inl h)) in
+      λ violation h. free violation (inr (subst (λ o. LiteralHas globals s o first (expressions_in values) end violation) (sym n.1) h)) in
+      let many = same_count (length (expressions_in values)) (length (field_kinds (fields_of globals.structs n.0))) end (omega arith) (λ violation h. passed violation (inl h)) in
       let fs = fields_of globals.structs n.0 in
       subst (λ j. EK (field_values globals env values) j rest out place stack stack) (typed_same (StructType n.0) k (sym c ∙ is))
       (subst (λ (z : List Word). EL (field_values globals env values) z rest out place stack stack) (sym (struct_zeros globals.structs program.wide n.0 (typed n.0)))
-      (by_fields fs (typed n.0) (λ flaw h. free flaw (inl h)) (λ flaw h. passed flaw (inr h)) (many ∙ length-map fs (λ (field : Field). field.kind)) rest out place stack
+      (by_fields fs (typed n.0) (λ violation h. free violation (inl h)) (λ violation h. passed violation (inr h)) (many ∙ length-map fs (λ (field : Field). field.kind)) rest out place stack
       (subst (λ j. ST (emits_all globals elements scope (literal_types globals elements scope j) values rest) place out) here-kind on)))
 
   mutual
@@ -286,7 +286,7 @@ module _ {globals : Globals} {program : Compiled globals} {coded : Coded program
     emits_goes (Named name) first free makes k is rest out place stack on = named_goes standing name k rest out place stack is on
     emits_goes (Parenthesized inner) first free makes k is rest out place stack on = emits_goes inner first free makes k is rest out place stack on
     emits_goes (Selection whole field) first free makes k is rest out place stack on =
-        let w = worth_here whole first (λ flaw h. free flaw (inl h)) in
+        let w = worth_here whole first (λ violation h. free violation (inl h)) in
         let x = selects globals s first whole field w.0 w.1 free in
         let of : worth globals scope whole ≡ Some (Typed x.kind) = sym (checked whole) ∙ x.of in
         let t : x.at.kind ≡ Some k = typed_field x.at.kind k (sym (ap (option_and_then (selected_worth globals field)) of ∙ ap (λ o. option_map Typed (type_of_field o)) x.found) ∙ is) in
@@ -294,31 +294,31 @@ module _ {globals : Globals} {program : Compiled globals} {coded : Coded program
         let there-kind : type_of_value globals env whole ≡ x.kind = type_there standing whole x.kind of in
         subst (λ j. EK (and_then (value globals env whole) (λ words. ready (selected_value globals env j field words))) k rest out place stack stack) (sym there-kind)
         (selection_goes standing whole field x.kind k x.at rest out place stack x.found t
-        (emits_goes whole first (λ flaw h. free flaw (inl h)) makes x.kind of (selects_plan globals elements scope x.kind field rest) out place stack
+        (emits_goes whole first (λ violation h. free violation (inl h)) makes x.kind of (selects_plan globals elements scope x.kind field rest) out place stack
         (subst (λ j. ST (emits globals elements scope whole (selects_plan globals elements scope j field rest)) place out) here-kind on)))
     emits_goes (Composite name values trailing) first free makes k is rest out place stack on = literal_goes name values trailing first free k is (λ fs known-types fr ft many rest out place stack on. fields_goes fs known-types values first fr makes ft many rest out place stack on) rest out place stack on
     emits_goes (Unary operator e) first free makes k is rest out place stack on =
-        let a = worth_here e first (λ flaw h. free flaw (inl h)) in
+        let a = worth_here e first (λ violation h. free violation (inl h)) in
         let w = unary_made globals s first operator e a.0 a.1 free in
         subst (λ o. EK o k rest out place stack stack) (sym (exactly_typed (Unary operator e) k (and_then (value globals env e) (λ a. before operator (word_in a))) is))
-        (by_worth a.0 a.2 (unary_made_typed operator e a.0 w.0 k a.2 w.1 is) (λ t et. emits_goes e first (λ flaw h. free flaw (inl h)) makes t (a.2 ∙ ap Some et))) where
+        (by_worth a.0 a.2 (unary_made_typed operator e a.0 w.0 k a.2 w.1 is) (λ t et. emits_goes e first (λ violation h. free violation (inl h)) makes t (a.2 ∙ ap Some et))) where
           by_worth : (a : Worth) → worth globals scope e ≡ Some a → unary_worth operator a ≡ Ok (Typed k) → ((t : ValueType) → a ≡ Typed t → PK (value globals env e) t (emits globals elements scope e)) → EK (and_then (value globals env e) (λ a. before operator (word_in a))) k rest out place stack stack
           by_worth (Typed t) ie made el = unary_goes operator (value globals env e) t k (emits globals elements scope e) made (el t refl) rest out place stack on
           by_worth (Constant z) ie made el = absurd (constant_untyped operator z k made)
           by_worth Nil ie made el = absurd cc
     emits_goes (Binary operator l r) first free makes k is rest out place stack on =
-        let a = worth_here l first (λ flaw h. free flaw (inl h)) in
-        let b = worth_here r (first + expression_size l) (λ flaw h. free flaw (inr (inl h))) in
+        let a = worth_here l first (λ violation h. free violation (inl h)) in
+        let b = worth_here r (first + expression_size l) (λ violation h. free violation (inr (inl h))) in
         let w = binary_made globals s first operator l r a.0 b.0 a.1 b.1 free in
         let worked = binary operator (value globals env l) (value globals env r) in
         let left = emits globals elements scope l in
         let right = emits globals elements scope r in
         subst (λ o. EK o k rest out place stack stack) (sym (exactly_typed (Binary operator l r) k (compared_value operator (worth globals (scope_in env) l) (worth globals (scope_in env) r) worked) is ∙ compared_by operator l r a.0 b.0 worked a.2 b.2))
         (operator_goes standing operator l r a.0 b.0 k a.2 b.2 (binary_typed operator l r a.0 b.0 w.0 k a.2 b.2 w.1 is)
-        (λ t et. emits_goes l first (λ flaw h. free flaw (inl h)) makes.0 t (a.2 ∙ ap Some et)) (λ t et. emits_goes r (first + expression_size l) (λ flaw h. free flaw (inr (inl h))) makes.1 t (b.2 ∙ ap Some et)) rest out place stack
+        (λ t et. emits_goes l first (λ violation h. free violation (inl h)) makes.0 t (a.2 ∙ ap Some et)) (λ t et. emits_goes r (first + expression_size l) (λ violation h. free violation (inr (inl h))) makes.1 t (b.2 ∙ ap Some et)) rest out place stack
         (subst (λ o. ST (plan_by operator (Some a.0) o left right rest) place out) b.2 (subst (λ o. ST (plan_by operator o (worth globals scope r) left right rest) place out) a.2 on)))
     emits_goes (Receive channel) first free makes k is rest out place stack on =
-        let (d, t, ch) = channel_at channel first (λ flaw h. free flaw (inl h)) (λ flaw h. free flaw (inr (inl h))) in
+        let (d, t, ch) = channel_at channel first (λ violation h. free violation (inl h)) (λ violation h. free violation (inr (inl h))) in
         let same-kind : t ≡ k = typed_same t k (sym (ap (λ o. option_map Typed (element_of o)) ch) ∙ is) in
         let runs : element_kind globals env channel ≡ t = ap (λ o. known (element_of o)) (same_worth standing channel ∙ ch) in
         let laid : carried globals elements scope channel ≡ t = ap (λ o. known (element_of o)) ch in
@@ -327,28 +327,28 @@ module _ {globals : Globals} {program : Compiled globals} {coded : Coded program
         subst (λ j. EK (and_then (value globals env channel) (go j)) k rest out place stack stack) (sym runs)
         (subst (λ j. EK (and_then (value globals env channel) (go t)) j rest out place stack stack) same-kind
         (bind standing (value globals env channel) (go t) (ChannelType d t) t (plan t) rest out out place stack stack
-        (emits_goes channel first (λ flaw h. free flaw (inl h)) makes (ChannelType d t) ch (plan t) out place stack (subst (λ j. ST (emits globals elements scope channel (plan j)) place out) laid on))
+        (emits_goes channel first (λ violation h. free violation (inl h)) makes (ChannelType d t) ch (plan t) out place stack (subst (λ j. ST (emits globals elements scope channel (plan j)) place out) laid on))
         (λ v like to on1. let w = is_channel globals.structs d t v like in
         subst (λ (x : Value). EK (go t x) t rest out to (stack ++ x) stack) (sym w.1) (received_goes t (shape_of elements t) w.0 rest out to stack (shaped channel makes d t ch) on1))))
     emits_goes (Length channel) first free makes k is rest out place stack on =
-        let (d, t, ch) = channel_at channel first (λ flaw h. free flaw (inl h)) (λ flaw h. free flaw (inr h)) in
+        let (d, t, ch) = channel_at channel first (λ violation h. free violation (inl h)) (λ violation h. free violation (inr h)) in
         subst (λ j. EK (value globals env (Length channel)) j rest out place stack stack) (typed_same IntType k is)
         (bind standing (value globals env channel) (λ c. measured globals (requests.Len (channel_in (word_in c)))) (ChannelType d t) IntType (Do instrs.Len rest) rest out out place stack stack
-        (emits_goes channel first (λ flaw h. free flaw (inl h)) makes (ChannelType d t) ch (Do instrs.Len rest) out place stack on)
+        (emits_goes channel first (λ violation h. free violation (inl h)) makes (ChannelType d t) ch (Do instrs.Len rest) out place stack on)
         (λ v like to on1. let w = is_channel globals.structs d t v like in
         subst (λ (x : Value). EK (measured globals (requests.Len (channel_in (word_in x)))) IntType rest out to (stack ++ x) stack) (sym w.1)
         (told_one_goes standing IntType (requests.Len w.0) instrs.Len (Chan w.0 ∷ []) rest out to stack on1.0 refl refl (asks_len code g f there callers to ls stack w.0 on1.0) refl (running.calm (requests.Len w.0) (SP to (stack ++ Chan w.0 ∷ [])) tt) on1.1)))
     emits_goes (Capacity channel) first free makes k is rest out place stack on =
-        let (d, t, ch) = channel_at channel first (λ flaw h. free flaw (inl h)) (λ flaw h. free flaw (inr h)) in
+        let (d, t, ch) = channel_at channel first (λ violation h. free violation (inl h)) (λ violation h. free violation (inr h)) in
         subst (λ j. EK (value globals env (Capacity channel)) j rest out place stack stack) (typed_same IntType k is)
         (bind standing (value globals env channel) (λ c. measured globals (requests.Cap (channel_in (word_in c)))) (ChannelType d t) IntType (Do instrs.Cap rest) rest out out place stack stack
-        (emits_goes channel first (λ flaw h. free flaw (inl h)) makes (ChannelType d t) ch (Do instrs.Cap rest) out place stack on)
+        (emits_goes channel first (λ violation h. free violation (inl h)) makes (ChannelType d t) ch (Do instrs.Cap rest) out place stack on)
         (λ v like to on1. let w = is_channel globals.structs d t v like in
         subst (λ (x : Value). EK (measured globals (requests.Cap (channel_in (word_in x)))) IntType rest out to (stack ++ x) stack) (sym w.1)
         (told_one_goes standing IntType (requests.Cap w.0) instrs.Cap (Chan w.0 ∷ []) rest out to stack on1.0 refl refl (asks_cap code g f there callers to ls stack w.0 on1.0) refl (running.calm (requests.Cap w.0) (SP to (stack ++ Chan w.0 ∷ [])) tt) on1.1)))
     emits_goes (Call function values trailing) first free makes k is rest out place stack on =
         let end = first + expression_size (Call function values trailing) in
-        let c = calls_there globals s types-known (variables_known s scope alike placed.known) program.params_known function values first end (omega arith) (λ flaw h. free flaw (inl (inl h))) (λ flaw h. free flaw (inl (inr h))) in
+        let c = calls_there globals s types-known (variables_known s scope alike placed.known) program.params_known function values first end (omega arith) (λ violation h. free violation (inl (inl h))) (λ violation h. free violation (inl (inr h))) in
         let n = c.number in
         let y = yield_there globals s first function values trailing n c.calls free in
         let t = types-known.results n y.0 y.1 in
@@ -360,19 +360,19 @@ module _ {globals : Globals} {program : Compiled globals} {coded : Coded program
         let Goal = LI (zero_words globals.structs k) rest out stack in
         subst (λ m. Follows context (and_then (values_of globals env values) (called globals m)) Goal (SP place stack)) (sym c.numbered)
         (follows_then context (values_of globals env values) (called globals n) (LA types (Do (instrs.Call n) rest) out stack) Goal (SP place stack)
-        (all_goes values types first (λ flaw h. free flaw (inl (inl h))) makes c.fit (Do (instrs.Call n) rest) out place stack (subst (λ m. ST (emits_all globals elements scope (map known (parameters_of globals m)) values (Do (instrs.Call m) rest)) place out) c.numbered on))
+        (all_goes values types first (λ violation h. free violation (inl (inl h))) makes c.fit (Do (instrs.Call n) rest) out place stack (subst (λ m. ST (emits_all globals elements scope (map known (parameters_of globals m)) values (Do (instrs.Call m) rest)) place out) c.numbered on))
         (λ vs d l. subst (λ x. Follows context (called globals n vs) Goal x) (sym l.2)
         (called_goes standing n vs (all_words_of vs) F.0 k rest out l.0 stack l.3.0 (ap (λ o. length (params_in o)) F.1 ∙ F.2 vs l.1) F.1
         (λ v. subst (λ (z : List Word). words_like (zero_words globals.structs k) (words_like z v) ≡ words_like z v) (sym zero-is) (made_like globals.structs k v))
         (running.calls n vs (SP l.0 (stack ++ all_words_of vs)) (spot code g f there callers (l.0 + 1) ls stack) F.0 l.1 F.1 (calls_function code g f there callers l.0 ls stack (all_words_of vs) n F.0 l.3.0 (ap (λ o. length (params_in o)) F.1 ∙ F.2 vs l.1) F.1)) l.3.1)))
     emits_goes (Make kind) first free makes k is rest out place stack on =
-        behind_slip standing (made globals kind (pos 0)) k rest out place stack stack (place + 1) (stack ++ Int (pos 0) ∷ []) (pushes_int code g f there callers place ls stack (pos 0) on.0)
+        after_slip standing (made globals kind (pos 0)) k rest out place stack stack (place + 1) (stack ++ Int (pos 0) ∷ []) (pushes_int code g f there callers place ls stack (pos 0) on.0)
         (made_goes kind k (pos 0) rest out (place + 1) stack makes is on.1)
     emits_goes (MakeSized kind size) first free makes k is rest out place stack on =
-        let w = worth_here size (first + type_size kind) (λ flaw h. free flaw (inr (inl h))) in
-        let fit : Fits w.0 IntType = size_fits size (first + type_size kind) w.0 (λ flaw h. free flaw (inr (inr (inl (subst (λ o. SizeHas o (nodes_of (first + type_size kind) size) flaw) (sym w.1) h))))) in
+        let w = worth_here size (first + type_size kind) (λ violation h. free violation (inr (inl h))) in
+        let fit : Fits w.0 IntType = size_fits size (first + type_size kind) w.0 (λ violation h. free violation (inr (inr (inl (subst (λ o. SizeHas o (nodes_of (first + type_size kind) size) violation) (sym w.1) h))))) in
         bind standing (value globals env size) (λ n. made globals kind (number_in (word_in n))) IntType k (makes_plan globals elements scope kind rest) rest out out place stack stack
-        (pushes_by standing size w.0 IntType w.2 fit (λ t et. emits_goes size (first + type_size kind) (λ flaw h. free flaw (inr (inl h))) makes.1 t (w.2 ∙ ap Some et)) (makes_plan globals elements scope kind rest) out place stack
+        (pushes_by standing size w.0 IntType w.2 fit (λ t et. emits_goes size (first + type_size kind) (λ violation h. free violation (inr (inl h))) makes.1 t (w.2 ∙ ap Some et)) (makes_plan globals elements scope kind rest) out place stack
         (subst (λ o. ST (settled elements o IntType (emits globals elements scope size (makes_plan globals elements scope kind rest)) (makes_plan globals elements scope kind rest)) place out) w.2 on))
         (λ v like to on1. let n = is_int globals.structs v like in
         subst (λ (x : Value). EK (made globals kind (number_in (word_in x))) k rest out to (stack ++ x) stack) (sym n.1) (made_goes kind k n.0 rest out to stack makes.0 is on1))
@@ -382,30 +382,30 @@ module _ {globals : Globals} {program : Compiled globals} {coded : Coded program
         → Follows context (values_of globals env values) (LA types rest out stack) (SP place stack)
     all_goes NoMore [] first free makes fit rest out place stack on = stays context [] (LA [] rest out stack) (SP place stack) (place, tt, ap (SP place) (sym (append-nil stack)), on)
     all_goes NoMore (kind ∷ types) first free makes fit rest out place stack on = absurd fit
-    all_goes (Behind v others) [] first free makes fit rest out place stack on = absurd fit
-    all_goes (Behind v others) (kind ∷ types) first free makes ((w, is, fits), more-fit) rest out place stack on =
+    all_goes (Following v others) [] first free makes fit rest out place stack on = absurd fit
+    all_goes (Following v others) (kind ∷ types) first free makes ((w, is, fits), more-fit) rest out place stack on =
         let more = emits_all globals elements scope types others rest in
         let here-worth : worth globals scope v ≡ Some w = sym (checked v) ∙ is in
         let Goal = LA (kind ∷ types) rest out stack in
         follows_then context (value globals env v) (λ a. and_then (values_of globals env others) (λ tail. ready (a ∷ tail))) (LI (zero_words globals.structs kind) more out stack) Goal (SP place stack)
-        (pushes_by standing v w kind here-worth fits (λ t et. emits_goes v first (λ flaw h. free flaw (inl h)) makes.0 t (here-worth ∙ ap Some et)) more out place stack
+        (pushes_by standing v w kind here-worth fits (λ t et. emits_goes v first (λ violation h. free violation (inl h)) makes.0 t (here-worth ∙ ap Some et)) more out place stack
         (subst (λ o. ST (settled elements o kind (emits globals elements scope v more) more) place out) here-worth on))
         (λ x d l. subst (λ y. Follows context (and_then (values_of globals env others) (λ tail. ready (x ∷ tail))) Goal y) (sym l.2)
         (follows_then context (values_of globals env others) (λ tail. ready (x ∷ tail)) (LA types rest out (stack ++ x)) Goal (SP l.0 (stack ++ x))
-        (all_goes others types (first + expression_size v) (λ flaw h. free flaw (inr h)) makes.1 more-fit rest out l.0 (stack ++ x) l.3)
+        (all_goes others types (first + expression_size v) (λ violation h. free violation (inr h)) makes.1 more-fit rest out l.0 (stack ++ x) l.3)
         (λ tail e m. stays context (x ∷ tail) Goal e (m.0, (l.1, m.1), m.2 ∙ ap (SP m.0) (append_assoc stack x (all_words_of tail)), m.3))))
 
     fields_goes : (fs : List Field) → AllTyped globals.structs fs → (values : Expressions) (first : ℕ) → Free (ExpressionsHave globals s first values) → ExpressionsMake globals.types elements values → Free (ValuesFail globals s first (expressions_in values) (field_kinds fs)) → length (expressions_in values) ≡ length fs
         → (rest : Plan) (out : Option ℕ) (place : ℕ) (stack : List Word) → ST (emits_all globals elements scope (kinds_in fs) values rest) place out → EL (field_values globals env values) (fields_zeros globals.structs fs) rest out place stack stack
     fields_goes [] known-types NoMore first free makes fit many rest out place stack on = stays context [] (LI [] rest out stack) (SP place stack) (place, refl, ap (SP place) (sym (append-nil stack)), on)
     fields_goes (field ∷ fs) known-types NoMore first free makes fit many rest out place stack on = absurd cc
-    fields_goes [] known-types (Behind v others) first free makes fit many rest out place stack on = absurd cc
-    fields_goes (field ∷ fs) known-types (Behind v others) first free makes fit many rest out place stack on =
-        let w = worth_here v first (λ flaw h. free flaw (inl h)) in
+    fields_goes [] known-types (Following v others) first free makes fit many rest out place stack on = absurd cc
+    fields_goes (field ∷ fs) known-types (Following v others) first free makes fit many rest out place stack on =
+        let w = worth_here v first (λ violation h. free violation (inl h)) in
         let kind = known field.kind in
         let more = emits_all globals elements scope (kinds_in fs) others rest in
         let fitting = value_fits v first w.0 kind (expressions_in others) field.kind (field_kinds fs) w.1 known-types.0 fit in
         joins (value globals env v) (field_values globals env others) kind (fields_zeros globals.structs fs) more rest out place stack
-        (pushes_by standing v w.0 kind w.2 fitting (λ t et. emits_goes v first (λ flaw h. free flaw (inl h)) makes.0 t (w.2 ∙ ap Some et)) more out place stack
+        (pushes_by standing v w.0 kind w.2 fitting (λ t et. emits_goes v first (λ violation h. free violation (inl h)) makes.0 t (w.2 ∙ ap Some et)) more out place stack
         (subst (λ o. ST (settled elements o kind (emits globals elements scope v more) more) place out) w.2 on))
-        (λ x to on1. fields_goes fs known-types.1 others (first + expression_size v) (λ flaw h. free flaw (inr h)) makes.1 (λ flaw h. fit flaw (inr h)) (let e : suc (length (expressions_in others)) ≡ suc (length fs) = many in omega (arith, e)) rest out to (stack ++ x) on1)
+        (λ x to on1. fields_goes fs known-types.1 others (first + expression_size v) (λ violation h. free violation (inr h)) makes.1 (λ violation h. fit violation (inr h)) (let e : suc (length (expressions_in others)) ≡ suc (length fs) = many in omega (arith, e)) rest out to (stack ++ x) on1)

@@ -79,21 +79,21 @@ module _ {globals : Globals} {program : Compiled globals} {coded : Coded program
   pub send_goes : (to item : Expression) (first : ℕ) → Free (SimpleHas globals s first (Send to item)) → ExpressionMakes globals.types elements to → ExpressionMakes globals.types elements item → (k : List Task) (L : Course → Frames → Type 0) (q : ℕ) (layout : Layout) → layout.scope ≡ scope → (out : Option ℕ) (place : ℕ) → ST (simple_plan globals elements layout q (Send to item)) place out
       → ((next : ℕ) → ST Skip next out → L (Goes (frame env k)) (SP next [])) → Follows context (simple_work globals env k (Send to item)) L (SP place [])
   send_goes to item first free to-makes item-makes k L q layout same-scope out place on after =
-      let (d, t, ch) = channel_at standing to first (λ flaw h. free flaw (inl h)) (λ flaw h. free flaw (inr (inr (inl h)))) in
+      let (d, t, ch) = channel_at standing to first (λ violation h. free violation (inl h)) (λ violation h. free violation (inr (inr (inl h)))) in
       let second = first + expression_size to in
-      let whole : Free (ExpressionHas globals s second item) = λ flaw h. free flaw (inr (inl h)) in
+      let whole : Free (ExpressionHas globals s second item) = λ violation h. free violation (inr (inl h)) in
       let w = worth_here standing item second whole in
       let element : element_of (worth globals s to) ≡ Some t = ap element_of (checked standing to ∙ ch) in
       let runs : element_kind globals env to ≡ t = ap (λ o. known (element_of o)) (same_worth standing to ∙ ch) in
       let laid : carried globals elements scope to ≡ t = ap (λ o. known (element_of o)) ch in
       let fit : Fits w.0 t = fits w.0 t (nodes_of second item) (nodes_end second item)
-      (λ flaw h. free flaw (inr (inr (inr (inr (subst (λ o. ValueHas (worth globals s item) o (nodes_of second item) flaw) (sym element) (subst (λ o. ValueHas o (Some t) (nodes_of second item) flaw) (sym w.1) h))))))) in
+      (λ violation h. free violation (inr (inr (inr (inr (subst (λ o. ValueHas (worth globals s item) o (nodes_of second item) violation) (sym element) (subst (λ o. ValueHas o (Some t) (nodes_of second item) violation) (sym w.1) h))))))) in
       let sent : Plan = Do (instrs.Send (shape_of elements t)) Skip in
-      let behind : Plan = settled elements (worth globals scope item) t (emits globals elements scope item sent) sent in
-      let on1 : ST (settled elements (worth globals scope to) (type_of globals elements scope to) (emits globals elements scope to behind) behind) place out =
+      let following : Plan = settled elements (worth globals scope item) t (emits globals elements scope item sent) sent in
+      let on1 : ST (settled elements (worth globals scope to) (type_of globals elements scope to) (emits globals elements scope to following) following) place out =
       subst (λ j. ST (pushes_own globals elements scope to (pushes globals elements scope j item (Do (instrs.Send (shape_of elements j)) Skip))) place out) laid (subst (λ x. ST (simple_plan globals elements (record layout { scope = x }) q (Send to item)) place out) same-scope on) in
-      follows_then context (channel globals env k to) (λ c. and_then (item_in globals env k to item) (λ words. asks globals env k (requests.Send c words))) (LC behind out []) L (SP place [])
-      (channel_goes to first (λ flaw h. free flaw (inl h)) to-makes d t ch k behind out place [] on1)
+      follows_then context (channel globals env k to) (λ c. and_then (item_in globals env k to item) (λ words. asks globals env k (requests.Send c words))) (LC following out []) L (SP place [])
+      (channel_goes to first (λ violation h. free violation (inl h)) to-makes d t ch k following out place [] on1)
       (λ c e l. subst (λ x. Follows context (and_then (item_in globals env k to item) (λ words. asks globals env k (requests.Send c words))) L x) (sym l.1)
       (follows_then context (item_in globals env k to item) (λ words. asks globals env k (requests.Send c words)) (LI (zero_words globals.structs t) sent out (Chan c ∷ [])) L (SP l.0 (Chan c ∷ []))
       (follows_then context (value globals env item) (λ words. ready (as_kind globals.structs (element_kind globals env to) words)) (LI (zero_words globals.structs t) sent out (Chan c ∷ [])) (LI (zero_words globals.structs t) sent out (Chan c ∷ [])) (SP l.0 (Chan c ∷ []))

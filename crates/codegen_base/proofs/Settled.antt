@@ -28,7 +28,7 @@ use Rattle.codegen_base.proofs.Typing.{Fits}
 use Rattle.codegen_base.proofs.Operators.{IsPlain, ints, bools, channels}
 use Rattle.codegen_base.proofs.Constants.{constant_value, nil_value}
 use Rattle.codegen_base.proofs.Splits.{plain_beside, plain_plan, equality_plain, constants_compare, made_logical, channel_is, Operands, Ints, Bools, Channels, Truths, typed_operands, left_operand, right_operand, nil_right, nil_left, two_constants}
-use Rattle.codegen_base.proofs.Evaluates.{at, Slip, Stands, Evals, Pushes, behind_slip, bind, recast, pushed, pushed_int, pushed_bool, operated, plain, both, either}
+use Rattle.codegen_base.proofs.Evaluates.{at, Slip, Stands, Evals, Pushes, after_slip, bind, recast, pushed, pushed_int, pushed_bool, operated, plain, both, either}
 use Rattle.codegen_base.proofs.Running.{Compiled, Coded, Running, Standing}
 use Rattle.codegen_base.proofs.Expressions.{blocks as blocks_of, same_worth}
 
@@ -182,7 +182,7 @@ module _ {globals : Globals} {program : Compiled globals} {coded : Coded program
       (λ v like to on1.
       let (c, single) = is_channel globals.structs n.direction n.carried v (subst (λ j. Like globals.structs j v) n.channel like) in
       subst (λ (x : Value). E (between operator (Chan None) (word_in x)) k rest out to (stack ++ x) stack) (sym single)
-      (behind_slip standing (between operator (Chan None) (Chan c)) k rest out to (stack ++ Chan c ∷ []) stack (to + 1) (stack ++ (Chan c ∷ (Chan None ∷ [])))
+      (after_slip standing (between operator (Chan None) (Chan c)) k rest out to (stack ++ Chan c ∷ []) stack (to + 1) (stack ++ (Chan c ∷ (Chan None ∷ [])))
       (subst (λ (s : Words). Slip standing to (stack ++ Chan c ∷ []) (to + 1) s) (append_assoc stack (Chan c ∷ []) (Chan None ∷ [])) (pushes_nil code g f there callers to ls (stack ++ Chan c ∷ []) (elements_shape elements t) on1.0))
       (swapped n.compares n.direction n.carried n.channel n.gives c (to + 1) on1.1))))) where
         swapped : is_equality operator ≡ true → (d : Direction) (u : ValueType) → t ≡ ChannelType d u → k ≡ BoolType → (c : Option ℕ) (at : ℕ) → S (Do (instrs.Apply (operator_of operator t)) rest) at out

@@ -10,8 +10,8 @@ use Rattle.word.specs.declared.value.Word.{Word}
 use Rattle.word.specs.declared.value.Word.TheVariants.{Int, Bool as Truth}
 use Rattle.word.specs.Apply.{value as applied}
 use Rattle.type_table.specs.Types.{ValueType, IntType, BoolType, StructType, ChannelType, is_int_type, is_bool_type, is_channel_type}
-use Rattle.typing_rules.specs.declared.flaw.Misuse.{Misuse}
-use Rattle.typing_rules.specs.declared.flaw.Misuse.TheVariants as misuses
+use Rattle.typing_rules.specs.declared.violation.Misuse.{Misuse}
+use Rattle.typing_rules.specs.declared.violation.Misuse.TheVariants as misuses
 use Rattle.typing_rules.specs.Worths.{Worth, Typed, Constant, Nil, bounded, is_int, is_not, is_equality, is_order, is_logical, is_far, is_wrong_right, made_type, exact_binary, exact_unary, sized, if_good, are_comparable, fit_operator, beside_nil, unary_worth, binary_worth}
 use Rattle.meaning.specs.Values.{Value}
 use Rattle.meaning.specs.Expressions.{word_in, operator_at, between, beside}

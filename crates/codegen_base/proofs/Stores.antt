@@ -111,29 +111,29 @@ before_others p w (Local q n ∷ spots) ws ls lt (one, lq, single) le =
     let u = first_word ws 0 (omega (arith, le, one)) in
     go (has_place q spots) (q == p) (has_place p spots) refl refl refl (before_others p w spots (drop n ws) ls lt single (drop_length n ws (all_words spots) le)) u.0 (ap (λ k. take k ws) one ∙ ap (take 1) u.2)
     (back_length spots (drop n ws) ls single (drop_length n ws (all_words spots) le)) where
-      behind : Words → Words
-      behind l = put_backward (last_counts spots) (drop n ws) l
+      following : Words → Words
+      following l = put_backward (last_counts spots) (drop n ws) l
 
-      go : (b e h : Bool) → has_place q spots ≡ b → (q == p) ≡ e → has_place p spots ≡ h → behind (put_one p w ls) ≡ (if has_place p spots then behind ls else put_one p w (behind ls)) → (u : Word) → take n ws ≡ u ∷ [] → length (behind ls) ≡ length ls
+      go : (b e h : Bool) → has_place q spots ≡ b → (q == p) ≡ e → has_place p spots ≡ h → following (put_one p w ls) ≡ (if has_place p spots then following ls else put_one p w (following ls)) → (u : Word) → take n ws ≡ u ∷ [] → length (following ls) ≡ length ls
           → put_backward ((if has_place q spots then Dropped n else Local q n) ∷ last_counts spots) ws (put_one p w ls)
           ≡ (if (if q == p then true else has_place p spots) then put_backward ((if has_place q spots then Dropped n else Local q n) ∷ last_counts spots) ws ls else put_one p w (put_backward ((if has_place q spots then Dropped n else Local q n) ∷ last_counts spots) ws ls))
-      go true true true hq same hp more u is long = rw (hq, same) (more ∙ ap (λ t. if t then behind ls else put_one p w (behind ls)) hp)
+      go true true true hq same hp more u is long = rw (hq, same) (more ∙ ap (λ t. if t then following ls else put_one p w (following ls)) hp)
       go true true false hq same hp more u is long = absurd (true≢false (sym hq ∙ ap (λ k. has_place k spots) (number_same q p same) ∙ hp))
       go true false h hq same hp more u is long = rw (hq, same) more
       go false true true hq same hp more u is long = absurd (true≢false (sym hp ∙ ap (λ k. has_place k spots) (sym (number_same q p same)) ∙ hq))
       go false true false hq same hp more u is long =
           let e = number_same q p same in
           rw (hq, same) (
-          ap (λ (x : Words). put_at q x (behind (put_one p w ls))) is ∙ ap (put_one q u) (more ∙ ap (λ t. if t then behind ls else put_one p w (behind ls)) hp)
-          ∙ subst (λ k. put_one q u (put_one k w (behind ls)) ≡ put_one q u (behind ls)) e (one_twice q u w (behind ls) (omega (arith, lq, long)))
-          ∙ ap (λ (x : Words). put_at q x (behind ls)) (sym is))
+          ap (λ (x : Words). put_at q x (following (put_one p w ls))) is ∙ ap (put_one q u) (more ∙ ap (λ t. if t then following ls else put_one p w (following ls)) hp)
+          ∙ subst (λ k. put_one q u (put_one k w (following ls)) ≡ put_one q u (following ls)) e (one_twice q u w (following ls) (omega (arith, lq, long)))
+          ∙ ap (λ (x : Words). put_at q x (following ls)) (sym is))
       go false false true hq same hp more u is long =
-          rw (hq, same, hp) (ap (put_at q (take n ws)) (more ∙ ap (λ t. if t then behind ls else put_one p w (behind ls)) hp))
+          rw (hq, same, hp) (ap (put_at q (take n ws)) (more ∙ ap (λ t. if t then following ls else put_one p w (following ls)) hp))
       go false false false hq same hp more u is long =
           rw (hq, same, hp) (
-          ap (λ (x : Words). put_at q x (behind (put_one p w ls))) is ∙ ap (put_one q u) (more ∙ ap (λ t. if t then behind ls else put_one p w (behind ls)) hp)
-          ∙ one_swap q p u w (behind ls) (number_apart q p same) (omega (arith, lq, long)) (omega (arith, lt, long))
-          ∙ ap (λ (x : Words). put_one p w (put_at q x (behind ls))) (sym is))
+          ap (λ (x : Words). put_at q x (following (put_one p w ls))) is ∙ ap (put_one q u) (more ∙ ap (λ t. if t then following ls else put_one p w (following ls)) hp)
+          ∙ one_swap q p u w (following ls) (number_apart q p same) (omega (arith, lq, long)) (omega (arith, lt, long))
+          ∙ ap (λ (x : Words). put_one p w (put_at q x (following ls))) (sym is))
 
 pub forward_backward : (spots : List Spot) (ws ls : Words) → AreSingle (length ls) spots → all_words spots ≤ length ws → put_forward spots ws ls ≡ put_backward (last_counts spots) ws ls
 forward_backward [] ws ls single le = refl

@@ -5,7 +5,7 @@ use Rattle.std.proofs.lemmas.Option.{same_Some}
 use Rattle.type_table.specs.declared.entry.FieldEntry.{FieldEntry}
 use Rattle.type_table.specs.declared.entry.StructEntry.{StructEntry}
 use Rattle.type_table.specs.Types.{ValueType, IntType, BoolType, StructType, ChannelType}
-use Rattle.type_table.specs.Containment.{Field, Structs, fields_of, fields_in, Selected, behind, variable_words, field_among, field_of}
+use Rattle.type_table.specs.Containment.{Field, Structs, fields_of, fields_in, Selected, following, variable_words, field_among, field_of}
 use Rattle.type_table.specs.Views.{field_in, structs_of, AreWidths}
 use Rattle.meaning.specs.Values.{known}
 use Rattle.codegen_base.proofs.Fields.{AllWide, AllTyped}
@@ -30,11 +30,11 @@ all_typed types entries n = struct_typed (structs_of types entries) types entrie
 field_known : (structs : Structs) (fields : List Field) (name : List ℕ) (at : Selected) → AllTyped structs fields → field_among structs fields name ≡ Some at → (t : ValueType) × (at.kind ≡ Some t)
 field_known structs [] name at typed e = absurd cc
 field_known structs (field ∷ rest) name at typed e = go (bytes_eq field.name name) (field_among structs rest name) e (λ x h. field_known structs rest name x typed.1 h) where
-  go : (t : Bool) (o : Option Selected) → (if t then Some (record { place = 0; kind = field.kind }) else option_map (behind (variable_words structs field.kind)) o) ≡ Some at → ((x : Selected) → o ≡ Some x → (t : ValueType) × (x.kind ≡ Some t)) → (t : ValueType) × (at.kind ≡ Some t)
+  go : (t : Bool) (o : Option Selected) → (if t then Some (record { place = 0; kind = field.kind }) else option_map (following (variable_words structs field.kind)) o) ≡ Some at → ((x : Selected) → o ≡ Some x → (t : ValueType) × (x.kind ≡ Some t)) → (t : ValueType) × (at.kind ≡ Some t)
   go true o e more = (known field.kind, sym (ap (λ (s : Selected). s.kind) (same_Some (record { place = 0; kind = field.kind }) at e)) ∙ typed.0)
   go false None e more = absurd cc
   go false (Some x) e more =
-      let m = more x refl in (m.0, sym (ap (λ (s : Selected). s.kind) (same_Some (behind (variable_words structs field.kind) x) at e)) ∙ m.1)
+      let m = more x refl in (m.0, sym (ap (λ (s : Selected). s.kind) (same_Some (following (variable_words structs field.kind) x) at e)) ∙ m.1)
 
 pub fields_known : (structs : Structs) → ((n : ℕ) → AllTyped structs (fields_of structs n)) → (kind : ValueType) (name : List ℕ) (at : Selected) → field_of structs kind name ≡ Some at → (t : ValueType) × (at.kind ≡ Some t)
 fields_known structs typed IntType name at e = absurd cc

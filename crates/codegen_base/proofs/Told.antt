@@ -24,7 +24,7 @@ use Rattle.plan.proofs.Places.{At}
 use Rattle.plan.proofs.Steps.{spot, answer, takes_told, calls as calls_function}
 use Rattle.codegen_base.proofs.Seen.{Like}
 use Rattle.codegen_base.proofs.Likeness.{fitted_like, made_like, all_words_of}
-use Rattle.codegen_base.proofs.Gave.{Follows, stays, behind, bind as follows_then, asks as asks_at, calls as calls_at}
+use Rattle.codegen_base.proofs.Gave.{Follows, stays, following, bind as follows_then, asks as asks_at, calls as calls_at}
 use Rattle.codegen_base.proofs.Evaluates.{at, Stands, Lies, Evals, lies}
 use Rattle.codegen_base.proofs.Running.{Compiled, Coded, Running, Standing}
 
@@ -69,7 +69,7 @@ module _ {globals : Globals} {program : Compiled globals} {coded : Coded program
   told_goes zeros q i xs rest out place stack is many tells asks zero-is begins on =
       follows_then context (needs (Asking q)) (λ given. ready (parted zeros (given_words given))) After (Lay zeros rest out stack) (spot_at place (stack ++ xs))
       (asks_at context q After (spot_at place (stack ++ xs)) asks begins after)
-      (λ given d slips. behind context (ready (parted zeros (given_words given))) (Lay zeros rest out stack) d (spot_at (place + 1) (stack ++ all_words_of (parted zeros (given_words given)))) slips
+      (λ given d slips. following context (ready (parted zeros (given_words given))) (Lay zeros rest out stack) d (spot_at (place + 1) (stack ++ all_words_of (parted zeros (given_words given)))) slips
       (stays context (parted zeros (given_words given)) (Lay zeros rest out stack) (spot_at (place + 1) (stack ++ all_words_of (parted zeros (given_words given)))) (place + 1, given_words given, refl, refl, on))) where
         After : Given → Frames → Type 0
         After given d = Slips (code_next code) d (spot_at (place + 1) (stack ++ all_words_of (parted zeros (given_words given))))
@@ -108,7 +108,7 @@ module _ {globals : Globals} {program : Compiled globals} {coded : Coded program
   told_one_goes kind q i xs rest out place stack is many tells asks zero-is begins on =
       follows_then context (needs (Asking q)) (λ given. ready (words_like zero (given_words given))) After Goal (spot_at place (stack ++ xs))
       (asks_at context q After (spot_at place (stack ++ xs)) asks begins after)
-      (λ given d slips. behind context (ready (words_like zero (given_words given))) Goal d (spot_at (place + 1) (stack ++ words_like zero (given_words given))) slips
+      (λ given d slips. following context (ready (words_like zero (given_words given))) Goal d (spot_at (place + 1) (stack ++ words_like zero (given_words given))) slips
       (lies standing (words_like zero (given_words given)) kind rest out (place + 1) (stack ++ words_like zero (given_words given)) stack (place + 1) (made_like globals.structs kind (given_words given)) here on)) where
         zero : Value
         zero = zero_words globals.structs kind

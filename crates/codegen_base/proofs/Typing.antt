@@ -15,27 +15,27 @@ use Rattle.type_table.specs.Types.{ValueType, IntType, BoolType, StructType, Cha
 use Rattle.type_table.specs.Containment.{Selected, field_of}
 use Rattle.type_table.specs.Scopes.{Globals, Scope, Variable, Yield, NoResult, Yields, is_truth, is_nil, variable_named, type_in}
 use Rattle.typing_rules.specs.Calls.{Callee, NotDeclared, NoFunction, IsFunction, callee, result_of, yielded, result_type, made_of}
-use Rattle.typing_rules.specs.declared.flaw.Flaw.{Flaw}
-use Rattle.typing_rules.specs.declared.flaw.Flaw.TheVariants.{Broken, Exceeded}
-use Rattle.typing_rules.specs.declared.flaw.Misuse.{Misuse}
-use Rattle.typing_rules.specs.declared.flaw.Misuse.TheVariants as misuses
-use Rattle.typing_rules.specs.Flaws.{Nodes, IsBroken, IsExceeded, IsMisuse}
+use Rattle.typing_rules.specs.declared.violation.Violation.{Violation}
+use Rattle.typing_rules.specs.declared.violation.Violation.TheVariants.{Broken, Exceeded}
+use Rattle.typing_rules.specs.declared.violation.Misuse.{Misuse}
+use Rattle.typing_rules.specs.declared.violation.Misuse.TheVariants as misuses
+use Rattle.typing_rules.specs.Violations.{Nodes, IsBroken, IsExceeded, IsMisuse}
 use Rattle.typing_rules.specs.Worths.{Worth, Typed, Constant, Nil, kind_of, is_operand, is_int, literal, unary_worth, binary_worth, named_worth, selected_worth, type_of_field, literal_struct, element_of, worth}
 use Rattle.typing_rules.specs.Expressions.{nodes_of, FitHas, Fails, UnaryHas, BinaryHas, SelectionHas, LiteralHas, TypeHas, MadeHas, CalleeHas, YieldHas, ResultHas, ChannelHas, ExpressionHas}
 use Rattle.typing_rules.proofs.ExpressionNodes.{expression_positive}
 use Rattle.std.proofs.lemmas.Option.{same_Some}
 
 -- nothing of this kind is wrong
-abbrev pub Free : (Flaw → Type 0) → Type 0
-Free P = (flaw : Flaw) → P flaw → ⊥
+abbrev pub Free : (Violation → Type 0) → Type 0
+Free P = (violation : Violation) → P violation → ⊥
 
-pub broken : (rule : Rule) (end : ℕ) → 1 ≤ end → (flaw : Flaw) × IsBroken rule end flaw
+pub broken : (rule : Rule) (end : ℕ) → 1 ≤ end → (violation : Violation) × IsBroken rule end violation
 broken rule end le = (Broken rule (end - 1), (refl, omega (arith, le)))
 
-pub exceeded : (kind : LimitKind) (end : ℕ) → 1 ≤ end → (flaw : Flaw) × IsExceeded kind end flaw
+pub exceeded : (kind : LimitKind) (end : ℕ) → 1 ≤ end → (violation : Violation) × IsExceeded kind end violation
 exceeded kind end le = (Exceeded kind (end - 1), (refl, omega (arith, le)))
 
-misused : (misuse : Misuse) (left right : Nodes) (end : ℕ) → 1 ≤ left.end → 1 ≤ right.end → 1 ≤ end → (flaw : Flaw) × IsMisuse misuse left right end flaw
+misused : (misuse : Misuse) (left right : Nodes) (end : ℕ) → 1 ≤ left.end → 1 ≤ right.end → 1 ≤ end → (violation : Violation) × IsMisuse misuse left right end violation
 misused misuses.Operands left right end a b c = broken rules.Operands end c
 misused misuses.Size left right end a b c = exceeded limits.ConstantSize end c
 misused misuses.Right left right end a b c = broken rules.Constant end c
@@ -138,7 +138,7 @@ module _ (globals : Globals) (s : Scope) where
     pub found : field_of globals.structs kind field ≡ Some at
 
   pub selects : (first : ℕ) (whole : Expression) (field : List ℕ) (w : Worth) → worth globals s whole ≡ Some w → Free (ExpressionHas globals s first (Selection whole field)) → Selects whole field
-  selects first whole field w is free = go w is (λ flaw h. free flaw (inr (subst (λ o. SelectionHas globals o field (nodes_of first whole) (first + expression_size (Selection whole field)) flaw) (sym is) h))) where
+  selects first whole field w is free = go w is (λ violation h. free violation (inr (subst (λ o. SelectionHas globals o field (nodes_of first whole) (first + expression_size (Selection whole field)) violation) (sym is) h))) where
     end : 1 ≤ first + expression_size (Selection whole field)
     end = omega arith
 
@@ -154,14 +154,14 @@ module _ (globals : Globals) (s : Scope) where
   unary_made first operator e a is free =
       let end = first + expression_size (Unary operator e) in
       made (unary_worth operator a) (nodes_of first e) (nodes_of first e) end (nodes_end first e) (nodes_end first e) (omega arith)
-      (λ flaw h. free flaw (inr (subst (λ o. UnaryHas operator o (nodes_of first e) end flaw) (sym is) h)))
+      (λ violation h. free violation (inr (subst (λ o. UnaryHas operator o (nodes_of first e) end violation) (sym is) h)))
 
   pub binary_made : (first : ℕ) (operator : BinaryOperator) (l r : Expression) (a b : Worth) → worth globals s l ≡ Some a → worth globals s r ≡ Some b → Free (ExpressionHas globals s first (Binary operator l r)) → (w : Worth) × (binary_worth operator a b ≡ Ok w)
   binary_made first operator l r a b is ir free =
       let end = first + expression_size (Binary operator l r) in
       let right = nodes_of (first + expression_size l) r in
       made (binary_worth operator a b) (nodes_of first l) right end (nodes_end first l) (nodes_end (first + expression_size l) r) (omega arith)
-      (λ flaw h. free flaw (inr (inr (subst (λ o. BinaryHas operator o (worth globals s r) (nodes_of first l) right end flaw) (sym is) (subst (λ o. BinaryHas operator (Some a) o (nodes_of first l) right end flaw) (sym ir) h)))))
+      (λ violation h. free violation (inr (inr (subst (λ o. BinaryHas operator o (worth globals s r) (nodes_of first l) right end violation) (sym is) (subst (λ o. BinaryHas operator (Some a) o (nodes_of first l) right end violation) (sym ir) h)))))
 
   pub literal_there : (first : ℕ) (name : List ℕ) (values : Expressions) (trailing : Bool) → Free (ExpressionHas globals s first (Composite name values trailing)) → (n : ℕ) × (literal_struct globals s name ≡ Some n)
   literal_there first name values trailing free =
@@ -214,19 +214,19 @@ module _ (globals : Globals) (s : Scope) where
   worth_there known variables (Named name) first free = named_there variables first name free
   worth_there known variables (Parenthesized inner) first free = worth_there known variables inner first free
   worth_there known variables (Selection whole field) first free =
-      let w = worth_there known variables whole first (λ flaw h. free flaw (inl h)) in
+      let w = worth_there known variables whole first (λ violation h. free violation (inl h)) in
       let x = selects first whole field w.0 w.1 free in
       let t = known.fields x.kind field x.at x.found in
       (Typed t.0, ap (option_and_then (selected_worth globals field)) x.of ∙ ap (λ o. option_map Typed (type_of_field o)) x.found ∙ ap (option_map Typed) t.1)
   worth_there known variables (Composite name values trailing) first free =
       let n = literal_there first name values trailing free in (Typed (StructType n.0), ap (option_map (λ n. Typed (StructType n))) n.1)
   worth_there known variables (Unary operator e) first free =
-      let a = worth_there known variables e first (λ flaw h. free flaw (inl h)) in
+      let a = worth_there known variables e first (λ violation h. free violation (inl h)) in
       let w = unary_made first operator e a.0 a.1 free in
       (w.0, ap (option_and_then (λ x. result_ok (unary_worth operator x))) a.1 ∙ ap result_ok w.1)
   worth_there known variables (Binary operator l r) first free =
-      let a = worth_there known variables l first (λ flaw h. free flaw (inl h)) in
-      let b = worth_there known variables r (first + expression_size l) (λ flaw h. free flaw (inr (inl h))) in
+      let a = worth_there known variables l first (λ violation h. free violation (inl h)) in
+      let b = worth_there known variables r (first + expression_size l) (λ violation h. free violation (inr (inl h))) in
       let w = binary_made first operator l r a.0 b.0 a.1 b.1 free in (
         w.0,
         ap (option_and_then (λ x. option_and_then (λ y. result_ok (binary_worth operator x y)) (worth globals s r))) a.1
@@ -238,11 +238,11 @@ module _ (globals : Globals) (s : Scope) where
       let t = known.results n.0 y.0 y.1 in
       (Typed t.0, ap (λ c. option_map Typed (result_type globals c)) n.1 ∙ ap (λ y. option_map Typed (yielded y)) y.1 ∙ ap (option_map Typed) t.1)
   worth_there known variables (Receive channel) first free =
-      let w = worth_there known variables channel first (λ flaw h. free flaw (inl h)) in
-      let t = carried_there channel first w.0 w.1 (λ flaw h. free flaw (inr (inl h))) in (Typed t.0, ap (option_map Typed) t.1)
+      let w = worth_there known variables channel first (λ violation h. free violation (inl h)) in
+      let t = carried_there channel first w.0 w.1 (λ violation h. free violation (inr (inl h))) in (Typed t.0, ap (option_map Typed) t.1)
   worth_there known variables (Make kind) first free =
-      let t = made_there kind first (first + expression_size (Make kind)) (omega arith) (λ flaw h. free flaw (inl h)) (λ flaw h. free flaw (inr h)) in (Typed t.0, ap (option_map Typed) t.1)
+      let t = made_there kind first (first + expression_size (Make kind)) (omega arith) (λ violation h. free violation (inl h)) (λ violation h. free violation (inr h)) in (Typed t.0, ap (option_map Typed) t.1)
   worth_there known variables (MakeSized kind size) first free =
-      let t = made_there kind first (first + expression_size (MakeSized kind size)) (omega arith) (λ flaw h. free flaw (inl h)) (λ flaw h. free flaw (inr (inr (inr h)))) in (Typed t.0, ap (option_map Typed) t.1)
+      let t = made_there kind first (first + expression_size (MakeSized kind size)) (omega arith) (λ violation h. free violation (inl h)) (λ violation h. free violation (inr (inr (inr h)))) in (Typed t.0, ap (option_map Typed) t.1)
   worth_there known variables (Length channel) first free = (Typed IntType, refl)
   worth_there known variables (Capacity channel) first free = (Typed IntType, refl)

@@ -1,7 +1,7 @@
 -- The code of a file.
 use Rattle.std.specs.Str.{is_utf8}
 use Rattle.std.specs.Prelude.{ℕ, ◌+◌, List, [], ◌∷◌, ◌++◌, length, Option, Some, None, if◌then◌else◌}
-use Rattle.syntax.specs.Tree.{TypeExpression, Expression, Integer, Named, Parenthesized, Selection, Composite, Unary, Binary, Call, Receive, Make, MakeSized, Length, Capacity, Expressions, NoMore, Behind, expressions, Part, Value, Text, Simple, CallAlone, Close, Print, ReceiveAlone, Send, Increment, Decrement, Assign, Define, Update, ForHead, Forever, While, ForClauses, Range, Comm, Returned, NoValue, ReturnedValue, Go, Statement, Alone, VarTyped, VarUntyped, Block, If, For, Select, Return, Statements, NoStatement, Then, Branch, Conditional, Otherwise, NoElse, ElseBlock, ElseIf, Clauses, NoClause, Clause, Declared, Function, Top, StructTop, FunctionTop, File}
+use Rattle.syntax.specs.Tree.{TypeExpression, Expression, Integer, Named, Parenthesized, Selection, Composite, Unary, Binary, Call, Receive, Make, MakeSized, Length, Capacity, Expressions, NoMore, Following, expressions, Part, Value, Text, Simple, CallAlone, Close, Print, ReceiveAlone, Send, Increment, Decrement, Assign, Define, Update, ForHead, Forever, While, ForClauses, Range, Comm, Returned, NoValue, ReturnedValue, Go, Statement, Alone, VarTyped, VarUntyped, Block, If, For, Select, Return, Statements, NoStatement, Then, Branch, Conditional, Otherwise, NoElse, ElseBlock, ElseIf, Clauses, NoClause, Clause, Declared, Function, Top, StructTop, FunctionTop, File}
 use Rattle.bytecode.specs.Code.{Function as CodeFunction, PrintTable, SelectTable, Code}
 use Rattle.type_table.specs.Scopes.{Globals, Yield, nothing_declared, type_in}
 use Rattle.typing_rules.specs.Statements.{head_simple}
@@ -42,7 +42,7 @@ module _ (types : List (List ℕ)) where
 
     pub noting_expressions : Expressions → List Element → List Element
     noting_expressions NoMore all = all
-    noting_expressions (Behind first rest) all = noting_expressions rest (noting_expression first all)
+    noting_expressions (Following first rest) all = noting_expressions rest (noting_expression first all)
 
   abbrev pub noting_values : List Expression → List Element → List Element
   noting_values values all = noting_expressions (expressions values) all

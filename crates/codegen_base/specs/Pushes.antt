@@ -5,7 +5,7 @@ use Rattle.syntax.specs.declared.node.UnaryOperator.{UnaryOperator}
 use Rattle.syntax.specs.declared.node.UnaryOperator.TheVariants as signs
 use Rattle.syntax.specs.declared.node.BinaryOperator.{BinaryOperator}
 use Rattle.syntax.specs.declared.node.BinaryOperator.TheVariants as symbols
-use Rattle.syntax.specs.Tree.{TypeExpression, Expression, Integer, Named, Parenthesized, Selection, Composite, Unary, Binary, Call, Receive, Make, MakeSized, Length, Capacity, Expressions, NoMore, Behind, expressions}
+use Rattle.syntax.specs.Tree.{TypeExpression, Expression, Integer, Named, Parenthesized, Selection, Composite, Unary, Binary, Call, Receive, Make, MakeSized, Length, Capacity, Expressions, NoMore, Following, expressions}
 use Rattle.word.specs.declared.apply.Op.{Op}
 use Rattle.word.specs.declared.apply.Op.TheVariants as ops
 use Rattle.word.specs.declared.value.Word.TheVariants.{Int, Bool as Truth}
@@ -102,7 +102,7 @@ kinds_in (field ∷ rest) = known field.kind ∷ kinds_in rest
 -- a literal without values is the zero value
 abbrev pub literal_plan : Expressions → Plan → Plan → Plan
 literal_plan NoMore zeros fields = zeros
-literal_plan (Behind first others) zeros fields = fields
+literal_plan (Following first others) zeros fields = fields
 
 module _ (globals : Globals) (elements : List Element) (scope : Scope) where
   abbrev pub words_of : ValueType → ℕ
@@ -158,9 +158,9 @@ module _ (globals : Globals) (elements : List Element) (scope : Scope) where
     -- one value after the other, each as one of its type: arguments, and the fields of a literal
     pub emits_all : List ValueType → Expressions → Plan → Plan
     emits_all types NoMore rest = rest
-    emits_all [] (Behind first others) rest = rest
-    emits_all (kind ∷ types) (Behind first others) rest =
-        let behind = emits_all types others rest in settled elements (worth globals scope first) kind (emits first behind) behind
+    emits_all [] (Following first others) rest = rest
+    emits_all (kind ∷ types) (Following first others) rest =
+        let following = emits_all types others rest in settled elements (worth globals scope first) kind (emits first following) following
 
   -- a value is pushed as one of a type
   abbrev pub pushes : ValueType → Expression → Plan → Plan

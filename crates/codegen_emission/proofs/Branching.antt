@@ -28,7 +28,7 @@ use Rattle.codegen_emission.specs.Branches.{made_condition, made_one_way, made_t
 use Rattle.codegen_flow.proofs.Filled.{makes_length, makes_if_then}
 use Rattle.codegen_emission.proofs.Chosen.{makes_if_else, makes_if_other}
 use Rattle.codegen_emission.proofs.Emitting.{keeps_both, site_past}
-use Rattle.codegen_emission.proofs.Behind.{emits_behind}
+use Rattle.codegen_emission.proofs.Following.{emits_after}
 
 -- only the instructions have changed
 pub record Beside (old new : Emitter) : Type 0 where
@@ -103,7 +103,7 @@ module _ (table : TypeTable) where
         → Emits table e2 e3 f so → next ≡ length e3.code.items → e4.code.items ≡ slice_set e3.code.items (length e1.code.items) (instrs.Unless next) → Beside e3 e4 → g ≡ may_end f → Emits table e0 e4 g (made_if globals elements result (layout_of table e0.layout) condition so)
     emits_one_way condition so e0 e1 e2 e3 e4 f g next puts b1 c2 b2 e en c4 b4 is =
         let test = tests globals elements (layout_of table e0.layout) condition in
-        emits_behind table test e0 e1 e4 g (made_of (IfThen so.plan) so.prints so.layout) (pushes_before globals elements (layout_of table e0.layout).scope BoolType condition (IfThen so.plan)) puts b1.prints b1.selects (beside_keeps e0 e1 b1)
+        emits_after table test e0 e1 e4 g (made_of (IfThen so.plan) so.prints so.layout) (pushes_before globals elements (layout_of table e0.layout).scope BoolType condition (IfThen so.plan)) puts b1.prints b1.selects (beside_keeps e0 e1 b1)
         (emits_if_then e1 e2 e3 e4 f g so next c2 b2 e en c4 b4 is)
 
     pub emits_two_ways : (condition : Expression) (so : Made) (make : Site → Made) (e0 e1 e2 e3 e4 e5 e6 : Emitter) (f g h : Control) → Puts e0.code.items e1.code.items (tests globals elements (layout_of table e0.layout) condition) → Beside e0 e1 → e2.code.items ≡ e1.code.items ++ instrs.Unless 0 ∷ [] → Beside e1 e2
@@ -114,7 +114,7 @@ module _ (table : TypeTable) where
         let first : site_of table e2 ≡ site_of table e0 = same_site e1 e2 b2 ∙ same_site e0 e1 b1 in
         let other : site_of table e4 ≡ past (site_of table e0) so = same_site e3 e4 b4 ∙ site_past table e2 e3 f so a ∙ ap (λ site. past site so) first in
         let o = make (past (site_of table e0) so) in
-        emits_behind table test e0 e1 e6 h (made_of (IfElse so.plan o.plan) (so.prints ++ o.prints) o.layout) (pushes_before globals elements (layout_of table e0.layout).scope BoolType condition (IfElse so.plan o.plan)) puts b1.prints b1.selects (beside_keeps e0 e1 b1)
+        emits_after table test e0 e1 e6 h (made_of (IfElse so.plan o.plan) (so.prints ++ o.prints) o.layout) (pushes_before globals elements (layout_of table e0.layout).scope BoolType condition (IfElse so.plan o.plan)) puts b1.prints b1.selects (beside_keeps e0 e1 b1)
         (emits_if_else e1 e2 e3 e4 e5 e6 f g h so o c2 b2 a c4 b4 (subst (λ site. Emits table e4 e5 g (make site)) other b) c6 b6 is)
 
     -- one way or two, as something follows `else` or not

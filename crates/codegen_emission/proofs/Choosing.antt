@@ -38,8 +38,8 @@ makes_any_way : (leads : Bool) (ks : List WordKind) (i0 i1 i2 i3 i4 : List Instr
     → i4 ≡ cond leads (slice_set i3 (length i1) (instrs.Jump (length i3))) i3 → Makes i0 i4 (ws ++ vs) (Way ks body others)
 makes_any_way true ks i0 i1 i2 i3 i4 ws vs body others on m e2 o e4 = makes_way ks i0 i1 i2 i3 i4 ws vs body others (length i3) on m e2 o refl e4
 makes_any_way false ks i0 i1 i2 i3 i4 ws vs body others off m e2 o e4 =
-    let behind = subst (λ c. Makes c i3 vs others) (e2 ∙ append-nil i1) o in
-    subst (λ c. Makes i0 c (ws ++ vs) (Way ks body others)) (sym e4) (makes_ended_way ks i0 i1 i3 ws vs body others off m behind)
+    let following = subst (λ c. Makes c i3 vs others) (e2 ∙ append-nil i1) o in
+    subst (λ c. Makes i0 c (ws ++ vs) (Way ks body others)) (sym e4) (makes_ended_way ks i0 i1 i3 ws vs body others off m following)
 
 module _ (table : TypeTable) where
   -- the pc at which the ways after it begin

@@ -6,12 +6,12 @@ use Rattle.bytecode.specs.declared.instr.Instr.{Instr}
 use Rattle.bytecode.specs.declared.instr.Instr.TheVariants as instrs
 use Rattle.bytecode.specs.declared.instr.WordKind.{WordKind}
 use Rattle.bytecode.specs.Code.{SelectTable}
-use Rattle.plan.specs.Plan.{Plan, IfElse, Cycle, Endless, Choose, Way, LastWay, reaches_end, turns, jump_behind, jump_size, size, flat}
-use Rattle.plan.proofs.Places.{jump_behind_size}
+use Rattle.plan.specs.Plan.{Plan, IfElse, Cycle, Endless, Choose, Way, LastWay, reaches_end, turns, jump_after, jump_size, size, flat}
+use Rattle.plan.proofs.Places.{jump_after_size}
 use Rattle.plan.proofs.Appends.{round, round_size, appends_if_else, appends_cycle, appends_endless, appends_choose, appends_way}
 use Rattle.codegen_flow.specs.declared.waits.Wait.{Wait}
 use Rattle.codegen_flow.specs.Waits.{filled, settled, continues, AreWithin, Makes}
-use Rattle.codegen_flow.proofs.Filled.{filled_length, filled_before, filled_set, filled_both, within_wider, within_both, makes_length, behind_set}
+use Rattle.codegen_flow.proofs.Filled.{filled_length, filled_before, filled_set, filled_both, within_wider, within_both, makes_length, after_set}
 
 -- ---- two parts, with a jump over the second one
 
@@ -20,14 +20,14 @@ between_set : (i1 i2 i3 i4 : List Instr) (ws vs : List Wait) (first : ℕ) (q : 
     → filled (ws ++ vs) leave again i4 ≡ filled ws leave again i1 ++ (j ∷ flat leave again (length i2) q)
 between_set i1 i2 i3 i4 ws vs first q leave again i j in_range e2 m e4 =
     let fq = flat leave again (length i2) q in
-    let behind = behind_set i1 i2 i3 i4 vs q leave again i j e2 m e4 in
-    filled_both ws vs leave again i4 ∙ ap (filled ws leave again) (behind ∙ append_assoc i1 (j ∷ []) fq) ∙ filled_before ws leave again first (length i1) i1 (j ∷ fq) in_range (omega arith)
+    let following = after_set i1 i2 i3 i4 vs q leave again i j e2 m e4 in
+    filled_both ws vs leave again i4 ∙ ap (filled ws leave again) (following ∙ append_assoc i1 (j ∷ []) fq) ∙ filled_before ws leave again first (length i1) i1 (j ∷ fq) in_range (omega arith)
 
 -- what follows a part that leads on
-jump_there : (p : Plan) (to : ℕ) → reaches_end p ≡ true → jump_behind p to ≡ instrs.Jump to ∷ []
+jump_there : (p : Plan) (to : ℕ) → reaches_end p ≡ true → jump_after p to ≡ instrs.Jump to ∷ []
 jump_there p to leads = ap (λ b. cond b (instrs.Jump to ∷ []) []) leads
 
-no_jump : (p : Plan) (to : ℕ) → reaches_end p ≡ false → jump_behind p to ≡ []
+no_jump : (p : Plan) (to : ℕ) → reaches_end p ≡ false → jump_after p to ≡ []
 no_jump p to ends = ap (λ b. cond b (instrs.Jump to ∷ []) []) ends
 
 jump_one : (p : Plan) → reaches_end p ≡ true → jump_size p ≡ 1
@@ -49,9 +49,9 @@ makes_way ks i0 i1 i2 i3 i4 ws vs body others to leads m e2 o et e4 =
       within = within_both ws vs (length i0) (length i1) (length i4) (omega (arith, n1)) (omega (arith, n2, n3, n4)) m.within (within_wider vs (length i2) (length i3) (length i1) (length i4) (omega (arith, n2)) (omega (arith, n4)) o.within);
       is = λ leave again.
           let f1 = filled ws leave again i1 in
-          let j2 = f1 ++ jump_behind body to in
+          let j2 = f1 ++ jump_after body to in
           let k1 : length f1 ≡ length i1 = filled_length ws leave again i1 in
-          let k2 : length j2 ≡ length i2 = length-append f1 (jump_behind body to) ∙ ap (λ n. length f1 + n) (jump_behind_size body to ∙ one) ∙ ap (λ n. n + 1) k1 ∙ sym n2 in
+          let k2 : length j2 ≡ length i2 = length-append f1 (jump_after body to) ∙ ap (λ n. length f1 + n) (jump_after_size body to ∙ one) ∙ ap (λ n. n + 1) k1 ∙ sym n2 in
           let fo = flat leave again (length i2) others in
           let last : filled (ws ++ vs) leave again i4 ≡ j2 ++ flat leave again (length j2) others =
           between_set i1 i2 i3 i4 ws vs (length i0) others leave again (instrs.Jump 0) (instrs.Jump to) m.within e2 o e4 ∙ sym (append_assoc f1 (instrs.Jump to ∷ []) fo)
@@ -70,7 +70,7 @@ makes_ended_way ks i0 i1 i2 ws vs body others ends m o =
       is = λ leave again.
           let f1 = filled ws leave again i1 in
           let to = length i2 in
-          let j2 = f1 ++ jump_behind body to in
+          let j2 = f1 ++ jump_after body to in
           let same : j2 ≡ f1 = ap (λ x. f1 ++ x) (no_jump body to ends) ∙ append-nil f1 in
           let k1 : length f1 ≡ length i1 = filled_length ws leave again i1 in
           let k2 : length j2 ≡ length i1 = ap length same ∙ k1 in
@@ -147,12 +147,12 @@ makes_if_else i0 i1 i2 i3 i4 i5 i6 ws vs so other next to leads e1 m e3 en e4 o 
       is = λ leave again.
           let j1 = i0 ++ test ∷ [] in
           let j2 = filled ws leave again k2 in
-          let j3 = j2 ++ jump_behind so to in
+          let j3 = j2 ++ jump_after so to in
           let fo = flat leave again (length i4) other in
           let k1 : length j1 ≡ length i1 = length-append i0 (test ∷ []) ∙ sym n1 in
           let m2 : length j2 ≡ length i2 = filled_length ws leave again k2 ∙ nk in
-          let m3 : length j3 ≡ length i4 = length-append j2 (jump_behind so to) ∙ ap (λ n. length j2 + n) (jump_behind_size so to ∙ one) ∙ ap (λ n. n + 1) m2 ∙ sym n3 ∙ sym n4 in
-          let second : j2 ≡ j1 ++ flat leave again (length j1) so = behind_set i0 i1 i2 k2 ws so leave again (instrs.Unless 0) test e1 m refl ∙ ap (λ n. j1 ++ flat leave again n so) (sym k1) in
+          let m3 : length j3 ≡ length i4 = length-append j2 (jump_after so to) ∙ ap (λ n. length j2 + n) (jump_after_size so to ∙ one) ∙ ap (λ n. n + 1) m2 ∙ sym n3 ∙ sym n4 in
+          let second : j2 ≡ j1 ++ flat leave again (length j1) so = after_set i0 i1 i2 k2 ws so leave again (instrs.Unless 0) test e1 m refl ∙ ap (λ n. j1 ++ flat leave again n so) (sym k1) in
           let last : filled (ws ++ vs) leave again i6 ≡ j3 ++ flat leave again (length j3) other =
           between_set k2 i4 i5 i6 ws vs (length i1) other leave again (instrs.Jump 0) over (subst (λ n. AreWithin (length i1) n ws) (sym nk) m.within) same4 o same6 ∙ sym (append_assoc j2 (over ∷ []) fo)
           ∙ ap (λ x. (j2 ++ x) ++ fo) (sym (jump_there so to leads)) ∙ ap (λ n. j3 ++ flat leave again n other) (sym m3) in
@@ -176,12 +176,12 @@ makes_if_other i0 i1 i2 i3 i4 ws vs so other next ends e1 m en e3 o =
           let to = length i4 in
           let j1 = i0 ++ test ∷ [] in
           let j2 = filled ws leave again i3 in
-          let j3 = j2 ++ jump_behind so to in
+          let j3 = j2 ++ jump_after so to in
           let fo = flat leave again (length i3) other in
           let k1 : length j1 ≡ length i1 = length-append i0 (test ∷ []) ∙ sym n1 in
           let m2 : length j2 ≡ length i3 = filled_length ws leave again i3 in
           let same : j3 ≡ j2 = ap (λ x. j2 ++ x) (no_jump so to ends) ∙ append-nil j2 in
-          let second : j2 ≡ j1 ++ flat leave again (length j1) so = behind_set i0 i1 i2 i3 ws so leave again (instrs.Unless 0) test e1 m e3 ∙ ap (λ n. j1 ++ flat leave again n so) (sym k1) in
+          let second : j2 ≡ j1 ++ flat leave again (length j1) so = after_set i0 i1 i2 i3 ws so leave again (instrs.Unless 0) test e1 m e3 ∙ ap (λ n. j1 ++ flat leave again n so) (sym k1) in
           let last : filled (ws ++ vs) leave again i4 ≡ j3 ++ flat leave again (length j3) other =
           filled_both ws vs leave again i4 ∙ ap (filled ws leave again) (o.is leave again) ∙ filled_before ws leave again (length i1) (length i2) i3 fo m.within (omega (arith, n3)) ∙ ap (λ x. x ++ fo) (sym same)
           ∙ ap (λ n. j3 ++ flat leave again n other) (sym (ap length same ∙ m2)) in
@@ -214,7 +214,7 @@ makes_cycle i0 i1 i2 i3 i4 i5 i6 i7 ws test body post exit exit_at stop t e2 m e
           let m3 : length j3 ≡ length i3 = filled_length ws stop (length i3) k3 ∙ nk in
           let same4 : j4 ≡ j3 ++ r = ap (λ n. j3 ++ round leave again (length i0) n body post) m3 in
           let m4 : length j4 ≡ length i4 = ap length same4 ∙ length-append j3 r ∙ ap (λ n. n + length r) m3 ∙ sym (ap length (e4 leave again) ∙ length-append i3 r) in
-          let third : j3 ≡ j2 ++ flat stop (length i3) (length j2) body = behind_set i1 i2 i3 k3 ws body stop (length i3) (instrs.Unless 0) out e2 m refl ∙ ap (λ n. j2 ++ flat stop (length i3) n body) (sym k2) in
+          let third : j3 ≡ j2 ++ flat stop (length i3) (length j2) body = after_set i1 i2 i3 k3 ws body stop (length i3) (instrs.Unless 0) out e2 m refl ∙ ap (λ n. j2 ++ flat stop (length i3) n body) (sym k2) in
           let all5 : i5 ≡ i3 ++ (r ++ fe) = x.is leave again ∙ ap (λ (c : List Instr). c ++ fe) (e4 leave again) ∙ append_assoc i3 r fe in
           let all6 : i6 ≡ k3 ++ (r ++ fe) = e6 ∙ ap (λ (c : List Instr). slice_set c (length i1) out) all5 ∙ set-append_left i3 (r ++ fe) (length i1) out (omega (arith, n2, n3)) in
           let all7 : i7 ≡ j4 ++ flat leave again (length j4) exit =

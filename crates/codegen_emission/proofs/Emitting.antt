@@ -60,8 +60,8 @@ module _ (table : TypeTable) where
   emits_none now = emits_nothing now through refl
 
   -- marks change nothing
-  pub emits_marked : (e0 e1 : Emitter) (before behind : Marks) (flow : Control) (made : Made) → Emits table (record e0 { marks = before }) e1 flow made → Emits table e0 (record e1 { marks = behind }) flow made
-  emits_marked e0 e1 before behind flow made e = record { code = e.code; flows = e.flows; prints = e.prints; selects = e.selects; layout = e.layout; kept = e.kept }
+  pub emits_marked : (e0 e1 : Emitter) (before following : Marks) (flow : Control) (made : Made) → Emits table (record e0 { marks = before }) e1 flow made → Emits table e0 (record e1 { marks = following }) flow made
+  emits_marked e0 e1 before following flow made e = record { code = e.code; flows = e.flows; prints = e.prints; selects = e.selects; layout = e.layout; kept = e.kept }
 
   -- ---- one after the other
 
@@ -77,7 +77,7 @@ module _ (table : TypeTable) where
   emits_both e0 e1 e2 f g first rest on a b =
       let leads : reaches_end first.plan ≡ true = sym a.flows.ends ∙ on in
       let n = makes_length e0.code.items e1.code.items f.waits first.plan a.code in
-      let behind = tables (length e1.code.items) rest.plan in
+      let following = tables (length e1.code.items) rest.plan in
       record {
         code = makes_seq e0.code.items e1.code.items e2.code.items f.waits g.waits first.plan rest.plan leads a.code b.code;
         flows = record {
@@ -86,8 +86,8 @@ module _ (table : TypeTable) where
           continues = ap (λ x. x || g.continues) a.flows.continues ∙ ap (λ x. has_continue first.plan || x) b.flows.continues ∙ ap (λ x. has_continue first.plan || (x && has_continue rest.plan)) (sym leads);
         };
         prints = b.prints ∙ ap (λ (l : List PrintTable). l ++ rest.prints) a.prints ∙ append_assoc e0.prints.items first.prints rest.prints;
-        selects = b.selects ∙ ap (λ (l : List SelectTable). l ++ behind) a.selects ∙ append_assoc e0.selects.items (tables (length e0.code.items) first.plan) behind
-            ∙ ap (λ b. e0.selects.items ++ (tables (length e0.code.items) first.plan ++ cond b behind [])) (sym leads)
+        selects = b.selects ∙ ap (λ (l : List SelectTable). l ++ following) a.selects ∙ append_assoc e0.selects.items (tables (length e0.code.items) first.plan) following
+            ∙ ap (λ b. e0.selects.items ++ (tables (length e0.code.items) first.plan ++ cond b following [])) (sym leads)
             ∙ ap (λ x. e0.selects.items ++ (tables (length e0.code.items) first.plan ++ cond (reaches_end first.plan) (tables x rest.plan) [])) n;
         layout = b.layout;
         kept = keeps_both e0 e1 e2 a.kept b.kept;

@@ -33,8 +33,8 @@ module _ (table : TypeTable) (globals : Globals) (elements : List Element) (resu
   emits_finished site body e0 e1 e2 f g h a on b is =
       let m = made_all globals elements result site body in
       let leads : reaches_end m.plan ≡ true = sym a.flows.ends ∙ on in
-      let behind = subst (λ l. Emits table e1 e2 g (end_made l)) a.layout b in
-      let both = subst (λ f. Emits table e0 e2 f (followed m (end_made m.layout))) (sym is) (emits_both table e0 e1 e2 f g m (end_made m.layout) on a behind) in
+      let following = subst (λ l. Emits table e1 e2 g (end_made l)) a.layout b in
+      let both = subst (λ f. Emits table e0 e2 f (followed m (end_made m.layout))) (sym is) (emits_both table e0 e1 e2 f g m (end_made m.layout) on a following) in
       subst (λ b. Emits table e0 e2 h (if b then followed m (end_made m.layout) else m)) (sym leads) both
 
   -- it isn't

@@ -2,7 +2,7 @@ pub mod Chosen
 pub mod Emitting
 pub mod Listing
 pub mod Looping
-pub mod Behind
+pub mod Following
 pub mod Branching
 pub mod Straight
 pub mod Ending

@@ -25,7 +25,7 @@ use Rattle.codegen_emission.specs.Turns.{Rounds, made_turns}
 use Rattle.codegen_flow.proofs.Filled.{makes_length}
 use Rattle.codegen_emission.proofs.Chosen.{makes_cycle, makes_endless}
 use Rattle.codegen_emission.proofs.Emitting.{keeps_both}
-use Rattle.codegen_emission.proofs.Behind.{alone_tables, before_break, before_continue}
+use Rattle.codegen_emission.proofs.Following.{alone_tables, before_break, before_continue}
 use Rattle.codegen_emission.proofs.Branching.{Beside, beside_keeps}
 
 and_false : (b : Bool) → (b && false) ≡ false
@@ -60,9 +60,9 @@ module _ (table : TypeTable) where
   turned : (b : Bool) (head : ℕ) (e0 e1 e2 : Emitter) (flow : Control) (body post : Made) → Emits table e0 e1 flow body → b ≡ (flow.ends || flow.continues) → (place : ℕ) → head ≡ place → Rounds table b head e1 e2 post
       → (leave again : ℕ) → e2.code.items ≡ e1.code.items ++ round leave again place (length e1.code.items) body.plan post.plan
   turned b head e0 e1 e2 flow body post e is place eh r leave again =
-      let behind = flat leave again (length e1.code.items) post.plan in
+      let following = flat leave again (length e1.code.items) post.plan in
       let comes : b ≡ turns body.plan = is ∙ ap (λ b. b || flow.continues) e.flows.ends ∙ ap (λ b. reaches_end body.plan || b) e.flows.continues in
-      r.code leave again ∙ ap (λ h. e1.code.items ++ cond b (behind ++ instrs.Loop h ∷ []) []) eh ∙ ap (λ b. e1.code.items ++ cond b (behind ++ instrs.Loop place ∷ []) []) comes
+      r.code leave again ∙ ap (λ h. e1.code.items ++ cond b (following ++ instrs.Loop h ∷ []) []) eh ∙ ap (λ b. e1.code.items ++ cond b (following ++ instrs.Loop place ∷ []) []) comes
 
   -- ---- loops
 
@@ -89,7 +89,7 @@ module _ (table : TypeTable) where
   -- is done if the test fails
   pub record Tested (e0 e1 e2 e3 e4 e5 : Emitter) (flow : Control) (test exit : Plan) (body post : Made) (turns : Bool) (head again exit_at stop : ℕ) : Type 0 where
     pub alone : Before Skip test
-    pub behind : Before Skip post.plan
+    pub following : Before Skip post.plan
     pub failed : Before Skip exit
     pub tests : Appends e0.code.items e1.code.items test
     pub jumps : e2.code.items ≡ e1.code.items ++ instrs.Unless 0 ∷ []
@@ -119,14 +119,14 @@ module _ (table : TypeTable) where
       let ended_at = post_at + cond (turns body.plan) (size post.plan + 1) 0 in
       let t1 = tables (length e2.code.items) body.plan in
       let t2 = cond (turns body.plan) (tables post_at post.plan) [] ++ tables ended_at exit in
-      let none : t2 ≡ [] = ap (λ (l : List SelectTable). l ++ tables ended_at exit) (no_tables (turns body.plan) (tables post_at post.plan) (alone_tables post.plan post_at t.behind)) ∙ alone_tables exit ended_at t.failed in
+      let none : t2 ≡ [] = ap (λ (l : List SelectTable). l ++ tables ended_at exit) (no_tables (turns body.plan) (tables post_at post.plan) (alone_tables post.plan post_at t.following)) ∙ alone_tables exit ended_at t.failed in
       subst (λ f. Emits table e0 e6 f (made_of (Cycle test body.plan post.plan exit) (body.prints ++ post.prints) post.layout)) (sym is) (record {
         code = makes_cycle e0.code.items e1.code.items e2.code.items e3.code.items e4.code.items e5.code.items i6 e6.code.items flow.waits test body.plan post.plan exit exit_at stop (record { within = tt; is = t.tests }) t.jumps e.code
             (turned b head e2 e3 e4 flow body post e t.comes place t.head_is t.rounds) (record { within = tt; is = t.exits }) t.exit_is t.stop_is refl (c6 ∙ ap (λ a. filled flow.waits stop a i6) t.again_is);
         flows = record {
           ends = refl;
-          breaks = sym (ap (λ x. x || (turns body.plan && has_break post.plan || has_break exit)) (before_break Skip test t.alone) ∙ ap (λ x. turns body.plan && x || has_break exit) (before_break Skip post.plan t.behind) ∙ ap (λ x. x || has_break exit) (and_false (turns body.plan)) ∙ before_break Skip exit t.failed);
-          continues = sym (ap (λ x. x || (turns body.plan && has_continue post.plan || has_continue exit)) (before_continue Skip test t.alone) ∙ ap (λ x. turns body.plan && x || has_continue exit) (before_continue Skip post.plan t.behind) ∙ ap (λ x. x || has_continue exit) (and_false (turns body.plan)) ∙ before_continue Skip exit t.failed);
+          breaks = sym (ap (λ x. x || (turns body.plan && has_break post.plan || has_break exit)) (before_break Skip test t.alone) ∙ ap (λ x. turns body.plan && x || has_break exit) (before_break Skip post.plan t.following) ∙ ap (λ x. x || has_break exit) (and_false (turns body.plan)) ∙ before_break Skip exit t.failed);
+          continues = sym (ap (λ x. x || (turns body.plan && has_continue post.plan || has_continue exit)) (before_continue Skip test t.alone) ∙ ap (λ x. turns body.plan && x || has_continue exit) (before_continue Skip post.plan t.following) ∙ ap (λ x. x || has_continue exit) (and_false (turns body.plan)) ∙ before_continue Skip exit t.failed);
         };
         prints = b6.prints ∙ t.beside.prints ∙ t.rounds.prints ∙ ap (λ (l : List PrintTable). l ++ post.prints) (e.prints ∙ ap (λ (l : List PrintTable). l ++ body.prints) t.prints) ∙ append_assoc e0.prints.items body.prints post.prints;
         selects = b6.selects ∙ t.beside.selects ∙ t.rounds.selects ∙ e.selects ∙ ap (λ (l : List SelectTable). l ++ t1) t.selects ∙ ap (λ (l : List SelectTable). e0.selects.items ++ l) (sym (append-nil t1)) ∙ ap (λ (l : List SelectTable). e0.selects.items ++ (t1 ++ l)) (sym none)

@@ -12,7 +12,7 @@ use Rattle.type_table.specs.Types.{ValueType}
 use Rattle.type_table.specs.Scopes.{Globals, Yield}
 use Rattle.type_table.specs.Visible.{Keeps}
 use Rattle.codegen_base.specs.declared.element.Element.{Element}
-use Rattle.codegen_base.specs.Layouts.{Layout, behind_target, carried, keeping}
+use Rattle.codegen_base.specs.Layouts.{Layout, following_target, carried, keeping}
 use Rattle.codegen_base.specs.Pushes.{drops}
 use Rattle.codegen_base.specs.Statements.{name_spot, place_spot, stores, width}
 use Rattle.codegen_base.specs.Generated.{Made, Site, at, ended, keeps, made, made_of, receives, takes}
@@ -27,7 +27,7 @@ use Rattle.codegen_emission.specs.Emitted.{Emits, site_of}
 use Rattle.codegen_emission.specs.Branches.{made_within}
 use Rattle.codegen_emission.specs.Items.{made_item, made_items}
 use Rattle.codegen_emission.proofs.Emitting.{emits_both, keeps_both}
-use Rattle.codegen_emission.proofs.Behind.{emits_alone}
+use Rattle.codegen_emission.proofs.Following.{emits_alone}
 use Rattle.codegen_emission.proofs.Blocks.{Entered, Left, emits_inside}
 use Rattle.codegen_emission.proofs.Branching.{Beside, beside_keeps}
 use Rattle.codegen_emission.proofs.Looping.{emits_cycle}
@@ -63,26 +63,26 @@ module _ (globals : Globals) (elements : List Element) (result : Yield) where
       kept = keeps_both table e0 e1 e2 k e.kept;
     }
 
-    site_behind : (layout : Layout) (e0 e1 : Emitter) → e1.prints.items ≡ e0.prints.items → e1.selects.items ≡ e0.selects.items → layout_of table e1.layout ≡ layout → site_of table e1 ≡ at layout (site_of table e0)
-    site_behind layout e0 e1 p s l =
+    site_after : (layout : Layout) (e0 e1 : Emitter) → e1.prints.items ≡ e0.prints.items → e1.selects.items ≡ e0.selects.items → layout_of table e1.layout ≡ layout → site_of table e1 ≡ at layout (site_of table e0)
+    site_after layout e0 e1 p s l =
         let prints = ap length p in
         let selects = ap length s in
         cc
 
     abbrev item_at : ValueType → Target → Statements → Site → Made
     item_at kind target body site =
-        let within = made_within globals elements result (at (behind_target globals elements kind target site.layout) site) body in made_of (Seq (takes globals elements result site.layout kind target) within.plan) within.prints within.layout
+        let within = made_within globals elements result (at (following_target globals elements kind target site.layout) site) body in made_of (Seq (takes globals elements result site.layout kind target) within.plan) within.prints within.layout
 
     -- an item is taken, and the body is done
     pub emits_item : (kind : ValueType) (target : Target) (body : Statements) (e0 e1 e2 e3 e4 : Emitter) (count outer : ℕ) (flow : Control) → Entered table e0 e1 count outer → Appends e1.code.items e2.code.items (takes globals elements result (layout_of table e1.layout) kind target)
-        → e2.prints.items ≡ e1.prints.items → e2.selects.items ≡ e1.selects.items → layout_of table e2.layout ≡ behind_target globals elements kind target (layout_of table e1.layout) → Keeps e1.layout.visible e2.layout.visible
+        → e2.prints.items ≡ e1.prints.items → e2.selects.items ≡ e1.selects.items → layout_of table e2.layout ≡ following_target globals elements kind target (layout_of table e1.layout) → Keeps e1.layout.visible e2.layout.visible
         → Emits table e2 e3 flow (made_within globals elements result (site_of table e2) body) → Left e3 e4 count outer → Emits table e0 e4 flow (made_item globals elements result (site_of table e0) kind target body)
     emits_item kind target body e0 e1 e2 e3 e4 count outer flow i code p s l k e left =
         let layout = layout_of table e1.layout in
-        let taken = behind_target globals elements kind target layout in
+        let taken = following_target globals elements kind target layout in
         let first = made_of (takes globals elements result layout kind target) [] taken in
         let one = emits_alone table e1 e2 through first refl (takes_before layout kind target) code (p ∙ sym (append-nil e1.prints.items)) s l k in
-        let rest = subst (λ site. Emits table e2 e3 flow (made_within globals elements result site body)) (site_behind taken e1 e2 p s l) e in
+        let rest = subst (λ site. Emits table e2 e3 flow (made_within globals elements result site body)) (site_after taken e1 e2 p s l) e in
         emits_inside table (item_at kind target body) e0 e1 e3 e4 count outer flow i (emits_both table e1 e2 e3 through flow first (made_within globals elements result (at taken (site_of table e1)) body) refl one rest) left
 
     -- the items, one after the other
@@ -96,7 +96,7 @@ module _ (globals : Globals) (elements : List Element) (result : Yield) where
         let unused = drops (width globals elements around.scope kind) Skip in
         let whole = emits_cycle table e0 e1 e2 e3 e4 e5 e6 flow g (receives globals elements result around channel) unused item (made_of Skip [] item.layout) b head again exit_at stop (record {
           alone = receives_before around channel;
-          behind = Here Skip;
+          following = Here Skip;
           failed = drops_before (width globals elements around.scope kind) Skip;
           tests = c1;
           jumps = c2;
@@ -125,8 +125,8 @@ module _ (globals : Globals) (elements : List Element) (result : Yield) where
         let first = made_of (keeps globals elements result around channel) [] around in
         let one = emits_alone table e0 e1 through first refl (keeps_before around channel) c1 (b1.prints ∙ sym (append-nil e0.prints.items)) b1.selects (ap (layout_of table) b1.layout) (beside_keeps e0 e1 b1) in
         let make = λ (site : Site). made_items globals elements result around channel (at kept site) target body in
-        let items = emits_declared e2 e3 e4 flow (make (site_of table e2)) c3 p3 s3 k3 (subst (λ site. Emits table e3 e4 flow (made_items globals elements result around channel site target body)) (site_behind kept e2 e3 p3 s3 l3) e) in
+        let items = emits_declared e2 e3 e4 flow (make (site_of table e2)) c3 p3 s3 k3 (subst (λ site. Emits table e3 e4 flow (made_items globals elements result around channel site target body)) (site_after kept e2 e3 p3 s3 l3) e) in
         let rest = emits_inside table make e1 e2 e4 e5 count outer flow i items left in
         let same : layout_of table e1.layout ≡ around = ap (layout_of table) b1.layout in
-        let at_first = site_behind around e0 e1 b1.prints b1.selects same in
+        let at_first = site_after around e0 e1 b1.prints b1.selects same in
         emits_both table e0 e1 e5 through flow first (ended around (make (site_of table e0))) refl one (subst (λ site. Emits table e1 e5 flow (ended site.layout (make site))) at_first rest)

@@ -25,16 +25,16 @@ use Rattle.codegen_base.proofs.Before.{clauses_before}
 use Rattle.codegen_base.proofs.Plain.{comm_plain}
 use Rattle.codegen_expression.specs.Emission.{Puts}
 use Rattle.codegen_header.specs.Simples.{Appends}
-use Rattle.codegen_base.specs.Generated.{Made, Site, behind_comm, comm_plan, followed, made, made_all, made_comm, made_default, made_of, made_select, made_ways, past, pushes_clauses, select_table, table_clause, table_clauses, within_select, with_way}
+use Rattle.codegen_base.specs.Generated.{Made, Site, after_comm, comm_plan, followed, made, made_all, made_comm, made_default, made_of, made_select, made_ways, past, pushes_clauses, select_table, table_clause, table_clauses, within_select, with_way}
 use Rattle.codegen_header.specs.Layouts.{layout_of}
 use Rattle.codegen_flow.specs.declared.waits.Wait.{Wait}
 use Rattle.codegen_emission.specs.declared.emitter.Emitter.{Emitter}
 use Rattle.codegen_flow.specs.Waits.{Makes, settled}
 use Rattle.codegen_flow.specs.Controls.{Control, through}
 use Rattle.codegen_emission.specs.Emitted.{Emits, site_of}
-use Rattle.codegen_flow.specs.Selects.{any_control, behind_select}
+use Rattle.codegen_flow.specs.Selects.{any_control, after_select}
 use Rattle.codegen_emission.specs.Ways.{EmitsAs, made_way, or_nothing, ways_left}
-use Rattle.codegen_emission.proofs.Behind.{emits_alone, emits_behind}
+use Rattle.codegen_emission.proofs.Following.{emits_alone, emits_after}
 use Rattle.codegen_emission.proofs.Blocks.{Entered, Left, emits_inside, emits_then}
 use Rattle.codegen_emission.proofs.Branching.{Beside, beside_keeps, same_site}
 use Rattle.codegen_emission.proofs.Chosen.{makes_choose}
@@ -92,7 +92,7 @@ module _ (globals : Globals) (elements : List Element) (result : Yield) (l m : L
 -- after the ways of a select the variables are those before it
 module _ (globals : Globals) (elements : List Element) (result : Yield) (whole : Clauses) where
   abbrev ways : Site → Clauses → Option Made
-  ways site all = made_ways globals elements result site (λ behind. made_default globals elements result behind whole) all
+  ways site all = made_ways globals elements result site (λ following. made_default globals elements result following whole) all
 
   default_variables : (site : Site) (all : Clauses) → (or_nothing site (made_default globals elements result site all)).layout.scope.variables ≡ site.layout.scope.variables
   default_variables site NoClause = refl
@@ -120,16 +120,16 @@ settled_length (w ∷ ws) stop code = by w.leaves (settled_length ws stop code) 
 module _ (table : TypeTable) where
   pub emits_choose : (q : ℕ) (make : List ℕ → SelectTable) (held made : SelectTable) (e0 e1 e2 e3 : Emitter) (f : Control) (ways : Made) (stop : ℕ) → e1.code.items ≡ e0.code.items ++ instrs.Select q ∷ [] → e1.prints.items ≡ e0.prints.items → e1.selects.items ≡ e0.selects.items ++ held ∷ [] → Keeps e0.layout.visible e1.layout.visible
       → Emits table e1 e2 f ways → stop ≡ length e2.code.items → e3.code.items ≡ settled f.waits stop e2.code.items → e3.prints.items ≡ e2.prints.items → e3.selects.items ≡ slice_set e2.selects.items (length e0.selects.items) made → made ≡ make (starts (length e1.code.items) ways.plan)
-      → layout_of table e3.layout ≡ layout_of table e2.layout → Keeps e2.layout.visible e3.layout.visible → Emits table e0 e3 (behind_select f) (made_of (Choose q make ways.plan) ways.prints ways.layout)
+      → layout_of table e3.layout ≡ layout_of table e2.layout → Keeps e2.layout.visible e3.layout.visible → Emits table e0 e3 (after_select f) (made_of (Choose q make ways.plan) ways.prints ways.layout)
   emits_choose q make held made e0 e1 e2 e3 f ways stop c1 p1 s1 k1 e es c3 p3 s3 em l3 k3 =
       let n1 : length e1.code.items ≡ length e0.code.items + 1 = ap length c1 ∙ length-append e0.code.items (instrs.Select q ∷ []) in
-      let behind = tables (length e1.code.items) ways.plan in
-      let before : e2.selects.items ≡ e0.selects.items ++ (held ∷ behind) = e.selects ∙ ap (λ (l : List SelectTable). l ++ behind) s1 ∙ append_assoc e0.selects.items (held ∷ []) behind in
+      let following = tables (length e1.code.items) ways.plan in
+      let before : e2.selects.items ≡ e0.selects.items ++ (held ∷ following) = e.selects ∙ ap (λ (l : List SelectTable). l ++ following) s1 ∙ append_assoc e0.selects.items (held ∷ []) following in
       record {
         code = makes_choose q make e0.code.items e1.code.items e2.code.items e3.code.items f.waits ways.plan stop c1 e.code es c3 (ap length c3 ∙ settled_length f.waits stop e2.code.items);
         flows = record { ends = ap (λ x. x || f.breaks) e.flows.ends ∙ ap (λ x. reaches_end ways.plan || x) e.flows.breaks; breaks = refl; continues = e.flows.continues };
         prints = p3 ∙ e.prints ∙ ap (λ (l : List PrintTable). l ++ ways.prints) p1;
-        selects = s3 ∙ ap (λ (l : List SelectTable). slice_set l (length e0.selects.items) made) before ∙ set_at e0.selects.items held behind made (length e0.selects.items) refl ∙ ap (λ x. e0.selects.items ++ (x ∷ behind)) em
+        selects = s3 ∙ ap (λ (l : List SelectTable). slice_set l (length e0.selects.items) made) before ∙ set_at e0.selects.items held following made (length e0.selects.items) refl ∙ ap (λ x. e0.selects.items ++ (x ∷ following)) em
             ∙ ap (λ n. e0.selects.items ++ (make (starts n ways.plan) ∷ tables n ways.plan)) n1;
         layout = l3 ∙ e.layout;
         kept = keeps_both table e0 e1 e3 k1 (keeps_both table e1 e2 e3 e.kept k3);
@@ -149,7 +149,7 @@ module _ (table : TypeTable) where
   module _ (globals : Globals) (elements : List Element) (result : Yield) where
     -- what was received is stored or dropped, and the statements of the clause are done
     pub emits_comm : (comm : Comm) (body : Statements) (e0 e1 e2 e3 e4 : Emitter) (count outer : ℕ) (flow : Control) → Entered table e0 e1 count outer → Appends e1.code.items e2.code.items (comm_plan globals elements result (layout_of table e1.layout) comm)
-        → e2.prints.items ≡ e1.prints.items → e2.selects.items ≡ e1.selects.items → layout_of table e2.layout ≡ behind_comm globals elements result comm (layout_of table e1.layout) → Keeps e1.layout.visible e2.layout.visible
+        → e2.prints.items ≡ e1.prints.items → e2.selects.items ≡ e1.selects.items → layout_of table e2.layout ≡ after_comm globals elements result comm (layout_of table e1.layout) → Keeps e1.layout.visible e2.layout.visible
         → Emits table e2 e3 flow (made_all globals elements result (site_of table e2) body) → Left e3 e4 count outer → Emits table e0 e4 flow (made_way globals elements result (site_of table e0) comm body)
     emits_comm comm body e0 e1 e2 e3 e4 count outer flow i code p s l k e left =
         let first = λ (site : Site). made_comm globals elements result site comm in
@@ -168,7 +168,7 @@ module _ (table : TypeTable) where
         → q ≡ length e1.selects.items → e2.code.items ≡ e1.code.items ++ instrs.Select q ∷ [] → e2.prints.items ≡ e1.prints.items → e2.selects.items ≡ e1.selects.items ++ held ∷ [] → e2.layout ≡ e1.layout
         → Emits table e2 e3 (any_control flow) (or_nothing (site_of table e2) (ways_left globals elements result all (site_of table e2) all)) → places ≡ starts (length e2.code.items) (or_nothing (site_of table e2) (ways_left globals elements result all (site_of table e2) all)).plan
         → stop ≡ length e3.code.items → e4.code.items ≡ settled (any_control flow).waits stop e3.code.items → e4.prints.items ≡ e3.prints.items → e4.selects.items ≡ slice_set e3.selects.items (length e1.selects.items) table_made → e4.layout ≡ e3.layout
-        → table_made ≡ select_table globals elements result (layout_of table e3.layout) all places → g ≡ behind_select (any_control flow) → Emits table e0 e4 g (made globals elements result (site_of table e0) (Select all))
+        → table_made ≡ select_table globals elements result (layout_of table e3.layout) all places → g ≡ after_select (any_control flow) → Emits table e0 e4 g (made globals elements result (site_of table e0) (Select all))
     emits_select all held table_made e0 e1 e2 e3 e4 flow g places q stop puts b1 eq c2 p2 s2 l2 e begin es c4 p4 s4 l4 et is =
         let site = site_of table e0 in
         let l = site.layout in
@@ -185,10 +185,10 @@ module _ (table : TypeTable) where
         let keeps = subst (λ x. Keeps e1.layout.visible x.visible) (sym l2) (take-length e1.layout.visible.entries.items, refl) in
         let keeps_on = subst (λ x. Keeps e3.layout.visible x.visible) (sym l4) (take-length e3.layout.visible.entries.items, refl) in
         let choose = emits_choose q (select_table globals elements result l all) held table_made e1 e2 e3 e4 (any_control flow) w stop c2 p2 s2 keeps e es c4 p4 s4 whole (ap (layout_of table) l4) keeps_on in
-        let chosen = emits_behind table (pushes_clauses globals elements result l all) e0 e1 e4 (behind_select (any_control flow)) (made_of (Choose q (select_table globals elements result l all) w.plan) w.prints w.layout)
+        let chosen = emits_after table (pushes_clauses globals elements result l all) e0 e1 e4 (after_select (any_control flow)) (made_of (Choose q (select_table globals elements result l all) w.plan) w.prints w.layout)
         (clauses_before globals elements l result all (Choose q (select_table globals elements result l all) w.plan)) puts b1.prints b1.selects (beside_keeps e0 e1 b1) choose in
-        let at_number = subst (λ n. Emits table e0 e4 (behind_select (any_control flow)) (made_of (pushes_clauses globals elements result l all (Choose n (select_table globals elements result l all) w.plan)) w.prints w.layout)) number chosen in
+        let at_number = subst (λ n. Emits table e0 e4 (after_select (any_control flow)) (made_of (pushes_clauses globals elements result l all (Choose n (select_table globals elements result l all) w.plan)) w.prints w.layout)) number chosen in
         let within = λ (s : Site). or_nothing s (ways_left globals elements result all s all) in
-        let at_site = subst (λ s. Emits table e0 e4 (behind_select (any_control flow)) (made_of (pushes_clauses globals elements result l all (Choose site.selects (select_table globals elements result l all) (within s).plan)) (within s).prints (within s).layout)) second at_number in
+        let at_site = subst (λ s. Emits table e0 e4 (after_select (any_control flow)) (made_of (pushes_clauses globals elements result l all (Choose site.selects (select_table globals elements result l all) (within s).plan)) (within s).prints (within s).layout)) second at_number in
         subst (λ f. Emits table e0 e4 f (made globals elements result site (Select all))) (sym is)
-        (subst (λ m. Emits table e0 e4 (behind_select (any_control flow)) m) (whole_select all site (ways_left globals elements result all (within_select globals elements result site) all)) at_site)
+        (subst (λ m. Emits table e0 e4 (after_select (any_control flow)) m) (whole_select all site (ways_left globals elements result all (within_select globals elements result site) all)) at_site)

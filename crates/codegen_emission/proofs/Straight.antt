@@ -10,7 +10,7 @@ use Rattle.type_table.specs.Types.{ValueType}
 use Rattle.type_table.specs.Scopes.{Globals, Yield}
 use Rattle.type_table.specs.Visible.{Keeps}
 use Rattle.codegen_base.specs.declared.element.Element.{Element}
-use Rattle.codegen_base.specs.Layouts.{Layout, behind_simple, declaring_all, declaring_each}
+use Rattle.codegen_base.specs.Layouts.{Layout, following_simple, declaring_all, declaring_each}
 use Rattle.codegen_base.specs.Statements.{defines, pushes_arguments, simple_plan, simple_prints}
 use Rattle.codegen_base.specs.Generated.{made_go, made_of, made_simple, made_typed, made_untyped, result_type, return_plan, variables_plan}
 use Rattle.codegen_base.proofs.Before.{Before, Here, before_ends, pushes_before}
@@ -20,7 +20,7 @@ use Rattle.codegen_header.specs.Simples.{Appends}
 use Rattle.codegen_emission.specs.declared.emitter.Emitter.{Emitter}
 use Rattle.codegen_flow.specs.Controls.{Control, never, through}
 use Rattle.codegen_emission.specs.Emitted.{Emits, site_of}
-use Rattle.codegen_emission.proofs.Behind.{before_break, before_continue, before_none, emits_alone}
+use Rattle.codegen_emission.proofs.Following.{before_break, before_continue, before_none, emits_alone}
 use Rattle.codegen_emission.proofs.Branching.{Beside, beside_keeps}
 
 module _ (table : TypeTable) where
@@ -39,7 +39,7 @@ module _ (table : TypeTable) where
   module _ (globals : Globals) (elements : List Element) where
     -- a simple statement, whose print table has this number
     pub emits_simple : (simple : Simple) (e0 e1 : Emitter) (flow : Control) (q : ℕ) → flow ≡ through → q ≡ length e0.prints.items → Appends e0.code.items e1.code.items (simple_plan globals elements (layout_of table e0.layout) q simple)
-        → e1.prints.items ≡ e0.prints.items ++ simple_prints globals elements (layout_of table e0.layout).scope simple → e1.selects.items ≡ e0.selects.items → layout_of table e1.layout ≡ behind_simple globals elements simple (layout_of table e0.layout) → Keeps e0.layout.visible e1.layout.visible
+        → e1.prints.items ≡ e0.prints.items ++ simple_prints globals elements (layout_of table e0.layout).scope simple → e1.selects.items ≡ e0.selects.items → layout_of table e1.layout ≡ following_simple globals elements simple (layout_of table e0.layout) → Keeps e0.layout.visible e1.layout.visible
         → Emits table e0 e1 flow (made_simple globals elements (site_of table e0) simple)
     emits_simple simple e0 e1 flow q is eq code prints selects layout kept =
         emits_alone table e0 e1 flow (made_simple globals elements (site_of table e0) simple) is (simple_before globals elements (layout_of table e0.layout) (length e0.prints.items) simple)

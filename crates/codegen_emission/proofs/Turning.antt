@@ -32,19 +32,19 @@ module _ (globals : Globals) (elements : List Element) where
   post_before header site (Some simple) = simple_before globals elements (entering site.layout) site.prints simple
 
   -- after a block it is done in the block around it
-  post_behind : (header inner : Layout) (site : Site) (post : Option Simple) → made_post globals elements (leaving header inner) site post ≡ made_post globals elements header site post
-  post_behind header inner site None = refl
-  post_behind header inner site (Some simple) = refl
+  post_after : (header inner : Layout) (site : Site) (post : Option Simple) → made_post globals elements (leaving header inner) site post ≡ made_post globals elements header site post
+  post_after header inner site None = refl
+  post_after header inner site (Some simple) = refl
 
 module _ (table : TypeTable) (globals : Globals) (elements : List Element) (result : Yield) where
   -- what is done after each turn follows the body
-  behind_body : (body : Statements) (post : Option Simple) (e0 e1 : Emitter) (flow : Control) → Emits table e0 e1 flow (made_within globals elements result (site_of table e0) body)
+  after_body : (body : Statements) (post : Option Simple) (e0 e1 : Emitter) (flow : Control) → Emits table e0 e1 flow (made_within globals elements result (site_of table e0) body)
       → made_post globals elements (layout_of table e1.layout) (site_of table e1) post ≡ made_post globals elements (layout_of table e0.layout) (past (site_of table e0) (made_within globals elements result (site_of table e0) body)) post
-  behind_body body post e0 e1 flow e =
+  after_body body post e0 e1 flow e =
       let site = site_of table e0 in
       let within = made_within globals elements result site body in
       ap (λ l. made_post globals elements l (site_of table e1) post) e.layout ∙ ap (λ s. made_post globals elements within.layout s post) (site_past table e0 e1 flow within e)
-      ∙ post_behind globals elements site.layout (made_all globals elements result (inside site) body).layout (past site within) post
+      ∙ post_after globals elements site.layout (made_all globals elements result (inside site) body).layout (past site within) post
 
   pub emits_untested : (body : Statements) (post : Option Simple) (b : Bool) (e0 e1 e2 e3 : Emitter) (flow g : Control) (head again stop : ℕ) → Emits table e0 e1 flow (made_within globals elements result (site_of table e0) body) → b ≡ (flow.ends || flow.continues) → head ≡ length e0.code.items → again ≡ length e1.code.items
       → Rounds table b head e1 e2 (made_post globals elements (layout_of table e1.layout) (site_of table e1) post) → stop ≡ length e2.code.items → e3.code.items ≡ filled flow.waits stop again e2.code.items → Beside e2 e3 → g ≡ leading flow.breaks
@@ -53,7 +53,7 @@ module _ (table : TypeTable) (globals : Globals) (elements : List Element) (resu
       let site = site_of table e0 in
       let within = made_within globals elements result site body in
       let turn = made_post globals elements site.layout (past site within) post in
-      emits_endless table b e0 e1 e2 e3 flow g within turn head again stop (post_before globals elements site.layout (past site within) post) e comes eh ea (subst (λ m. Rounds table b head e1 e2 m) (behind_body body post e0 e1 flow e) r) es c3 b3 is
+      emits_endless table b e0 e1 e2 e3 flow g within turn head again stop (post_before globals elements site.layout (past site within) post) e comes eh ea (subst (λ m. Rounds table b head e1 e2 m) (after_body body post e0 e1 flow e) r) es c3 b3 is
 
   pub emits_tested : (condition : Expression) (body : Statements) (post : Option Simple) (b : Bool) (e0 e1 e2 e3 e4 e5 : Emitter) (flow g : Control) (head again stop : ℕ) → Puts e0.code.items e1.code.items (tests globals elements (layout_of table e0.layout) condition) → Beside e0 e1
       → e2.code.items ≡ e1.code.items ++ instrs.Unless 0 ∷ [] → Beside e1 e2 → Emits table e2 e3 flow (made_within globals elements result (site_of table e2) body) → b ≡ (flow.ends || flow.continues) → head ≡ length e0.code.items → again ≡ length e3.code.items
@@ -67,7 +67,7 @@ module _ (table : TypeTable) (globals : Globals) (elements : List Element) (resu
       let same : site ≡ site_of table e0 = same_site table e1 e2 b2 ∙ same_site table e0 e1 b1 in
       let whole = emits_cycle table e0 e1 e2 e3 e4 e4 e5 flow g (test Skip) Skip within turn b head again stop stop (record {
         alone = pushes_before globals elements (layout_of table e0.layout).scope BoolType condition Skip;
-        behind = post_before globals elements site.layout (past site within) post;
+        following = post_before globals elements site.layout (past site within) post;
         failed = Here Skip;
         tests = λ leave next. puts_alone e0.code.items e1.code.items test puts leave next;
         jumps = c2;
@@ -78,7 +78,7 @@ module _ (table : TypeTable) (globals : Globals) (elements : List Element) (resu
         comes = comes;
         head_is = eh;
         again_is = ea;
-        rounds = subst (λ m. Rounds table b head e3 e4 m) (behind_body body post e2 e3 flow e) r;
+        rounds = subst (λ m. Rounds table b head e3 e4 m) (after_body body post e2 e3 flow e) r;
         exits = λ leave next. sym (append-nil e4.code.items);
         beside = record { prints = refl; selects = refl; layout = refl };
         exit_is = es;

@@ -5,7 +5,7 @@ use Rattle.type_table.specs.Types.{ValueType}
 use Rattle.type_table.specs.Scopes.{Globals, Yield}
 use Rattle.plan.specs.Plan.{Cycle, Seq, Skip}
 use Rattle.codegen_base.specs.declared.element.Element.{Element}
-use Rattle.codegen_base.specs.Layouts.{Layout, behind_target, carried, entering}
+use Rattle.codegen_base.specs.Layouts.{Layout, following_target, carried, entering}
 use Rattle.codegen_base.specs.Pushes.{drops}
 use Rattle.codegen_base.specs.Statements.{width}
 use Rattle.codegen_base.specs.Generated.{Made, Site, at, ended, made_of, receives, takes}
@@ -16,7 +16,7 @@ module _ (globals : Globals) (elements : List Element) (result : Yield) where
   abbrev pub made_item : Site → ValueType → Target → Statements → Made
   made_item site kind target body =
       let layout = entering site.layout in
-      let within = made_within globals elements result (at (behind_target globals elements kind target layout) site) body in
+      let within = made_within globals elements result (at (following_target globals elements kind target layout) site) body in
       ended site.layout (made_of (Seq (takes globals elements result layout kind target) within.plan) within.prints within.layout)
 
   -- the items of a channel, which is kept in the first local after the layout around the loop

@@ -51,7 +51,7 @@ module _ (globals : Globals) (elements : List Element) (result : Yield) where
 
   -- the ways that are left, of a select with these clauses
   abbrev pub ways_left : Clauses → Site → Clauses → Option Made
-  ways_left whole site left = made_ways globals elements result site (λ behind. made_default globals elements result behind whole) left
+  ways_left whole site left = made_ways globals elements result site (λ following. made_default globals elements result following whole) left
 
   -- what is emitted of ways: with the ways that are left after it, and their jumps closed, it is all of them
   pub record Reaches (table : TypeTable) (whole : Clauses) (old now : Emitter) (list : WayList) (left all : Clauses) : Type 0 where

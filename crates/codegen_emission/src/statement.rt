@@ -97,7 +97,7 @@ fn emit_endless<'t, 'm, 'a>(
     emit_round(context, emitter, turns, head, post)?;
     let stop = emitter.next_place()?;
     fill(within.waits.as_slice(), stop, again, &mut emitter.code);
-    Ok(Flow::behind_loop(context.program.alloc, within.has_break))
+    Ok(Flow::after_loop(context.program.alloc, within.has_break))
 }
 
 /// The turns of a loop with a test.

@@ -16,17 +16,17 @@ use bytecode::Instr;
 use std::alloc::AllocError;
 use syntax::SimpleNode;
 
-/// Leads back to the head of a loop. If its body never comes round again, the instructions from `behind` on are dropped.
+/// Leads back to the head of a loop. If its body never comes round again, the instructions from `following` on are dropped.
 fn come_back(
     comes_round: bool,
-    behind: usize,
+    following: usize,
     head: u32,
     code: &mut Vec<Instr>,
 ) -> Result<(), AllocError>
-    ensures { OnOk result (code.new.items ≡ cond comes_round (code.old.items ++ instrs.Loop head ∷ []) (take behind code.old.items)) }
+    ensures { OnOk result (code.new.items ≡ cond comes_round (code.old.items ++ instrs.Loop head ∷ []) (take following code.old.items)) }
 {
     if !comes_round {
-        code.truncate(behind);
+        code.truncate(following);
     }
     come_round(comes_round, head, code)
 }
@@ -56,7 +56,7 @@ pub fn emit_round<'a>(
 ) -> Result<(), AllocError>
     ensures { OnOk result (Rounds (table_of context.now) comes_round head emitter.old emitter.new (of_program context.now made_post (layout_of (table_of context.now) emitter.old.layout) (site_of (table_of context.now) emitter.old) (option_map (λ (s : _). simple_of s.now) post.entry))) }
 {
-    let behind = emitter.code.len();
+    let following = emitter.code.len();
     emit_post(context, emitter, post)?;
-    come_back(comes_round, behind, head, &mut emitter.code)
+    come_back(comes_round, following, head, &mut emitter.code)
 }

@@ -3,7 +3,7 @@ use Rattle.std.proofs.Common.{◌≡◌, ℕ, ◌+◌, true, cond, ◌||◌, Lis
 use Rattle.std.proofs.lemmas.List.{append-nil}
 use Rattle.bytecode.specs.declared.instr.Instr.{Instr}
 use Rattle.bytecode.specs.declared.instr.Instr.TheVariants as instrs
-use Rattle.plan.specs.Plan.{Plan, Skip, Do, Seq, IfElse, reaches_end, jump_behind, jump_size, size, flat}
+use Rattle.plan.specs.Plan.{Plan, Skip, Do, Seq, IfElse, reaches_end, jump_after, jump_size, size, flat}
 use Rattle.plan.proofs.Appends.{appends_if_else}
 use Rattle.plan.proofs.Places.{flat_size}
 use Rattle.codegen_expression.specs.Emission.{Puts}
@@ -30,9 +30,9 @@ puts_alone old new part p leave again = sym (append-nil new) ∙ p leave again S
 followed : (i0 i4 : List Instr) (first rest : Plan) (leave again : ℕ) → reaches_end first ≡ true → i4 ≡ i0 ++ flat leave again (length i0) first → i4 ++ flat leave again (length i4) rest ≡ i0 ++ flat leave again (length i0) (Seq first rest)
 followed i0 i4 first rest leave again leads is =
     let part = flat leave again (length i0) first in
-    let behind = flat leave again (length i0 + size first) rest in
+    let following = flat leave again (length i0 + size first) rest in
     let n : length i4 ≡ length i0 + size first = omega (arith, ap length is, length-append i0 part, flat_size leave again (length i0) first) in
-    ap (λ m. i4 ++ flat leave again m rest) n ∙ ap (λ (l : List Instr). l ++ behind) is ∙ append_assoc i0 part behind ∙ ap (λ b. i0 ++ (part ++ cond b behind [])) (sym leads)
+    ap (λ m. i4 ++ flat leave again m rest) n ∙ ap (λ (l : List Instr). l ++ following) is ∙ append_assoc i0 part following ∙ ap (λ b. i0 ++ (part ++ cond b following [])) (sym leads)
 
 -- ---- a truth value decides between two parts
 
@@ -50,6 +50,6 @@ puts_if_else i0 i1 i2 i3 i4 next to so other leads e1 p e3 q en et leave again r
     let n3 : length i3 ≡ length i2 + 1 = omega (arith, ap length e3, length-append i2 (instrs.Jump to ∷ [])) in
     let n4 : length i4 ≡ length i3 + size (other Skip) = omega (arith, ap length f2, length-append i3 (flat leave again (length i3) (other Skip)), flat_size leave again (length i3) (other Skip)) in
     let one : jump_size (so Skip) ≡ 1 = ap (λ b. cond b 1 0) leads in
-    let jump : instrs.Jump to ∷ [] ≡ jump_behind (so Skip) to = sym (ap (λ b. cond b (instrs.Jump to ∷ []) []) leads) in
+    let jump : instrs.Jump to ∷ [] ≡ jump_after (so Skip) to = sym (ap (λ b. cond b (instrs.Jump to ∷ []) []) leads) in
     let whole = appends_if_else leave again next to i0 i1 i2 i3 i4 (so Skip) (other Skip) e1 f1 (e3 ∙ ap (λ (l : List Instr). i2 ++ l) jump) f2 (omega (arith, en, n1, n2, n3, one)) (omega (arith, et, en, n4)) in
     followed i0 i4 (IfElse (so Skip) (other Skip)) rest leave again (ap (λ b. b || reaches_end (other Skip)) leads) whole

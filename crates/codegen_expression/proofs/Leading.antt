@@ -1,10 +1,10 @@
--- Behind the instructions of an expression the code goes on.
+-- After the instructions of an expression the code goes on.
 use Rattle.std.proofs.Common.{◌≡◌, true, false, ◌||◌, ◌&&◌, List, [], ◌∷◌, Option, Some, None, refl, ap, ◌∙◌}
 use Rattle.syntax.specs.declared.node.UnaryOperator.{UnaryOperator}
 use Rattle.syntax.specs.declared.node.UnaryOperator.TheVariants as signs
 use Rattle.syntax.specs.declared.node.BinaryOperator.{BinaryOperator}
 use Rattle.syntax.specs.declared.node.BinaryOperator.TheVariants as symbols
-use Rattle.syntax.specs.Tree.{Expression, Integer, Named, Parenthesized, Selection, Composite, Unary, Binary, Call, Receive, Make, MakeSized, Length, Capacity, Expressions, NoMore, Behind}
+use Rattle.syntax.specs.Tree.{Expression, Integer, Named, Parenthesized, Selection, Composite, Unary, Binary, Call, Receive, Make, MakeSized, Length, Capacity, Expressions, NoMore, Following}
 use Rattle.bytecode.specs.declared.instr.WordKind.{WordKind}
 use Rattle.bytecode.specs.declared.instr.Instr.TheVariants as instrs
 use Rattle.type_table.specs.Types.{ValueType, IntType}
@@ -89,8 +89,8 @@ module _ (globals : Globals) (elements : List Element) (scope : Scope) where
     leads (Parenthesized inner) rest is = leads inner rest is
     leads (Selection whole field) rest is = leads whole _ is
     leads (Composite name NoMore trailing) rest is = leads_zeros (kinds_of globals.structs elements (type_of globals elements scope (Composite name NoMore trailing))) rest is
-    leads (Composite name (Behind first others) trailing) rest is =
-        leads_all (literal_types globals elements scope (type_of globals elements scope (Composite name (Behind first others) trailing))) (Behind first others) rest is
+    leads (Composite name (Following first others) trailing) rest is =
+        leads_all (literal_types globals elements scope (type_of globals elements scope (Composite name (Following first others) trailing))) (Following first others) rest is
     leads (Unary operator operand) rest is = leads operand _ (leads_signed operator rest is)
     leads (Binary operator left right) rest is =
         leads_operates elements operator (type_of globals elements scope left) (type_of globals elements scope right) (emits globals elements scope left) (emits globals elements scope right) (leads left) (leads right)
@@ -104,8 +104,8 @@ module _ (globals : Globals) (elements : List Element) (scope : Scope) where
 
     pub leads_all : (types : List ValueType) (values : Expressions) → Leads (emits_all globals elements scope types values)
     leads_all types NoMore rest is = is
-    leads_all [] (Behind first others) rest is = is
-    leads_all (kind ∷ types) (Behind first others) rest is =
-        let behind = emits_all globals elements scope types others rest in
+    leads_all [] (Following first others) rest is = is
+    leads_all (kind ∷ types) (Following first others) rest is =
+        let following = emits_all globals elements scope types others rest in
         let goes = leads_all types others rest is in
-        leads_settled elements (worth globals scope first) kind (emits globals elements scope first behind) behind (leads first behind goes) goes
+        leads_settled elements (worth globals scope first) kind (emits globals elements scope first following) following (leads first following goes) goes

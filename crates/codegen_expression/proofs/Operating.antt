@@ -218,9 +218,9 @@ module _ (elements : List Element) (operator : BinaryOperator) (l r : Plan → P
       let pushed = i0 ++ i ∷ [] in
       let e : i2 ≡ opened operator pushed = e2 ∙ ap (λ m. opened operator (m ++ i ∷ [])) kept in
       let between = opening operator (length pushed) in
-      let behind = flat 0 0 (length i2) (r Skip) in
-      let all : i3 ≡ i0 ++ ((i ∷ []) ++ (between ++ behind)) = puts_alone i2 i3 r q 0 0 ∙ ap (λ m. m ++ behind) e ∙ append_assoc pushed between behind ∙ append_assoc i0 (i ∷ []) (between ++ behind) in
-      ap (take (length i0)) all ∙ take-append_seam i0 ((i ∷ []) ++ (between ++ behind))
+      let following = flat 0 0 (length i2) (r Skip) in
+      let all : i3 ≡ i0 ++ ((i ∷ []) ++ (between ++ following)) = puts_alone i2 i3 r q 0 0 ∙ ap (λ m. m ++ following) e ∙ append_assoc pushed between following ∙ append_assoc i0 (i ∷ []) (between ++ following) in
+      ap (take (length i0)) all ∙ take-append_seam i0 ((i ∷ []) ++ (between ++ following))
 
   pub puts_operated : (a b : Option Worth) → i2 ≡ led operator a (length i0) i1 → i4 ≡ operated elements operator a b (length i0) (length i2) i3 → Puts i0 i4 (λ rest. operates elements operator a b (kind_in a) (kind_in b) l r rest)
   puts_operated (Some (Constant v)) (Some (Constant w)) e2 e4 = puts_do i0 i4 (compared operator v w) (e4 ∙ ap (λ m. m ++ compared operator v w ∷ []) (both_go _ e2))

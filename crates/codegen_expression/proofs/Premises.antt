@@ -3,7 +3,7 @@ use Rattle.std.proofs.Common.{◌≡◌, ℕ, zero, suc, Bool, true, false, List
 use Rattle.std.specs.Prelude.{if◌then◌else◌, bytes_eq, get_or}
 use Rattle.std.proofs.lemmas.Option.{same_Some}
 use Rattle.type_table.specs.Types.{ValueType, IntType, BoolType, StructType, ChannelType}
-use Rattle.type_table.specs.Containment.{Field, Structs, Selected, behind, fields_of, field_among, field_of, variable_words}
+use Rattle.type_table.specs.Containment.{Field, Structs, Selected, following, fields_of, field_among, field_of, variable_words}
 use Rattle.type_table.specs.declared.entry.FieldEntry.{FieldEntry}
 use Rattle.type_table.specs.declared.entry.StructEntry.{StructEntry}
 use Rattle.type_table.specs.Views.{AreWidths, field_in, structs_of}
@@ -30,11 +30,11 @@ Known at = (t : ValueType) × (at.kind ≡ Some t)
 among_known : (structs : Structs) (fields : List Field) (name : List ℕ) (at : Selected) → AllTyped structs fields → field_among structs fields name ≡ Some at → Known at
 among_known structs [] name at typed is = absurd cc
 among_known structs (field ∷ rest) name at typed is = go (bytes_eq field.name name) is (λ deeper h. among_known structs rest name deeper typed.1 h) where
-  moved : (o : Option Selected) → option_map (behind (variable_words structs field.kind)) o ≡ Some at → ((deeper : Selected) → o ≡ Some deeper → Known deeper) → Known at
+  moved : (o : Option Selected) → option_map (following (variable_words structs field.kind)) o ≡ Some at → ((deeper : Selected) → o ≡ Some deeper → Known deeper) → Known at
   moved None h more = absurd cc
-  moved (Some deeper) h more = subst Known (same_Some (behind (variable_words structs field.kind) deeper) at h) (more deeper refl)
+  moved (Some deeper) h more = subst Known (same_Some (following (variable_words structs field.kind) deeper) at h) (more deeper refl)
 
-  go : (t : Bool) → (if t then Some (record { place = 0; kind = field.kind }) else option_map (behind (variable_words structs field.kind)) (field_among structs rest name)) ≡ Some at
+  go : (t : Bool) → (if t then Some (record { place = 0; kind = field.kind }) else option_map (following (variable_words structs field.kind)) (field_among structs rest name)) ≡ Some at
       → ((deeper : Selected) → field_among structs rest name ≡ Some deeper → Known deeper) → Known at
   go true h more = subst Known (same_Some (record { place = 0; kind = field.kind }) at h) (known field.kind, typed.0)
   go false h more = moved (field_among structs rest name) h more

@@ -8,7 +8,7 @@ use Rattle.type_table.specs.Types.{ValueType, IntType}
 use Rattle.type_table.specs.Containment.{field_of}
 use Rattle.type_table.specs.Scopes.{Globals, Scope, Variable, is_truth, nothing_declared, variable_named}
 use Rattle.typing_rules.specs.Worths.{Worth, worth}
-use Rattle.meaning.specs.Values.{Slot, known, slot, slot_behind}
+use Rattle.meaning.specs.Values.{Slot, known, slot, slot_after}
 use Rattle.codegen_base.specs.declared.element.Element.{Element}
 use Rattle.codegen_base.specs.Elements.{kinds_of}
 use Rattle.codegen_base.specs.Pushes.{emits, emits_all, literal_types, loads, named, words_of, zero_instr}
@@ -49,12 +49,12 @@ module _ (globals : Globals) (elements : List Element) (kind : ValueType) (field
   picked place part words kept is w k =
       let from : 0 + place ≡ place = omega arith in
       let last : pick (slot (0 + place) part) ≡ instrs.Pick words place kept = cc (from, w, k) in
-      sym (ap (λ o. pick (slot_behind 0 o)) is ∙ last)
+      sym (ap (λ o. pick (slot_after 0 o)) is ∙ last)
 
   pub not_picked : (words : ℕ) → field_of globals.structs kind field ≡ None → words ≡ words_of globals elements nothing_declared kind → instrs.Pick words 0 1 ≡ picking globals elements kind field
   not_picked words is w =
       let last : pick (slot 0 IntType) ≡ instrs.Pick words 0 1 = ap (λ n. instrs.Pick n 0 1) (sym w) in
-      sym (ap (λ o. pick (slot_behind 0 o)) is ∙ last)
+      sym (ap (λ o. pick (slot_after 0 o)) is ∙ last)
 
 -- a field of an operand
 pub puts_selection : (globals : Globals) (elements : List Element) (scope : Scope) (whole : Expression) (field : List ℕ) (w : Option Worth) (i0 i1 i2 : List Instr) → w ≡ worth globals scope whole

@@ -72,7 +72,7 @@ pub(crate) fn lead<'k>(
     open(operator, code)
 }
 
-/// Behind the right operand of `&&` comes `false`, to which the test of the left one leads.
+/// After the right operand of `&&` comes `false`, to which the test of the left one leads.
 fn close_and(test: usize, code: &mut Vec<Instr>) -> Result<(), AllocError>
     ensures { OnOk result (code.new.items ≡ or_false test code.old.items) }
 {
@@ -82,7 +82,7 @@ fn close_and(test: usize, code: &mut Vec<Instr>) -> Result<(), AllocError>
     Ok(())
 }
 
-/// Behind the right operand of `||`: the jump over it leads there.
+/// After the right operand of `||`: the jump over it leads there.
 fn close_or(over: usize, code: &mut Vec<Instr>) -> Result<(), AllocError>
     ensures closed { OnOk result (code.new.items ≡ slice_set code.old.items over (Instr.Jump (length code.old.items))) }
     ensures far { IfErr result (λ _. 2 ^ 32 ≤ length code.old.items) }

@@ -13,7 +13,7 @@ use Rattle.bytecode.specs.declared.instr.WordKind.{WordKind}
 use Rattle.bytecode.specs.Code.{Function as CodeFunction, Code}
 use Rattle.type_table.specs.Types.{ValueType}
 use Rattle.type_table.specs.Scopes.{Globals, Scope, Variable, is_blank, last_named, own_variable}
-use Rattle.typing_rules.specs.declared.flaw.Flaw.{Flaw}
+use Rattle.typing_rules.specs.declared.violation.Violation.{Violation}
 use Rattle.typing_rules.specs.Worths.{Worth, kind_of, type_of_field}
 use Rattle.typing_rules.specs.Expressions.{ValueHas, NumbersHave, default_type}
 use Rattle.typing_rules.specs.Operations.{selected, place_type, Given, given, RightHas, PlaceHas, GoesHas, PlacesFail, PlacesHave}
@@ -21,7 +21,7 @@ use Rattle.typing_rules.specs.Simples.{has_twice, is_declarable, NamesFail, afte
 use Rattle.meaning.specs.Values.{known}
 use Rattle.codegen_base.specs.declared.element.Element.{Element}
 use Rattle.codegen_base.specs.Elements.{kinds_of}
-use Rattle.codegen_base.specs.Layouts.{Layout, declaring_all, behind_simple}
+use Rattle.codegen_base.specs.Layouts.{Layout, declaring_all, following_simple}
 use Rattle.codegen_base.specs.Statements.{Spot, Dropped, Local, assigns, spot_of, place_spot, place_spots, taken_type, taken_types, pushes_right, right_types, name_type, name_spots, name_types, defines, sets}
 use Rattle.codegen_base.proofs.Alike.{kind_if, Alike, own_alike}
 use Rattle.codegen_base.proofs.Noted.{Noted}
@@ -109,10 +109,10 @@ module _ (globals : Globals) (elements : List Element) where
         pushed a ks out (assigns spots Skip) (subst (λ (l : List WordKind). Typed code f a (ks ++ l) (assigns spots Skip) out) (joined_kinds globals elements types) (assigns_typed globals.structs elements code f spots (map kinds_in types) fit a ks out Skip t))
 
     -- what a declaration leaves: the stack as it was, and the variables that the typing rules see
-    pub record Declares (plan : Plan) (after : Scope) (behind : Layout) : Type 0 where
+    pub record Declares (plan : Plan) (after : Scope) (following : Layout) : Type 0 where
       pub leaves : Leaves plan
-      pub room : Room globals elements code f behind
-      pub alike : Alike after behind.scope
+      pub room : Room globals elements code f following
+      pub alike : Alike after following.scope
 
     -- ---- lvalues
 
@@ -130,30 +130,30 @@ module _ (globals : Globals) (elements : List Element) where
       pub places_fit : (places : List Place) (first : ℕ) (types : List ValueType) → Free (PlacesHave globals s first places) → SpotsFit globals.structs elements code f (place_spots globals elements scope places types) (map kinds_in (taken_types globals elements scope places types))
       places_fit [] first types free = tt
       places_fit (place ∷ places) first [] free = tt
-      places_fit (place ∷ places) first (kind ∷ types) free = (place_fits place first kind (λ flaw h. free flaw (inl h)), places_fit places (first + 1) types (λ flaw h. free flaw (inr h)))
+      places_fit (place ∷ places) first (kind ∷ types) free = (place_fits place first kind (λ violation h. free violation (inl h)), places_fit places (first + 1) types (λ violation h. free violation (inr h)))
 
-      place_fails : (place : Place) (first : ℕ) (value : Given) (flaw : Flaw) → Free (PlaceHas globals s first place) → WantHas (place_want globals scope place) value flaw → GoesHas (is_blank place.name) value (place_type globals s place) flaw
-      place_fails place first value flaw free h = go (is_blank place.name) refl h where
-        go : (b : Bool) → is_blank place.name ≡ b → WantHas (if b then None else Some (known (place_type globals scope place))) value flaw → GoesHas b value (place_type globals s place) flaw
+      place_fails : (place : Place) (first : ℕ) (value : Given) (violation : Violation) → Free (PlaceHas globals s first place) → WantHas (place_want globals scope place) value violation → GoesHas (is_blank place.name) value (place_type globals s place) violation
+      place_fails place first value violation free h = go (is_blank place.name) refl h where
+        go : (b : Bool) → is_blank place.name ≡ b → WantHas (if b then None else Some (known (place_type globals scope place))) value violation → GoesHas b value (place_type globals s place) violation
         go true is h = h
         go false is h =
             let l = place_leads globals elements f code grounds s scope alike all place first free is in
             let has : place_type globals scope place ≡ Some l.housed.kind = ap type_of_field l.is ∙ l.housed.has in
-            subst (λ o. ValueHas value.worth o value.nodes flaw) (sym (place_alike globals s scope alike place ∙ has)) (subst (λ o. ValueHas value.worth (Some (known o)) value.nodes flaw) has h)
+            subst (λ o. ValueHas value.worth o value.nodes violation) (sym (place_alike globals s scope alike place ∙ has)) (subst (λ o. ValueHas value.worth (Some (known o)) value.nodes violation) has h)
 
-      pub places_fail : (places : List Place) (first : ℕ) (values : List Given) (flaw : Flaw) → Free (PlacesHave globals s first places) → WantsFail (places_want globals scope places) values flaw → PlacesFail globals s places values flaw
-      places_fail [] first values flaw free h = h
-      places_fail (place ∷ places) first [] flaw free h = h
-      places_fail (place ∷ places) first (value ∷ values) flaw free (inl h) = inl (place_fails place first value flaw (λ x y. free x (inl y)) h)
-      places_fail (place ∷ places) first (value ∷ values) flaw free (inr h) = inr (places_fail places (first + 1) values flaw (λ x y. free x (inr y)) h)
+      pub places_fail : (places : List Place) (first : ℕ) (values : List Given) (violation : Violation) → Free (PlacesHave globals s first places) → WantsFail (places_want globals scope places) values violation → PlacesFail globals s places values violation
+      places_fail [] first values violation free h = h
+      places_fail (place ∷ places) first [] violation free h = h
+      places_fail (place ∷ places) first (value ∷ values) violation free (inl h) = inl (place_fails place first value violation (λ x y. free x (inl y)) h)
+      places_fail (place ∷ places) first (value ∷ values) violation free (inr h) = inr (places_fail places (first + 1) values violation (λ x y. free x (inr y)) h)
 
       pub places_noted : (places : List Place) (first : ℕ) → Free (PlacesHave globals s first places) → WantsNoted elements (places_want globals scope places)
       places_noted [] first free = tt
-      places_noted (place ∷ places) first free = go (is_blank place.name) refl (places_noted places (first + 1) (λ flaw h. free flaw (inr h))) where
+      places_noted (place ∷ places) first free = go (is_blank place.name) refl (places_noted places (first + 1) (λ violation h. free violation (inr h))) where
         go : (b : Bool) → is_blank place.name ≡ b → WantsNoted elements (places_want globals scope places) → WantsNoted elements ((if b then None else Some (known (place_type globals scope place))) ∷ places_want globals scope places)
         go true is rest = rest
         go false is rest =
-            let l = place_leads globals elements f code grounds s scope alike all place first (λ flaw h. free flaw (inl h)) is in
+            let l = place_leads globals elements f code grounds s scope alike all place first (λ violation h. free violation (inl h)) is in
             (subst (λ o. Noted elements (known o)) (sym (ap type_of_field l.is ∙ l.housed.has)) l.housed.noted, rest)
 
       -- an assignment
@@ -162,11 +162,11 @@ module _ (globals : Globals) (elements : List Element) where
       typed_sets places right first free noted =
           let count = length places in
           let housed = housed_of globals elements f scope all in
-          let fine : Free (PlacesHave globals s first places) = λ flaw h. free flaw (inl h) in
+          let fine : Free (PlacesHave globals s first places) = λ violation h. free violation (inl h) in
           let wants = places_want globals scope places in
           let types = right_types globals elements scope count right in
           let t = typed_right globals elements code f grounds scope housed s alike right count (first + count) (first + simple_size (Assign places right)) wants (omega arith) (length-map places (place_want globals scope)) (places_noted places first fine)
-          (λ flaw h. free flaw (inr (inl h))) (λ flaw h. free flaw (inr (inr (inl h)))) (λ flaw h. free flaw (inr (inr (inr (places_fail places first (given globals s count (first + count) right) flaw fine h))))) noted in
+          (λ violation h. free violation (inr (inl h))) (λ violation h. free violation (inr (inr (inl h)))) (λ violation h. free violation (inr (inr (inr (places_fail places first (given globals s count (first + count) right) violation fine h))))) noted in
           let pushed = subst (λ (l : List ValueType). Puts globals.structs elements code f (all_kinds globals.structs elements l) (pushes_right globals elements scope count l right)) (sym (places_taken globals elements scope places types)) t.pushed in
           put_leaves (taken_types globals elements scope places types) (place_spots globals elements scope places types) (pushes_right globals elements scope count (taken_types globals elements scope places types) right) pushed (places_fit places first types fine)
 
@@ -179,21 +179,21 @@ module _ (globals : Globals) (elements : List Element) where
         of true e = absurd cc
         of false e = e
 
-      name_fails : (name : List ℕ) (value : Given) (flaw : Flaw) → WantHas (want_of (own_variable layout.scope name)) value flaw → GoesHas (is_none (own_variable s name)) value (kind_of (own_variable s name)) flaw
-      name_fails name value flaw h = go (own_variable s name) (own_variable layout.scope name) refl (own_alike s layout.scope alike name) h where
-        go : (a b : Option Variable) → own_variable layout.scope name ≡ b → kind_if a ≡ kind_if b → WantHas (want_of b) value flaw → GoesHas (is_none a) value (kind_of a) flaw
+      name_fails : (name : List ℕ) (value : Given) (violation : Violation) → WantHas (want_of (own_variable layout.scope name)) value violation → GoesHas (is_none (own_variable s name)) value (kind_of (own_variable s name)) violation
+      name_fails name value violation h = go (own_variable s name) (own_variable layout.scope name) refl (own_alike s layout.scope alike name) h where
+        go : (a b : Option Variable) → own_variable layout.scope name ≡ b → kind_if a ≡ kind_if b → WantHas (want_of b) value violation → GoesHas (is_none a) value (kind_of a) violation
         go None None is e h = h
         go None (Some w) is e h = absurd cc
         go (Some v) None is e h = absurd cc
         go (Some v) (Some w) is e h =
             let has = (own_housed name w is).has in
-            subst (λ o. ValueHas value.worth o value.nodes flaw) (sym (same_Some v.kind w.kind e ∙ has)) (subst (λ o. ValueHas value.worth (Some (known o)) value.nodes flaw) has h)
+            subst (λ o. ValueHas value.worth o value.nodes violation) (sym (same_Some v.kind w.kind e ∙ has)) (subst (λ o. ValueHas value.worth (Some (known o)) value.nodes violation) has h)
 
-      pub names_fail : (names : List (List ℕ)) (values : List Given) (flaw : Flaw) → WantsFail (names_want layout.scope names) values flaw → NamesFail s names values flaw
-      names_fail [] values flaw h = h
-      names_fail (name ∷ names) [] flaw h = h
-      names_fail (name ∷ names) (value ∷ values) flaw (inl h) = inl (name_fails name value flaw h)
-      names_fail (name ∷ names) (value ∷ values) flaw (inr h) = inr (names_fail names values flaw h)
+      pub names_fail : (names : List (List ℕ)) (values : List Given) (violation : Violation) → WantsFail (names_want layout.scope names) values violation → NamesFail s names values violation
+      names_fail [] values violation h = h
+      names_fail (name ∷ names) [] violation h = h
+      names_fail (name ∷ names) (value ∷ values) violation (inl h) = inl (name_fails name value violation h)
+      names_fail (name ∷ names) (value ∷ values) violation (inr h) = inr (names_fail names values violation h)
 
       pub names_noted : (names : List (List ℕ)) → WantsNoted elements (names_want layout.scope names)
       names_noted [] = tt
@@ -231,7 +231,7 @@ module _ (globals : Globals) (elements : List Element) where
           let housed = housed_of globals elements f layout.scope room.housed in
           let wants = names_want layout.scope names in
           let types = right_types globals elements layout.scope count right in
-          let t = typed_right globals elements code f grounds layout.scope housed s alike.named right count first end wants le (length-map names (λ name. want_of (own_variable layout.scope name))) (names_noted names) free numbers (λ flaw h. fail flaw (names_fail names (given globals s count first right) flaw h)) noted in
+          let t = typed_right globals elements code f grounds layout.scope housed s alike.named right count first end wants le (length-map names (λ name. want_of (own_variable layout.scope name))) (names_noted names) free numbers (λ violation h. fail violation (names_fail names (given globals s count first right) violation h)) noted in
           let n = names_fit globals elements code f grounds names (given globals layout.scope count 0 right) layout layout s room begins alike (own_same layout.scope names) twice (all_taken names (given globals layout.scope count 0 right) t.well) in
           let pushed = subst (λ (l : List ValueType). Puts globals.structs elements code f (all_kinds globals.structs elements l) (pushes_right globals elements layout.scope count l right)) (sym (names_taken globals elements layout names types)) t.pushed in
           record {
@@ -246,10 +246,10 @@ module _ (globals : Globals) (elements : List Element) where
 
       -- a `:=`
       pub typed_define : (names : List (List ℕ)) (right : List Expression) (first : ℕ) → Free (SimpleHas globals s first (Define names right)) → ValuesMake globals elements right
-          → Begins f (behind_simple globals elements (Define names right) layout)
-          → Declares (defines globals elements layout names (right_types globals elements layout.scope (length names) right) right) (after_simple globals s (Define names right)) (behind_simple globals elements (Define names right) layout)
+          → Begins f (following_simple globals elements (Define names right) layout)
+          → Declares (defines globals elements layout names (right_types globals elements layout.scope (length names) right) right) (after_simple globals s (Define names right)) (following_simple globals elements (Define names right) layout)
       typed_define names right first free noted begins =
           let end = first + sum_by expression_size right + 1 in
           let b = broken rules.NewName end (omega arith) in
           let twice = not_true (has_twice names || not (list_any (is_declarable s) names)) (λ e. free b.0 (inr (inr (inl (inr (e, b.1)))))) in
-          typed_defines names right first end (omega arith) (or_parts (has_twice names) (not (list_any (is_declarable s) names)) twice).0 (λ flaw h. free flaw (inl h)) (λ flaw h. free flaw (inr (inl h))) (λ flaw h. free flaw (inr (inr (inr h)))) noted begins
+          typed_defines names right first end (omega arith) (or_parts (has_twice names) (not (list_any (is_declarable s) names)) twice).0 (λ violation h. free violation (inl h)) (λ violation h. free violation (inr (inl h))) (λ violation h. free violation (inr (inr (inr h)))) noted begins

@@ -9,7 +9,7 @@ use Rattle.type_table.specs.Scopes.{Globals, Scope, Yield}
 use Rattle.typing_rules.specs.Expressions.{nodes_of, ConditionHas, TestHas}
 use Rattle.typing_rules.specs.Statements.{IfSimpleHas, IfTestHas, after_any}
 use Rattle.codegen_base.specs.declared.element.Element.{Element}
-use Rattle.codegen_base.specs.Layouts.{Layout, entering, leaving, behind_simple}
+use Rattle.codegen_base.specs.Layouts.{Layout, entering, leaving, following_simple}
 use Rattle.codegen_base.specs.Generated.{Site, Made, followed, ended, loop, tests, test_plan, made_any, made_post, made_if, made_else}
 use Rattle.syntax.specs.Grammar.{IsStill, StillAny}
 use Rattle.codegen_base.proofs.Alike.{Alike}
@@ -89,9 +89,9 @@ module _ (globals : Globals) (elements : List Element) (code : Code) (f : CodeFu
   module _ (layout : Layout) (room : Room globals elements code f layout) (s : Scope) (sees : Sees s layout.scope) where
     pub typed_tests : (condition : Expression) (first : ℕ) → Free (TestHas globals s first condition) → OneMakes globals elements condition → (a : Allowed) (ks out : List WordKind) (rest : Plan) → Typed code f a (ks ++ kinds.Bool ∷ []) rest out → Typed code f a ks (tests globals elements layout condition rest) out
     typed_tests condition first free makes a ks out rest t =
-        let w = worth_there globals s grounds.types_known (known_sees s layout.scope sees (housed_of globals elements f layout.scope room.housed).known) condition first (λ flaw h. free flaw (inl h)) in
-        let fit = condition_fits w.0 (nodes_of first condition) (nodes_end first condition) (λ flaw h. free flaw (inr (subst (λ o. ConditionHas o (nodes_of first condition) flaw) (sym w.1) h))) in
-        typed_test globals elements code f grounds layout.scope (housed_of globals elements f layout.scope room.housed) s sees condition first (λ flaw h. free flaw (inl h)) makes w.0 (sym (worth_sees s layout.scope sees globals condition) ∙ w.1) fit a ks out rest t
+        let w = worth_there globals s grounds.types_known (known_sees s layout.scope sees (housed_of globals elements f layout.scope room.housed).known) condition first (λ violation h. free violation (inl h)) in
+        let fit = condition_fits w.0 (nodes_of first condition) (nodes_end first condition) (λ violation h. free violation (inr (subst (λ o. ConditionHas o (nodes_of first condition) violation) (sym w.1) h))) in
+        typed_test globals elements code f grounds layout.scope (housed_of globals elements f layout.scope room.housed) s sees condition first (λ violation h. free violation (inl h)) makes w.0 (sym (worth_sees s layout.scope sees globals condition) ∙ w.1) fit a ks out rest t
 
     pub runs_if : (result : Yield) (condition : Expression) (first : ℕ) → Free (TestHas globals s first condition) → OneMakes globals elements condition → (a : Allowed) (so : Made) → IsMade a so → IsMade a (made_if globals elements result layout condition so)
     runs_if _ condition first free makes a so p = record {
@@ -126,17 +126,17 @@ module _ (globals : Globals) (elements : List Element) (code : Code) (f : CodeFu
         (record { runs = λ place tabled. d.leaves a [] [] refl; room = d.room }, d.alike)
 
 module _ (globals : Globals) (elements : List Element) (code : Code) (f : CodeFunction) (grounds : Grounds globals elements code) where
-  still_behind : (simple : Simple) (layout : Layout) → IsStill simple → behind_simple globals elements simple layout ≡ layout
-  still_behind (Define names right) layout still = absurd still
-  still_behind (CallAlone a b) layout still = refl
-  still_behind (Close a) layout still = refl
-  still_behind (Print a b c) layout still = refl
-  still_behind (ReceiveAlone a) layout still = refl
-  still_behind (Send a b) layout still = refl
-  still_behind (Increment a) layout still = refl
-  still_behind (Decrement a) layout still = refl
-  still_behind (Assign a b) layout still = refl
-  still_behind (Update a b c) layout still = refl
+  still_after : (simple : Simple) (layout : Layout) → IsStill simple → following_simple globals elements simple layout ≡ layout
+  still_after (Define names right) layout still = absurd still
+  still_after (CallAlone a b) layout still = refl
+  still_after (Close a) layout still = refl
+  still_after (Print a b c) layout still = refl
+  still_after (ReceiveAlone a) layout still = refl
+  still_after (Send a b) layout still = refl
+  still_after (Increment a) layout still = refl
+  still_after (Decrement a) layout still = refl
+  still_after (Assign a b) layout still = refl
+  still_after (Update a b c) layout still = refl
 
   pub typed_post : (header : Layout) (site : Site) → Room globals elements code f header → Room globals elements code f site.layout → (s : Scope) → Sees s site.layout.scope → (post : Option Simple) (first : ℕ) (a : Allowed) → StillAny post → Free (IfSimpleHas globals s first post) → IfSome post (SimpleMakes globals elements)
       → Prints code site.prints (made_post globals elements header site post).prints → IsMade globals elements code f grounds a (made_post globals elements header site post)
@@ -146,5 +146,5 @@ module _ (globals : Globals) (elements : List Element) (code : Code) (f : CodeFu
       let inner = room_entering globals elements code f site.layout room in
       record {
         runs = λ place tabled. typed_still globals elements code f grounds within inner s sees site.prints simple first still free makes prints a [] [] refl;
-        room = subst (λ (x : Layout). Room globals elements code f (leaving header x)) (sym (still_behind simple within still)) (room_leaving globals elements code f header within outer inner);
+        room = subst (λ (x : Layout). Room globals elements code f (leaving header x)) (sym (still_after simple within still)) (room_leaving globals elements code f header within outer inner);
       }

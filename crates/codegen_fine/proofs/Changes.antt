@@ -13,9 +13,9 @@ use Rattle.bytecode.specs.Code.{Function as CodeFunction, Code}
 use Rattle.type_table.specs.Types.{ValueType, IntType, BoolType, is_int_type, is_channel_type, assignable}
 use Rattle.type_table.specs.Containment.{Selected}
 use Rattle.type_table.specs.Scopes.{Globals, Scope, is_blank}
-use Rattle.typing_rules.specs.declared.flaw.Misuse.{Misuse}
-use Rattle.typing_rules.specs.declared.flaw.Misuse.TheVariants as misuses
-use Rattle.typing_rules.specs.Flaws.{Nodes}
+use Rattle.typing_rules.specs.declared.violation.Misuse.{Misuse}
+use Rattle.typing_rules.specs.declared.violation.Misuse.TheVariants as misuses
+use Rattle.typing_rules.specs.Violations.{Nodes}
 use Rattle.typing_rules.specs.Worths.{Worth, Typed as TypedWorth, Constant, Nil, is_equality, is_order, is_logical, is_int, is_wrong_right, made_type, if_good, fit_operator, binary_worth, type_of_field, worth}
 use Rattle.typing_rules.specs.Expressions.{nodes_of, ValueHas, default_type}
 use Rattle.typing_rules.specs.Operations.{ReadPlaceHas, selected, place_type}
@@ -92,9 +92,9 @@ operator_plain operator own Nil m e = go (is_equality operator && is_channel_typ
 -- what goes to an lvalue of the type is of the type
 made_own : (operator : BinaryOperator) (own : ValueType) (w : Worth) (nodes : Nodes) (end : ℕ) → 1 ≤ nodes.end → 1 ≤ end → Free (MadeHas (binary_worth operator (TypedWorth own) w) own nodes end) → binary_worth operator (TypedWorth own) w ≡ Ok (TypedWorth own)
 made_own operator own w nodes end le lt free =
-    let (m, is) = made (binary_worth operator (TypedWorth own) w) nodes nodes end le le lt (λ flaw h. free flaw (inl h)) in
+    let (m, is) = made (binary_worth operator (TypedWorth own) w) nodes nodes end le le lt (λ violation h. free violation (inl h)) in
     let (k, plain, same) = operator_plain operator own w m is in
-    let fit = fits m own nodes le (λ flaw h. free flaw (inr (subst (λ o. ValueHas (result_ok o) (Some own) nodes flaw) (sym is) h))) in
+    let fit = fits m own nodes le (λ violation h. free violation (inr (subst (λ o. ValueHas (result_ok o) (Some own) nodes violation) (sym is) h))) in
     is ∙ ap Ok (plain ∙ ap TypedWorth (same own (subst (λ x. Fits x own) plain fit)))
 
 module _ (globals : Globals) (elements : List Element) (code : Code) (f : CodeFunction) (grounds : Grounds globals elements code) where
@@ -112,7 +112,7 @@ module _ (globals : Globals) (elements : List Element) (code : Code) (f : CodeFu
     readable : (place : Place) (first : ℕ) → Free (ReadPlaceHas globals s first place) → Readable place
     readable place first free =
         let b = broken rules.Assigned (first + 1) (omega arith) in
-        let l = place_leads globals elements f code grounds s scope alike all place first (λ flaw h. free flaw (inl h)) (not_true (is_blank place.name) (λ e. free b.0 (inr (e, b.1)))) in
+        let l = place_leads globals elements f code grounds s scope alike all place first (λ violation h. free violation (inl h)) (not_true (is_blank place.name) (λ e. free b.0 (inr (e, b.1)))) in
         record {
           at = l.at;
           is = l.is;
@@ -133,9 +133,9 @@ module _ (globals : Globals) (elements : List Element) (code : Code) (f : CodeFu
     -- `x++` and `x--`
     typed_step : (operator : BinaryOperator) (place : Place) (first : ℕ) → is_logical operator ≡ false → made_type operator ≡ IntType → Free (StepHas globals s first place) → Leaves (steps globals elements scope operator place)
     typed_step operator place first calm int free a ks out t =
-        let r = readable place first (λ flaw h. free flaw (inl h)) in
+        let r = readable place first (λ violation h. free violation (inl h)) in
         let p = place_is place r in
-        let sum = made_own Add r.own (Constant (pos 1)) (record { first = first; end = first + 1 }) (first + 2) (omega arith) (omega arith) (λ flaw h. free flaw (inr (subst (λ o. UpdatedHas Add o (Some (Constant (pos 1))) (record { first = first; end = first + 1 }) (first + 2) flaw) (sym r.typed) h))) in
+        let sum = made_own Add r.own (Constant (pos 1)) (record { first = first; end = first + 1 }) (first + 2) (omega arith) (omega arith) (λ violation h. free violation (inr (subst (λ o. UpdatedHas Add o (Some (Constant (pos 1))) (record { first = first; end = first + 1 }) (first + 2) violation) (sym r.typed) h))) in
         let own : r.own ≡ IntType = (right_operand Add r.own (pos 1) r.own sum).int in
         let spot = Local r.at.place (length (kinds_of globals.structs elements r.own)) in
         let push = subst (λ k. P globals elements code f grounds k (loads_spot globals elements scope spot)) own (loaded globals elements code f grounds scope r.at.place (length (kinds_of globals.structs elements r.own)) r.own r.fit r.noted) in
@@ -155,17 +155,17 @@ module _ (globals : Globals) (elements : List Element) (code : Code) (f : CodeFu
         → Leaves (updates globals elements scope place operator (worth globals scope value) (known (default_type (worth globals scope value))) (emits globals elements scope value))
     typed_assign_with place operator value first free makes a ks out t =
         let housed = housed_of globals elements f scope all in
-        let r = readable place first (λ flaw h. free flaw (inl h)) in
+        let r = readable place first (λ violation h. free violation (inl h)) in
         let p = place_is place r in
-        let (w, has) = worth_there globals s grounds.types_known (known_sees s scope alike housed.known) value (first + 1) (λ flaw h. free flaw (inr (inl h))) in
+        let (w, has) = worth_there globals s grounds.types_known (known_sees s scope alike housed.known) value (first + 1) (λ violation h. free violation (inr (inl h))) in
         let here-is : worth globals scope value ≡ Some w = sym (worth_sees s scope alike globals value) ∙ has in
         let end = first + 1 + expression_size value + 1 in
         let nodes = nodes_of (first + 1) value in
         let sum = made_own operator r.own w nodes end (nodes_end (first + 1) value) (omega arith)
-        (λ flaw h. free flaw (inr (inr (subst (λ o. UpdatedHas operator o (worth globals s value) nodes end flaw) (sym r.typed) (subst (λ o. UpdatedHas operator (Some r.own) o nodes end flaw) (sym has) h))))) in
+        (λ violation h. free violation (inr (inr (subst (λ o. UpdatedHas operator o (worth globals s value) nodes end violation) (sym r.typed) (subst (λ o. UpdatedHas operator (Some r.own) o nodes end violation) (sym has) h))))) in
         let spot = Local r.at.place (length (kinds_of globals.structs elements r.own)) in
         let right = emits globals elements scope value in
-        let emitted : IsEmitted globals elements code f grounds right w = λ k e. (worth_noted elements globals grounds.fields_noted grounds.results_noted scope housed.noted value makes k (here-is ∙ ap Some e), typed_emits globals elements code f grounds scope housed s alike value (first + 1) (λ flaw h. free flaw (inr (inl h))) makes k (here-is ∙ ap Some e)) in
+        let emitted : IsEmitted globals elements code f grounds right w = λ k e. (worth_noted elements globals grounds.fields_noted grounds.results_noted scope housed.noted value makes k (here-is ∙ ap Some e), typed_emits globals elements code f grounds scope housed s alike value (first + 1) (λ violation h. free violation (inr (inl h))) makes k (here-is ∙ ap Some e)) in
         subst (λ x. Typed code f a ks (operates elements operator (Some (TypedWorth (known (place_type globals scope place)))) (worth globals scope value) (known (place_type globals scope place)) (known (default_type (worth globals scope value))) (loads_spot globals elements scope x) right (stores x (Do instrs.Tick Skip))) out) (sym p.0)
         (subst (λ k. Typed code f a ks (operates elements operator (Some (TypedWorth k)) (worth globals scope value) k (known (default_type (worth globals scope value))) (loads_spot globals elements scope spot) right (stores spot (Do instrs.Tick Skip))) out) (sym p.1)
         (subst (λ o. Typed code f a ks (operates elements operator (Some (TypedWorth r.own)) o r.own (known (default_type o)) (loads_spot globals elements scope spot) right (stores spot (Do instrs.Tick Skip))) out) (sym here-is)

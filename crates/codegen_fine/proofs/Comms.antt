@@ -20,7 +20,7 @@ use Rattle.meaning.specs.Values.{known}
 use Rattle.codegen_base.specs.declared.element.Element.{Element}
 use Rattle.codegen_base.specs.Elements.{kinds_of, shape_of}
 use Rattle.codegen_base.specs.Layouts.{Layout, carried, declaring_all, given_types}
-use Rattle.codegen_base.specs.Generated.{pushes_comm, table_clause, comm_kinds, comm_plan, one_or_two, unless_two, behind_comm}
+use Rattle.codegen_base.specs.Generated.{pushes_comm, table_clause, comm_kinds, comm_plan, one_or_two, unless_two, after_comm}
 use Rattle.codegen_base.specs.Pushes.{pushes, pushes_own}
 use Rattle.codegen_base.specs.Statements.{Spot, assigns, place_spots, taken_types, name_spots, name_types, right_types}
 use Rattle.codegen_base.proofs.Alike.{Alike}
@@ -81,24 +81,24 @@ module _ (globals : Globals) (elements : List Element) (code : Code) (f : CodeFu
 
     pub comm_fine : (comm : Comm) (first : ℕ) → Free (SimpleHas globals s first (comm_simple comm)) → SimpleMakes globals elements (comm_simple comm) → CommFine comm
     comm_fine (CommReceive channel) first free makes =
-        let c = channel_is channel first (λ flaw h. free flaw (inl h)) makes (λ flaw h. free flaw (inr (inl h))) in
+        let c = channel_is channel first (λ violation h. free violation (inl h)) makes (λ violation h. free violation (inr (inl h))) in
         record { pushed = λ to. channel_pushed channel c; gives = λ to. ap (λ (l : List WordKind). l ++ kinds.Bool ∷ []) (shapes_are channel c); there = λ to. shape_is_there channel c }
     comm_fine (CommDefine item ok channel) first free makes =
-        let c = channel_is channel first (λ flaw h. free flaw (inl (inl (inl h)))) makes.0 (λ flaw h. free flaw (inl (inl (inr (inl h))))) in
+        let c = channel_is channel first (λ violation h. free violation (inl (inl (inl h)))) makes.0 (λ violation h. free violation (inl (inl (inr (inl h))))) in
         record { pushed = λ to. channel_pushed channel c; gives = λ to. ap (λ (l : List WordKind). l ++ kinds.Bool ∷ []) (shapes_are channel c); there = λ to. shape_is_there channel c }
     comm_fine (CommAssign item ok channel) first free makes =
-        let c = channel_is channel (first + length (and_also item ok)) (λ flaw h. free flaw (inr (inl (inl (inl h))))) makes.0 (λ flaw h. free flaw (inr (inl (inl (inr (inl h)))))) in
+        let c = channel_is channel (first + length (and_also item ok)) (λ violation h. free violation (inr (inl (inl (inl h))))) makes.0 (λ violation h. free violation (inr (inl (inl (inr (inl h)))))) in
         record { pushed = λ to. channel_pushed channel c; gives = λ to. ap (λ (l : List WordKind). l ++ kinds.Bool ∷ []) (shapes_are channel c); there = λ to. shape_is_there channel c }
     comm_fine (CommSend channel value) first free makes =
         let housed = housed_of globals elements f layout.scope room.housed in
-        let c = channel_is channel first (λ flaw h. free flaw (inl h)) makes.0 (λ flaw h. free flaw (inr (inr (inl h)))) in
-        let behind = first + expression_size channel in
-        let w = worth_there globals s grounds.types_known (known_sees s layout.scope sees housed.known) value behind (λ flaw h. free flaw (inr (inl h))) in
+        let c = channel_is channel first (λ violation h. free violation (inl h)) makes.0 (λ violation h. free violation (inr (inr (inl h)))) in
+        let following = first + expression_size channel in
+        let w = worth_there globals s grounds.types_known (known_sees s layout.scope sees housed.known) value following (λ violation h. free violation (inr (inl h))) in
         let kind = carried globals elements layout.scope channel in
         let is-element : element_of (worth globals s channel) ≡ Some kind = ap element_of (worth_sees s layout.scope sees globals channel ∙ c.is) ∙ ap Some (sym c.carries) in
-        let fit = fits w.0 kind (nodes_of behind value) (nodes_end behind value)
-        (λ flaw h. free flaw (inr (inr (inr (inr (subst (λ o. ValueHas (worth globals s value) o (nodes_of behind value) flaw) (sym is-element) (subst (λ o. ValueHas o (Some kind) (nodes_of behind value) flaw) (sym w.1) h))))))) in
-        let item = typed_pushes globals elements code f grounds layout.scope housed s sees value behind (λ flaw h. free flaw (inr (inl h))) makes.1 w.0 kind (sym (worth_sees s layout.scope sees globals value) ∙ w.1) fit (subst (Noted elements) (sym c.carries) c.noted.0) in
+        let fit = fits w.0 kind (nodes_of following value) (nodes_end following value)
+        (λ violation h. free violation (inr (inr (inr (inr (subst (λ o. ValueHas (worth globals s value) o (nodes_of following value) violation) (sym is-element) (subst (λ o. ValueHas o (Some kind) (nodes_of following value) violation) (sym w.1) h))))))) in
+        let item = typed_pushes globals elements code f grounds layout.scope housed s sees value following (λ violation h. free violation (inr (inl h))) makes.1 w.0 kind (sym (worth_sees s layout.scope sees globals value) ∙ w.1) fit (subst (Noted elements) (sym c.carries) c.noted.0) in
         let chan = kinds.Chan (shape_of elements kind) ∷ [] in
         record {
           pushed = λ to.
@@ -138,8 +138,8 @@ module _ (globals : Globals) (elements : List Element) (code : Code) (f : CodeFu
     -- a way begins with what its clause leaves, and leads to the variables that the typing rules see
     pub record CommMade (comm : Comm) : Type 0 where
       pub takes : (a : Allowed) → Typed code f a (comm_kinds globals elements result layout comm) (comm_plan globals elements result layout comm) []
-      pub behind : Room globals elements code f (behind_comm globals elements result comm layout)
-      pub seen : Alike (after_simple globals s (comm_simple comm)) (behind_comm globals elements result comm layout).scope
+      pub following : Room globals elements code f (after_comm globals elements result comm layout)
+      pub seen : Alike (after_simple globals s (comm_simple comm)) (after_comm globals elements result comm layout).scope
 
     two_spots : (places : List Place) (item : Place) (ok : Option Place) (kind : ValueType) → place_spots globals elements layout.scope (and_also item ok) (two_types ok kind) ≡ place_spots globals elements layout.scope (one_or_two globals elements result item ok) (kind ∷ BoolType ∷ [])
     two_spots places item None kind = refl
@@ -149,17 +149,17 @@ module _ (globals : Globals) (elements : List Element) (code : Code) (f : CodeFu
     two_names item None kind = refl
     two_names item (Some other) kind = refl
 
-    two_behind : (item : List ℕ) (ok : Option (List ℕ)) (kind : ValueType) → declaring_all globals elements (and_also item ok) (two_types ok kind) layout ≡ declaring_all globals elements (one_or_two globals elements result item ok) (kind ∷ BoolType ∷ []) layout
-    two_behind item None kind = refl
-    two_behind item (Some other) kind = refl
+    two_after : (item : List ℕ) (ok : Option (List ℕ)) (kind : ValueType) → declaring_all globals elements (and_also item ok) (two_types ok kind) layout ≡ declaring_all globals elements (one_or_two globals elements result item ok) (kind ∷ BoolType ∷ []) layout
+    two_after item None kind = refl
+    two_after item (Some other) kind = refl
 
-    pub comm_made : (comm : Comm) (first : ℕ) → Free (SimpleHas globals s first (comm_simple comm)) → SimpleMakes globals elements (comm_simple comm) → Begins f (behind_comm globals elements result comm layout) → CommMade comm
-    comm_made (CommSend channel value) first free makes begins = record { takes = λ a. refl; behind = room; seen = alike }
+    pub comm_made : (comm : Comm) (first : ℕ) → Free (SimpleHas globals s first (comm_simple comm)) → SimpleMakes globals elements (comm_simple comm) → Begins f (after_comm globals elements result comm layout) → CommMade comm
+    comm_made (CommSend channel value) first free makes begins = record { takes = λ a. refl; following = room; seen = alike }
     comm_made (CommReceive channel) first free makes begins =
         let js = kinds_in (carried globals elements layout.scope channel) in
         record {
           takes = λ a. discards_typed globals elements code f grounds (length js + 1) (js ++ kinds.Bool ∷ []) (sym (length-append js (kinds.Bool ∷ []))) a [] [] Skip refl;
-          behind = room;
+          following = room;
           seen = alike;
         }
     comm_made (CommAssign item ok channel) first free makes begins =
@@ -168,18 +168,18 @@ module _ (globals : Globals) (elements : List Element) (code : Code) (f : CodeFu
         let right = Receive channel ∷ [] in
         let kind = carried globals elements layout.scope channel in
         let housed = housed_of globals elements f layout.scope room.housed in
-        let fine : Free (PlacesHave globals s first places) = λ flaw h. free flaw (inl h) in
+        let fine : Free (PlacesHave globals s first places) = λ violation h. free violation (inl h) in
         let wants = places_want globals layout.scope places in
         let types = right_types globals elements layout.scope count right in
         let t = typed_given globals elements code f grounds layout.scope housed s alike.named channel count (first + count) (first + simple_size (Assign places right)) wants (omega arith) (length-map places (place_want globals layout.scope)) (places_noted globals elements code f grounds layout.scope room.housed s alike.named places first fine)
-        (λ flaw h. free flaw (inr (inl h))) (λ flaw h. free flaw (inr (inr (inl h)))) (λ flaw h. free flaw (inr (inr (inr (places_fail globals elements code f grounds layout.scope room.housed s alike.named places first (given globals s count (first + count) right) flaw fine h))))) makes in
+        (λ violation h. free violation (inr (inl h))) (λ violation h. free violation (inr (inr (inl h)))) (λ violation h. free violation (inr (inr (inr (places_fail globals elements code f grounds layout.scope room.housed s alike.named places first (given globals s count (first + count) right) violation fine h))))) makes in
         let fit = places_fit globals elements code f grounds layout.scope room.housed s alike.named places first types fine in
         let same : joined (map kinds_in (taken_types globals elements layout.scope places types)) ≡ wanted ok kind =
         joined_kinds globals elements (taken_types globals elements layout.scope places types) ∙ ap (all_kinds globals.structs elements) (places_taken globals elements layout.scope places types) ∙ t.same ∙ ap (all_kinds globals.structs elements) (given_two item ok layout.scope channel) ∙ two_kinds ok kind in
         let spots : place_spots globals elements layout.scope places types ≡ place_spots globals elements layout.scope (one_or_two globals elements result item ok) (kind ∷ BoolType ∷ []) = ap (place_spots globals elements layout.scope places) (given_two item ok layout.scope channel) ∙ two_spots [] item ok kind in
         record {
           takes = λ a. subst (λ (x : List Spot). Typed code f a (kinds_in kind ++ kinds.Bool ∷ []) (unless_two globals elements result ok (assigns x Skip)) []) spots (received ok kind (place_spots globals elements layout.scope places types) (map kinds_in (taken_types globals elements layout.scope places types)) fit same a);
-          behind = room;
+          following = room;
           seen = alike;
         }
     comm_made (CommDefine item ok channel) first free makes begins =
@@ -194,14 +194,14 @@ module _ (globals : Globals) (elements : List Element) (code : Code) (f : CodeFu
         let b = broken rules.NewName end (omega arith) in
         let twice = not_true (has_twice names || not (list_any (is_declarable s) names)) (λ e. free b.0 (inr (inr (inl (inr (e, b.1)))))) in
         let t = typed_given globals elements code f grounds layout.scope housed s alike.named channel count first end wants (omega arith) (length-map names (λ name. want_of (own_variable layout.scope name))) (names_noted globals elements code f grounds layout room s alike names)
-        (λ flaw h. free flaw (inl h)) (λ flaw h. free flaw (inr (inl h))) (λ flaw h. free flaw (inr (inr (inr (names_fail globals elements code f grounds layout room s alike names (given globals s count first right) flaw h))))) makes in
-        let behind-is : declaring_all globals elements names types layout ≡ behind_comm globals elements result (CommDefine item ok channel) layout = ap (λ (l : List ValueType). declaring_all globals elements names l layout) (given_two item ok layout.scope channel) ∙ two_behind item ok kind in
-        let n = (defines_fit globals elements code f grounds layout room s alike names right (or_parts (has_twice names) (not (list_any (is_declarable s) names)) twice).0 (subst (Begins f) (sym behind-is) begins) t.takes).names_fit in
+        (λ violation h. free violation (inl h)) (λ violation h. free violation (inr (inl h))) (λ violation h. free violation (inr (inr (inr (names_fail globals elements code f grounds layout room s alike names (given globals s count first right) violation h))))) makes in
+        let following-is : declaring_all globals elements names types layout ≡ after_comm globals elements result (CommDefine item ok channel) layout = ap (λ (l : List ValueType). declaring_all globals elements names l layout) (given_two item ok layout.scope channel) ∙ two_after item ok kind in
+        let n = (defines_fit globals elements code f grounds layout room s alike names right (or_parts (has_twice names) (not (list_any (is_declarable s) names)) twice).0 (subst (Begins f) (sym following-is) begins) t.takes).names_fit in
         let same : joined (map kinds_in (name_types globals elements layout names types)) ≡ wanted ok kind =
         joined_kinds globals elements (name_types globals elements layout names types) ∙ ap (all_kinds globals.structs elements) (names_taken globals elements layout names types) ∙ t.same ∙ ap (all_kinds globals.structs elements) (given_two item ok layout.scope channel) ∙ two_kinds ok kind in
         let spots : name_spots globals elements layout names types ≡ name_spots globals elements layout (one_or_two globals elements result item ok) (kind ∷ BoolType ∷ []) = ap (name_spots globals elements layout names) (given_two item ok layout.scope channel) ∙ two_names item ok kind in
         record {
           takes = λ a. subst (λ (x : List Spot). Typed code f a (kinds_in kind ++ kinds.Bool ∷ []) (unless_two globals elements result ok (assigns x Skip)) []) spots (received ok kind (name_spots globals elements layout names types) (map kinds_in (name_types globals elements layout names types)) n.fit same a);
-          behind = subst (Room globals elements code f) behind-is n.room;
-          seen = subst (λ (x : Layout). Alike (after_simple globals s (Define names right)) x.scope) behind-is (subst (λ x. Alike x (declaring_all globals elements names types layout).scope) (sym (defined_alike globals elements s layout.scope alike.named names count 0 0 right)) n.alike);
+          following = subst (Room globals elements code f) following-is n.room;
+          seen = subst (λ (x : Layout). Alike (after_simple globals s (Define names right)) x.scope) following-is (subst (λ x. Alike x (declaring_all globals elements names types layout).scope) (sym (defined_alike globals elements s layout.scope alike.named names count 0 0 right)) n.alike);
         }

@@ -2,7 +2,7 @@
 use Rattle.std.proofs.Common.{◌≡◌, ◌+◌, ◌≤◌, true, arith, Some, refl, ap}
 use Rattle.go_text.specs.declared.rule.Rule.TheVariants as rules
 use Rattle.type_table.specs.Types.{ValueType, BoolType, IntType, StructType, ChannelType, is_bool_type, assignable}
-use Rattle.typing_rules.specs.Flaws.{Nodes}
+use Rattle.typing_rules.specs.Violations.{Nodes}
 use Rattle.typing_rules.specs.Worths.{Worth, Typed as TypedWorth, Constant, Nil}
 use Rattle.typing_rules.specs.Expressions.{ConditionHas}
 use Rattle.codegen_base.proofs.Typing.{Free, Fits, broken, not_false}

@@ -13,7 +13,7 @@ use Rattle.type_table.specs.Containment.{Field, Structs, fields_in, fields_of, k
 use Rattle.type_table.specs.Scopes.{number_of, nothing_declared, variable_named, type_in}
 use Rattle.type_table.proofs.Widths.{together-parts}
 use Rattle.type_table.proofs.Fields.{parts-count}
-use Rattle.typing_rules.specs.Flaws.{IsBroken}
+use Rattle.typing_rules.specs.Violations.{IsBroken}
 use Rattle.typing_rules.specs.Files.{FileHas}
 use Rattle.typing_rules.specs.Declarations.{is_nothing, StructsHave, counting_struct}
 use Rattle.typing_rules.specs.Kinds.{type_names, all_fields, fields_declared, structs_with, globals_of}
@@ -100,7 +100,7 @@ Filled many [] = ⊥
 Filled many (field ∷ rest) = Inside many (known field.kind)
 
 module _ (types : List (List ℕ)) where
-  fields_filled : (groups : List Declared) (end : ℕ) → 1 ≤ end → AllNamed groups → Free (λ flaw. (is_nothing groups ≡ true) × IsBroken rules.Struct end flaw) → Filled (length types) (fields_declared types groups)
+  fields_filled : (groups : List Declared) (end : ℕ) → 1 ≤ end → AllNamed groups → Free (λ violation. (is_nothing groups ≡ true) × IsBroken rules.Struct end violation) → Filled (length types) (fields_declared types groups)
   fields_filled [] end le named free = let b = broken rules.Struct end le in absurd (free b.0 (refl, b.1))
   fields_filled (group ∷ rest) end le named free = go group.names named.0 where
     go : (names : List (List ℕ)) → 0 < length names → Filled (length types) (all_fields (type_in types nothing_declared group.type_expression) names ++ fields_declared types rest)
@@ -109,10 +109,10 @@ module _ (types : List (List ℕ)) where
 
   structs_filled : (tops : List Top) (number first : ℕ) → NamedTops tops → Free (StructsHave types number first tops) → (n : ℕ) → n < length (structs_with types tops) → Filled (length types) (fields_in (slice_get (structs_with types tops) n))
   structs_filled [] number first named free n lt = absurd (omega (arith, lt))
-  structs_filled (FunctionTop function ∷ rest) number first named free n lt = structs_filled rest number (first + top_size (FunctionTop function)) named (λ flaw h. free flaw (inr h)) n lt
-  structs_filled (StructTop struct ∷ rest) number first named free zero lt = fields_filled struct.fields (first + top_size (StructTop struct)) (omega arith) named.0 (λ flaw h. free flaw (inl (inr (inr (inr h)))))
+  structs_filled (FunctionTop function ∷ rest) number first named free n lt = structs_filled rest number (first + top_size (FunctionTop function)) named (λ violation h. free violation (inr h)) n lt
+  structs_filled (StructTop struct ∷ rest) number first named free zero lt = fields_filled struct.fields (first + top_size (StructTop struct)) (omega arith) named.0 (λ violation h. free violation (inl (inr (inr (inr h)))))
   structs_filled (StructTop struct ∷ rest) number first named free (suc n) lt =
-      structs_filled rest (counting_struct number (StructTop struct)) (first + top_size (StructTop struct)) named.1 (λ flaw h. free flaw (inr h)) n (omega (arith, lt))
+      structs_filled rest (counting_struct number (StructTop struct)) (first + top_size (StructTop struct)) named.1 (λ violation h. free violation (inr h)) n (omega (arith, lt))
 
 module _ (structs : Structs) (filled : (n : ℕ) → n < length structs → Filled (length structs) (fields_of structs n)) where
   kind_some : (f : ℕ → Option ℕ) → ((n v : ℕ) → n < length structs → f n ≡ Some v → 0 < v) → (kind : Option ValueType) (v : ℕ) → Inside (length structs) (known kind) → kind_width f kind ≡ Some v → 0 < v
@@ -151,7 +151,7 @@ shapes_filled file wide named free n ks e =
           let globals = globals_of file.tops in
           let structs = globals.structs in
           let as-many = many_structs globals.types file.tops in
-          let filled : (n : ℕ) → n < length structs → Filled (length structs) (fields_of structs n) = λ n lt. subst (λ k. Filled k (fields_of structs n)) (sym as-many) (structs_filled globals.types file.tops 0 0 named (λ flaw h. free flaw (inl (inl (inl h)))) n lt) in
+          let filled : (n : ℕ) → n < length structs → Filled (length structs) (fields_of structs n) = λ n lt. subst (λ k. Filled k (fields_of structs n)) (sym as-many) (structs_filled globals.types file.tops 0 0 named (λ violation h. free violation (inl (inl (inl h)))) n lt) in
           let (v, is) = wide m in
           let long : length (kinds_of structs (elements_of file) (StructType m)) ≡ v = length-map (parts structs (StructType m)) (word_kind (elements_of file)) ∙ parts-count structs (StructType m) v is in
           let some = struct_some structs filled (suc (length structs)) m v (subst (λ k. m < k) (sym as-many) h) is in

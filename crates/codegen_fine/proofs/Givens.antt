@@ -11,8 +11,8 @@ use Rattle.syntax.specs.declared.node.Direction.{Direction}
 use Rattle.bytecode.specs.Code.{Function as CodeFunction, Code}
 use Rattle.type_table.specs.Types.{ValueType, IntType, BoolType, StructType, ChannelType, same_direction, identical, assignable}
 use Rattle.type_table.specs.Scopes.{Globals, Scope}
-use Rattle.typing_rules.specs.declared.flaw.Flaw.{Flaw}
-use Rattle.typing_rules.specs.Flaws.{Nodes}
+use Rattle.typing_rules.specs.declared.violation.Violation.{Violation}
+use Rattle.typing_rules.specs.Violations.{Nodes}
 use Rattle.typing_rules.specs.Worths.{Worth, Typed as TypedWorth, Constant, Nil, is_int, worth}
 use Rattle.typing_rules.specs.Expressions.{nodes_of, ValueHas, DefaultHas, default_type, ExpressionsHave}
 use Rattle.typing_rules.specs.Operations.{is_receive, Given, given_values, also_given, given}
@@ -31,14 +31,14 @@ use Rattle.codegen_fine.proofs.Operands.{AllNoted, Grounds, Housed}
 
 -- ---- what is wanted: a value of a type, or any that has one
 
-abbrev pub WantHas : Option ValueType → Given → Flaw → Type 0
-WantHas None value flaw = DefaultHas value.worth value.nodes flaw
-WantHas (Some kind) value flaw = ValueHas value.worth (Some kind) value.nodes flaw
+abbrev pub WantHas : Option ValueType → Given → Violation → Type 0
+WantHas None value violation = DefaultHas value.worth value.nodes violation
+WantHas (Some kind) value violation = ValueHas value.worth (Some kind) value.nodes violation
 
-abbrev pub WantsFail : List (Option ValueType) → List Given → Flaw → Type 0
-WantsFail [] values flaw = ⊥
-WantsFail (want ∷ wants) [] flaw = ⊥
-WantsFail (want ∷ wants) (value ∷ values) flaw = WantHas want value flaw ⊎ WantsFail wants values flaw
+abbrev pub WantsFail : List (Option ValueType) → List Given → Violation → Type 0
+WantsFail [] values violation = ⊥
+WantsFail (want ∷ wants) [] violation = ⊥
+WantsFail (want ∷ wants) (value ∷ values) violation = WantHas want value violation ⊎ WantsFail wants values violation
 
 abbrev pub WantsNoted : List Element → List (Option ValueType) → Type 0
 WantsNoted elements [] = Unit {0}
@@ -128,7 +128,7 @@ module _ (globals : Globals) (elements : List Element) where
   pub typed_taken : (want : Option ValueType) (kind : ValueType) (value : Given) → value.worth ≡ Some (TypedWorth kind) → 1 ≤ value.nodes.end → WantsNoted elements (want ∷ []) → Noted elements kind → Free (WantHas want value) → Taken want kind
   typed_taken None kind value is le noted own free = record { same = refl; noted = own }
   typed_taken (Some t) kind value is le noted own free =
-      let fit = fits (TypedWorth kind) t value.nodes le (λ flaw h. free flaw (subst (λ o. ValueHas o (Some t) value.nodes flaw) (sym is) h)) in
+      let fit = fits (TypedWorth kind) t value.nodes le (λ violation h. free violation (subst (λ o. ValueHas o (Some t) value.nodes violation) (sym is) h)) in
       record { same = sym (assignable_kinds globals.structs elements kind t fit); noted = noted.0 }
 
   pub first_noted : (want : Option ValueType) (wants : List (Option ValueType)) → WantsNoted elements (want ∷ wants) → WantsNoted elements (want ∷ []) × WantsNoted elements wants
@@ -157,13 +157,13 @@ module _ (globals : Globals) (elements : List Element) where
       values_fit [] (want ∷ wants) first m many noted free fail makes = absurd cc
       values_fit (value ∷ rest) [] first m many noted free fail makes = absurd cc
       values_fit (value ∷ rest) (want ∷ wants) first m many noted free fail makes =
-          let (w, is) = worth_there globals s grounds.types_known (known_sees s scope alike housed.known) value first (λ flaw h. free flaw (inl h)) in
+          let (w, is) = worth_there globals s grounds.types_known (known_sees s scope alike housed.known) value first (λ violation h. free violation (inl h)) in
           let here-is : worth globals scope value ≡ Some w = sym (worth_sees s scope alike globals value) ∙ is in
           let n = first_noted want wants noted in
-          let one = value_taken want w (nodes_of first value) value makes.0 here-is (nodes_end first value) n.0 (λ flaw h. fail flaw (inl (subst (λ o. WantHas want (record { worth = o; nodes = nodes_of first value }) flaw) (sym is) h))) in
+          let one = value_taken want w (nodes_of first value) value makes.0 here-is (nodes_end first value) n.0 (λ violation h. fail violation (inl (subst (λ o. WantHas want (record { worth = o; nodes = nodes_of first value }) violation) (sym is) h))) in
           let same : known (default_type (Some w)) ≡ known (default_type (worth globals scope value)) = ap (λ o. known (default_type o)) (sym here-is) in
           let long : suc (length rest) ≡ suc (length wants) = many in
-          let more = values_fit rest wants (first + expression_size value) (m + expression_size value) (omega (arith, long)) n.1 (λ flaw h. free flaw (inr h)) (λ flaw h. fail flaw (inr h)) makes.1 in
+          let more = values_fit rest wants (first + expression_size value) (m + expression_size value) (omega (arith, long)) n.1 (λ violation h. free violation (inr h)) (λ violation h. fail violation (inr h)) makes.1 in
           record {
             fit = ((w, is, subst (λ k. Fits w (taken want k)) same one.0), more.fit);
             noted = (subst (λ k. Noted elements (taken want k)) same one.1, more.noted);

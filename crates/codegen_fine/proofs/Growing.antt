@@ -8,8 +8,8 @@ use Rattle.meaning.specs.Variables.{blank}
 use Rattle.bytecode.specs.declared.instr.WordKind.{WordKind}
 use Rattle.typing_rules.specs.Statements.{head_simple}
 use Rattle.codegen_base.specs.declared.element.Element.{Element}
-use Rattle.codegen_base.specs.Layouts.{Layout, entering, leaving, type_of, behind_simple, behind_target, keeping, with_item, carried}
-use Rattle.codegen_base.specs.Generated.{Site, Made, past, followed, ended, inside, with_way, made_any, made_post, made_comm, behind_comm, item_site, within_select, unless_ended, made, made_all, made_branch, made_otherwise, made_ways, made_default, made_select, one_or_two, comm_kinds}
+use Rattle.codegen_base.specs.Layouts.{Layout, entering, leaving, type_of, following_simple, following_target, keeping, with_item, carried}
+use Rattle.codegen_base.specs.Generated.{Site, Made, past, followed, ended, inside, with_way, made_any, made_post, made_comm, after_comm, item_site, within_select, unless_ended, made, made_all, made_branch, made_otherwise, made_ways, made_default, made_select, one_or_two, comm_kinds}
 use Rattle.plan.specs.Plan.{reaches_end}
 use Rattle.codegen_fine.proofs.Layouts.{Longer, longer_no, longer_on, longer_declaring, longer_new, longer_all, longer_each}
 
@@ -26,7 +26,7 @@ longer_within : (outer header inner : Layout) → Longer outer header → Longer
 longer_within outer header inner g h = longer_on outer header (leaving header inner) g (longer_kept header inner h)
 
 module _ (globals : Globals) (elements : List Element) where
-  pub longer_simple : (simple : Simple) (layout : Layout) → Longer layout (behind_simple globals elements simple layout)
+  pub longer_simple : (simple : Simple) (layout : Layout) → Longer layout (following_simple globals elements simple layout)
   longer_simple (Define names right) layout = longer_all globals elements names _ layout
   longer_simple (CallAlone a b) layout = longer_no layout
   longer_simple (Close a) layout = longer_no layout
@@ -42,7 +42,7 @@ module _ (globals : Globals) (elements : List Element) where
   longer_any None site = longer_no site.layout
   longer_any (Some simple) site = longer_simple simple site.layout
 
-  pub longer_target : (kind : ValueType) (target : Target) (layout : Layout) → Longer layout (behind_target globals elements kind target layout)
+  pub longer_target : (kind : ValueType) (target : Target) (layout : Layout) → Longer layout (following_target globals elements kind target layout)
   longer_target kind NoTarget layout = longer_no layout
   longer_target kind (DefineTarget name) layout = longer_new globals elements kind name layout
   longer_target kind (AssignTarget place) layout = longer_no layout
@@ -56,10 +56,10 @@ module _ (globals : Globals) (elements : List Element) where
 
   pub longer_post : (header : Layout) (site : Site) (post : Option Simple) → Longer site.layout (made_post globals elements header site post).layout
   longer_post header site None = longer_no site.layout
-  longer_post header site (Some simple) = longer_as (entering site.layout) (behind_simple globals elements simple (entering site.layout)) site.layout (made_post globals elements header site (Some simple)).layout refl refl (longer_simple simple (entering site.layout))
+  longer_post header site (Some simple) = longer_as (entering site.layout) (following_simple globals elements simple (entering site.layout)) site.layout (made_post globals elements header site (Some simple)).layout refl refl (longer_simple simple (entering site.layout))
 
   module _ (result : Yield) where
-    pub longer_comm : (comm : Comm) (layout : Layout) → Longer layout (behind_comm globals elements result comm layout)
+    pub longer_comm : (comm : Comm) (layout : Layout) → Longer layout (after_comm globals elements result comm layout)
     longer_comm (CommSend a b) layout = longer_no layout
     longer_comm (CommReceive a) layout = longer_no layout
     longer_comm (CommDefine a b c) layout = longer_all globals elements (one_or_two globals elements result a b) (carried globals elements layout.scope c ∷ BoolType ∷ []) layout
@@ -83,16 +83,16 @@ module _ (globals : Globals) (elements : List Element) where
       longer site (For (While condition) body) = longer_kept site.layout _ (longer_statements (inside site) body)
       longer site (For (ForClauses first condition post) body) =
           let header = made_any globals elements (inside site) first in
-          let behind = past (inside site) header in
-          let within = ended header.layout (made_all globals elements result (inside behind) body) in
-          let turn = made_post globals elements header.layout (past behind within) post in
+          let following = past (inside site) header in
+          let within = ended header.layout (made_all globals elements result (inside following) body) in
+          let turn = made_post globals elements header.layout (past following within) post in
           longer_kept site.layout turn.layout
-          (longer_on (inside site).layout within.layout turn.layout (longer_within (inside site).layout header.layout (made_all globals elements result (inside behind) body).layout (longer_any first (inside site)) (longer_statements (inside behind) body)) (longer_post header.layout (past behind within) post))
+          (longer_on (inside site).layout within.layout turn.layout (longer_within (inside site).layout header.layout (made_all globals elements result (inside following) body).layout (longer_any first (inside site)) (longer_statements (inside following) body)) (longer_post header.layout (past following within) post))
       longer site (For (Range target channel) body) =
           let item = item_site globals elements result site target channel in
           let inner = made_all globals elements result (inside item) body in
           longer_as site.layout (leaving item.layout inner.layout) site.layout (leaving site.layout (leaving item.layout inner.layout)) refl refl (longer_within site.layout item.layout inner.layout (longer_item target channel site.layout) (longer_statements (inside item) body))
-      longer site (Select all) = go (made_ways globals elements result (within_select globals elements result site) (λ behind. made_default globals elements result behind all) all) (longer_ways (within_select globals elements result site) (λ behind. made_default globals elements result behind all) all (λ behind. longer_default behind all)) where
+      longer site (Select all) = go (made_ways globals elements result (within_select globals elements result site) (λ following. made_default globals elements result following all) all) (longer_ways (within_select globals elements result site) (λ following. made_default globals elements result following all) all (λ following. longer_default following all)) where
         go : (o : Option Made) → IfSome o (λ m. Longer site.layout m.layout) → Longer site.layout (made_select globals elements result site all o).layout
         go None g = longer_no site.layout
         go (Some m) g = g
@@ -110,19 +110,19 @@ module _ (globals : Globals) (elements : List Element) where
       pub longer_branch : (site : Site) (branch : Branch) → Longer site.layout (made_branch globals elements result site branch).layout
       longer_branch site (Conditional head condition body otherwise) =
           let first = made_any globals elements (inside site) (head_simple head) in
-          let behind = past (inside site) first in
-          let inner = made_all globals elements result (inside behind) body in
+          let following = past (inside site) first in
+          let inner = made_all globals elements result (inside following) body in
           let so = ended first.layout inner in
-          let other = made_otherwise globals elements result behind condition so otherwise in
+          let other = made_otherwise globals elements result following condition so otherwise in
           longer_kept site.layout other.layout
-          (longer_on (inside site).layout so.layout other.layout (longer_within (inside site).layout first.layout inner.layout (longer_any (head_simple head) (inside site)) (longer_statements (inside behind) body)) (longer_otherwise behind condition so otherwise))
+          (longer_on (inside site).layout so.layout other.layout (longer_within (inside site).layout first.layout inner.layout (longer_any (head_simple head) (inside site)) (longer_statements (inside following) body)) (longer_otherwise following condition so otherwise))
 
       pub longer_otherwise : (site : Site) (condition : Expression) (so : Made) (otherwise : Otherwise) → Longer so.layout (made_otherwise globals elements result site condition so otherwise).layout
       longer_otherwise site condition so NoElse = longer_no so.layout
       longer_otherwise site condition so (ElseBlock body) = let inner = made_all globals elements result (inside (past site so)) body in longer_as (entering so.layout) inner.layout so.layout (leaving site.layout inner.layout) refl refl (longer_statements (inside (past site so)) body)
       longer_otherwise site condition so (ElseIf branch) = longer_branch (past site so) branch
 
-      pub longer_ways : (site : Site) (default : Site → Option Made) (clauses : Clauses) → ((behind : Site) → IfSome (default behind) (λ m. Longer behind.layout m.layout)) → IfSome (made_ways globals elements result site default clauses) (λ m. Longer site.layout m.layout)
+      pub longer_ways : (site : Site) (default : Site → Option Made) (clauses : Clauses) → ((following : Site) → IfSome (default following) (λ m. Longer following.layout m.layout)) → IfSome (made_ways globals elements result site default clauses) (λ m. Longer site.layout m.layout)
       longer_ways site default NoClause d = d site
       longer_ways site default (Clause None body more) d = longer_ways site default more d
       longer_ways site default (Clause (Some comm) body more) d =

@@ -37,10 +37,10 @@ module _ (globals : Globals) (elements : List Element) where
   pub groups_fine : (groups : List Declared) (role : Role) (before : List (List ℕ)) (first : ℕ) → Free (GroupsHave role globals.types before first groups) → (all : List Element) → Grows (noting_declared globals.types groups all) elements → ParametersFine globals elements (fields_declared globals.types groups)
   groups_fine [] role before first free all g = tt
   groups_fine (group ∷ rest) role before first free all g =
-      let (t, is) = there globals.types nothing_declared group.type_expression first (λ flaw h. free flaw (inl (inr h))) in
+      let (t, is) = there globals.types nothing_declared group.type_expression first (λ violation h. free violation (inl (inr h))) in
       let one = noting globals.types group.type_expression all in
       let noted = written_noted globals.types elements nothing_declared group.type_expression t (kind_noted globals elements group.type_expression all (grows_on one (noting_declared globals.types rest one) elements (declared_grow globals.types rest one) g)) is in
-      names_fine (type_in globals.types nothing_declared group.type_expression) t is noted group.names (fields_declared globals.types rest) (groups_fine rest role (before ++ group.names) (first + declared_size group) (λ flaw h. free flaw (inr h)) one g)
+      names_fine (type_in globals.types nothing_declared group.type_expression) t is noted group.names (fields_declared globals.types rest) (groups_fine rest role (before ++ group.names) (first + declared_size group) (λ violation h. free violation (inr h)) one g)
 
   -- a result's type is known and noted
   pub result_fine : (result : Option TypeExpression) (first : ℕ) → Free (IfTypeHas globals.types result first) → (all : List Element) → Grows (noting_any globals.types result all) elements → (kind : Option ValueType) → yield_of globals.types result ≡ Yields kind → (kind ≡ Some (known kind)) × Noted elements (known kind)
@@ -53,7 +53,7 @@ module _ (globals : Globals) (elements : List Element) where
   module _ (code : Code) (grounds : Grounds globals elements code) where
     pub all_fine : (tops : List Top) (names : List (List ℕ)) (number first : ℕ) → Free (HeadersHave globals.types names number first tops) → FormedTops tops → (all : List Element) → Grows (noting_tops globals.types tops all) elements → AllFine globals elements code grounds tops
     all_fine [] names number first free still all g = tt
-    all_fine (StructTop struct ∷ rest) names number first free still all g = all_fine rest names number (first + top_size (StructTop struct)) (λ flaw h. free flaw (inr h)) still (noting_top globals.types (StructTop struct) all) g
+    all_fine (StructTop struct ∷ rest) names number first free still all g = all_fine rest names number (first + top_size (StructTop struct)) (λ violation h. free violation (inr h)) still (noting_top globals.types (StructTop struct) all) g
     all_fine (FunctionTop function ∷ rest) names number first free still all g =
         let one = noting_declared globals.types function.parameters all in
         let two = noting_any globals.types function.result one in
@@ -61,14 +61,14 @@ module _ (globals : Globals) (elements : List Element) where
         let g3 = grows_on three (noting_tops globals.types rest three) elements (tops_grow globals.types rest three) g in
         let g2 = grows_on two three elements (statements_grow globals.types function.body two) g3 in
         let g1 = grows_on one two elements (any_grows globals.types function.result one) g2 in
-        let result = result_fine function.result _ (λ flaw h. free flaw (inl (inr (inr (inr h))))) one g2 in (
+        let result = result_fine function.result _ (λ violation h. free violation (inl (inr (inr (inr h))))) one g2 in (
           record {
-            takes = groups_fine function.parameters roles.Parameter [] first (λ flaw h. free flaw (inl (inr (inr (inl h))))) all g1;
+            takes = groups_fine function.parameters roles.Parameter [] first (λ violation h. free violation (inl (inr (inr (inl h))))) all g1;
             known_kind = λ kind e. (result kind e).0;
             noted = λ kind e. (result kind e).1;
             still = still.0;
           },
-          all_fine rest names (counting_function number (FunctionTop function)) (first + top_size (FunctionTop function)) (λ flaw h. free flaw (inr h)) still.1 three g,
+          all_fine rest names (counting_function number (FunctionTop function)) (first + top_size (FunctionTop function)) (λ violation h. free violation (inr h)) still.1 three g,
         )
 
 -- the functions of the code of a file that the checker takes, no post statement of which declares anything
@@ -76,4 +76,4 @@ pub file_holds : (file : File) → Grounds (globals_of file.tops) (elements_of f
     → AllHold (code_of file) (code_of file).functions (code_of file).selects
 file_holds file grounds still free =
     file_functions file grounds
-    (all_fine (globals_of file.tops) (elements_of file) (code_of file) grounds file.tops (function_names file.tops) 0 0 (λ flaw h. free flaw (inl (inr h))) still [] (grows_no (elements_of file))) free
+    (all_fine (globals_of file.tops) (elements_of file) (code_of file) grounds file.tops (function_names file.tops) 0 0 (λ violation h. free violation (inl (inr h))) still [] (grows_no (elements_of file))) free

@@ -1,6 +1,6 @@
 -- What is so of the elements of channels, and stays so with each type that is written, is so of those of a file.
 use Rattle.std.proofs.Common.{ℕ, List, [], ◌∷◌, Option, Some, None}
-use Rattle.syntax.specs.Tree.{TypeExpression, Expression, Integer, Named, Parenthesized, Selection, Composite, Unary, Binary, Call, Receive, Make, MakeSized, Length, Capacity, Expressions, NoMore, Behind, expressions, Part, Value, Text, Simple, CallAlone, Close, Print, ReceiveAlone, Send, Increment, Decrement, Assign, Define, Update, ForHead, Forever, While, ForClauses, Range, Comm, Returned, NoValue, ReturnedValue, Statement, Empty, Alone, VarTyped, VarUntyped, Block, If, For, Select, Go, Return, Break, Continue, Statements, NoStatement, Then, Branch, Conditional, Otherwise, NoElse, ElseBlock, ElseIf, Clauses, NoClause, Clause, Declared, Top, StructTop, FunctionTop}
+use Rattle.syntax.specs.Tree.{TypeExpression, Expression, Integer, Named, Parenthesized, Selection, Composite, Unary, Binary, Call, Receive, Make, MakeSized, Length, Capacity, Expressions, NoMore, Following, expressions, Part, Value, Text, Simple, CallAlone, Close, Print, ReceiveAlone, Send, Increment, Decrement, Assign, Define, Update, ForHead, Forever, While, ForClauses, Range, Comm, Returned, NoValue, ReturnedValue, Statement, Empty, Alone, VarTyped, VarUntyped, Block, If, For, Select, Go, Return, Break, Continue, Statements, NoStatement, Then, Branch, Conditional, Otherwise, NoElse, ElseBlock, ElseIf, Clauses, NoClause, Clause, Declared, Top, StructTop, FunctionTop}
 use Rattle.typing_rules.specs.Simples.{comm_simple}
 use Rattle.typing_rules.specs.Statements.{head_simple}
 use Rattle.codegen_base.specs.declared.element.Element.{Element}
@@ -39,7 +39,7 @@ module _ (types : List (List ℕ)) (P : List Element → Type 0) (step : (all : 
 
     expressions_keep : (es : Expressions) (all : List Element) → Keeps all (noting_expressions types es all)
     expressions_keep NoMore all = keeps_no all
-    expressions_keep (Behind first rest) all =
+    expressions_keep (Following first rest) all =
         let one = noting_expression types first all in keeps_on all one (noting_expressions types rest one) (expression_keeps first all) (expressions_keep rest one)
 
   values_keep : (values : List Expression) (all : List Element) → Keeps all (noting_values types values all)

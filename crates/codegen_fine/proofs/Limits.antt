@@ -163,12 +163,12 @@ module _ (globals : Globals) (elements : List Element) (result : Yield) where
     short (For (While condition) body) site small = let b = short_all body (inside site) (λ l. omega (arith, small l)) in (b.0, loop_few site.layout (Some condition) (made_all globals elements result (inside site) body).plan Skip b.1 tt)
     short (For (ForClauses simple condition post) body) site small =
         let header = made_any globals elements (inside site) simple in
-        let behind = past (inside site) header in
-        let within = ended header.layout (made_all globals elements result (inside behind) body) in
-        let turn = made_post globals elements header.layout (past behind within) post in
+        let following = past (inside site) header in
+        let within = ended header.layout (made_all globals elements result (inside following) body) in
+        let turn = made_post globals elements header.layout (past following within) post in
         let h = any_short (inside site) simple (λ l. omega (arith, small l)) in
-        let b = short_all body (inside behind) (λ l. omega (arith, small l)) in
-        let p = post_short header.layout (past behind within) post (λ l. omega (arith, small l)) in
+        let b = short_all body (inside following) (λ l. omega (arith, small l)) in
+        let p = post_short header.layout (past following within) post (λ l. omega (arith, small l)) in
         (All-append IsShort header.prints (within.prints ++ turn.prints) h.0 (All-append IsShort within.prints turn.prints b.0 p.0), seq_few header.plan (loop (test_plan globals elements header.layout condition) within.plan turn.plan) h.1 (loop_few header.layout condition within.plan turn.plan b.1 p.1))
     short (For (Range target channel) body) site small =
         let item = item_site globals elements result site target channel in
@@ -177,8 +177,8 @@ module _ (globals : Globals) (elements : List Element) (result : Yield) where
     short (Select clauses) site small =
         let many = small SelectClauses in
         let below : Small (λ l. clauses_longest l clauses) = λ l. omega (arith, small l) in
-        select_short site clauses (clauses_count clauses) (made_ways globals elements result (within_select globals elements result site) (λ behind. made_default globals elements result behind clauses) clauses) (omega (arith, many))
-        (short_ways clauses (within_select globals elements result site) (λ behind. made_default globals elements result behind clauses) (defaults clauses) below (λ behind. short_default clauses behind below) (clauses_count clauses) (counted clauses))
+        select_short site clauses (clauses_count clauses) (made_ways globals elements result (within_select globals elements result site) (λ following. made_default globals elements result following clauses) clauses) (omega (arith, many))
+        (short_ways clauses (within_select globals elements result site) (λ following. made_default globals elements result following clauses) (defaults clauses) below (λ following. short_default clauses following below) (clauses_count clauses) (counted clauses))
     short (Go function arguments) site small = (All-nil IsShort, plain_few _ (then_step _ _ (arguments_before globals elements site.layout.scope (number_of globals function) arguments.values) Skip))
     short (Return returned) site small = (All-nil IsShort, returned_few site.layout returned)
     short Break site small = (All-nil IsShort, tt)
@@ -193,10 +193,10 @@ module _ (globals : Globals) (elements : List Element) (result : Yield) where
     short_branch : (branch : Branch) (site : Site) → Small (λ l. branch_longest l branch) → Short (made_branch globals elements result site branch)
     short_branch (Conditional head condition body otherwise) site small =
         let header = made_any globals elements (inside site) (head_simple head) in
-        let behind = past (inside site) header in
-        let so = ended header.layout (made_all globals elements result (inside behind) body) in
-        followed_short header (made_otherwise globals elements result behind condition so otherwise) (any_short (inside site) (head_simple head) (head_short head (λ l. omega (arith, small l))))
-        (short_otherwise otherwise behind condition so (short_all body (inside behind) (λ l. omega (arith, small l))) (λ l. omega (arith, small l)))
+        let following = past (inside site) header in
+        let so = ended header.layout (made_all globals elements result (inside following) body) in
+        followed_short header (made_otherwise globals elements result following condition so otherwise) (any_short (inside site) (head_simple head) (head_short head (λ l. omega (arith, small l))))
+        (short_otherwise otherwise following condition so (short_all body (inside following) (λ l. omega (arith, small l))) (λ l. omega (arith, small l)))
 
     short_otherwise : (otherwise : Otherwise) (site : Site) (condition : Expression) (so : Made) → Short so → Small (λ l. otherwise_longest l otherwise) → Short (made_otherwise globals elements result site condition so otherwise)
     short_otherwise NoElse site condition so a small = (a.0, before_few (IfThen so.plan) _ (pushes_before globals elements site.layout.scope _ condition (IfThen so.plan)) a.1)
@@ -209,7 +209,7 @@ module _ (globals : Globals) (elements : List Element) (result : Yield) where
         let b = short_branch branch (past site so) small in
         (All-append IsShort so.prints other.prints a.0 b.0, before_few (IfElse so.plan other.plan) _ (pushes_before globals elements site.layout.scope _ condition (IfElse so.plan other.plan)) (a.1, b.1))
 
-    short_ways : (clauses : Clauses) (site : Site) (default : Site → Option Made) (d : ℕ) → Small (λ l. clauses_longest l clauses) → ((behind : Site) → Ways d (default behind)) → (n : ℕ) → comm_count clauses + d ≤ n → Ways n (made_ways globals elements result site default clauses)
+    short_ways : (clauses : Clauses) (site : Site) (default : Site → Option Made) (d : ℕ) → Small (λ l. clauses_longest l clauses) → ((following : Site) → Ways d (default following)) → (n : ℕ) → comm_count clauses + d ≤ n → Ways n (made_ways globals elements result site default clauses)
     short_ways NoClause site default d small w n le = more_ways d n (default site) (omega (arith, le)) (w site)
     short_ways (Clause None body more) site default d small w n le = short_ways more site default d (λ l. omega (arith, small l)) w n le
     short_ways (Clause (Some comm) body more) site default d small w n le =

@@ -16,7 +16,7 @@ use Rattle.bytecode.specs.Code.{Function as CodeFunction}
 use Rattle.bytecode.specs.Rules.{HasMain, HasShapes, IsFew, IsShort, IsVerified}
 use Rattle.type_table.specs.Containment.{Field}
 use Rattle.type_table.specs.Scopes.{Globals, Yield, NoResult, Yields}
-use Rattle.typing_rules.specs.declared.flaw.Flaw.TheVariants.{Broken, Exceeded}
+use Rattle.typing_rules.specs.declared.violation.Violation.TheVariants.{Broken, Exceeded}
 use Rattle.typing_rules.specs.Files.{has_no_result, is_plain, has_main, FileHas, IsTyped}
 use Rattle.typing_rules.specs.Declarations.{is_nothing}
 use Rattle.typing_rules.specs.Kinds.{fields_declared, kinds_in, signature, signatures, globals_of}

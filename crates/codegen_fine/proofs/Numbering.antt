@@ -48,8 +48,8 @@ module _ (globals : Globals) (elements : List Element) (result : Yield) where
       let before = pushes_before globals elements layout.scope _ condition Skip in
       let none = before_count Skip test before in
       let here-is : n ≡ n + table_count test = omega (arith, none) in
-      let behind : n + table_count body ≡ n + table_count test + table_count body = omega (arith, none) in
-      (plain_numbered test n before, subst (λ k. Numbered k body) here-is b, OnTrue_from (turns body) (Numbered (n + table_count test + table_count body) post) (λ e. subst (λ k. Numbered k post) behind p), tt)
+      let following : n + table_count body ≡ n + table_count test + table_count body = omega (arith, none) in
+      (plain_numbered test n before, subst (λ k. Numbered k body) here-is b, OnTrue_from (turns body) (Numbered (n + table_count test + table_count body) post) (λ e. subst (λ k. Numbered k post) following p), tt)
 
   returned_numbered : (r : Yield) (layout : Layout) (returned : Returned) (n : ℕ) → Numbered n (return_plan globals elements r layout returned)
   returned_numbered r layout NoValue n = tt
@@ -107,16 +107,16 @@ module _ (globals : Globals) (elements : List Element) (result : Yield) where
     numbered (For (While condition) body) site = loop_numbered site.layout (Some condition) (made_all globals elements result (inside site) body).plan Skip site.selects (numbered_all body (inside site)) tt
     numbered (For (ForClauses simple condition post) body) site =
         let header = made_any globals elements (inside site) simple in
-        let behind = past (inside site) header in
-        let within = ended header.layout (made_all globals elements result (inside behind) body) in
-        let turn = made_post globals elements header.layout (past behind within) post in
+        let following = past (inside site) header in
+        let within = ended header.layout (made_all globals elements result (inside following) body) in
+        let turn = made_post globals elements header.layout (past following within) post in
         seq_numbered header.plan (loop (test_plan globals elements header.layout condition) within.plan turn.plan) site.selects (plain_numbered header.plan site.selects (any_before (inside site) simple))
-        (loop_numbered header.layout condition within.plan turn.plan behind.selects (numbered_all body (inside behind)) (plain_numbered turn.plan _ (post_before header.layout (past behind within) post)))
+        (loop_numbered header.layout condition within.plan turn.plan following.selects (numbered_all body (inside following)) (plain_numbered turn.plan _ (post_before header.layout (past following within) post)))
     numbered (For (Range target channel) body) site =
         let item = item_site globals elements result site target channel in range_numbered site target channel (ended item.layout (made_all globals elements result (inside item) body)) (numbered_all body (inside item))
     numbered (Select clauses) site =
-        select_numbered site clauses (made_ways globals elements result (within_select globals elements result site) (λ behind. made_default globals elements result behind clauses) clauses)
-        (numbered_ways clauses (within_select globals elements result site) (λ behind. made_default globals elements result behind clauses) (λ behind. numbered_default clauses behind))
+        select_numbered site clauses (made_ways globals elements result (within_select globals elements result site) (λ following. made_default globals elements result following clauses) clauses)
+        (numbered_ways clauses (within_select globals elements result site) (λ following. made_default globals elements result following clauses) (λ following. numbered_default clauses following))
     numbered (Go function arguments) site = plain_numbered _ site.selects (then_step _ _ (arguments_before globals elements site.layout.scope (number_of globals function) arguments.values) Skip)
     numbered (Return returned) site = returned_numbered result site.layout returned site.selects
     numbered Break site = tt
@@ -130,9 +130,9 @@ module _ (globals : Globals) (elements : List Element) (result : Yield) where
     numbered_branch : (branch : Branch) (site : Site) → N site (made_branch globals elements result site branch)
     numbered_branch (Conditional head condition body otherwise) site =
         let header = made_any globals elements (inside site) (head_simple head) in
-        let behind = past (inside site) header in
-        let so = ended header.layout (made_all globals elements result (inside behind) body) in
-        seq_numbered header.plan (made_otherwise globals elements result behind condition so otherwise).plan site.selects (plain_numbered header.plan site.selects (any_before (inside site) (head_simple head))) (numbered_otherwise otherwise behind condition so (numbered_all body (inside behind)))
+        let following = past (inside site) header in
+        let so = ended header.layout (made_all globals elements result (inside following) body) in
+        seq_numbered header.plan (made_otherwise globals elements result following condition so otherwise).plan site.selects (plain_numbered header.plan site.selects (any_before (inside site) (head_simple head))) (numbered_otherwise otherwise following condition so (numbered_all body (inside following)))
 
     numbered_otherwise : (otherwise : Otherwise) (site : Site) (condition : Expression) (so : Made) → N site so → N site (made_otherwise globals elements result site condition so otherwise)
     numbered_otherwise NoElse site condition so a = before_numbered (IfThen so.plan) _ site.selects (pushes_before globals elements site.layout.scope _ condition (IfThen so.plan)) a
@@ -141,7 +141,7 @@ module _ (globals : Globals) (elements : List Element) (result : Yield) where
     numbered_otherwise (ElseIf branch) site condition so a =
         let other = made_branch globals elements result (past site so) branch in before_numbered (IfElse so.plan other.plan) _ site.selects (pushes_before globals elements site.layout.scope _ condition (IfElse so.plan other.plan)) (a, numbered_branch branch (past site so))
 
-    numbered_ways : (clauses : Clauses) (site : Site) (default : Site → Option Made) → ((behind : Site) → NO behind (default behind)) → NO site (made_ways globals elements result site default clauses)
+    numbered_ways : (clauses : Clauses) (site : Site) (default : Site → Option Made) → ((following : Site) → NO following (default following)) → NO site (made_ways globals elements result site default clauses)
     numbered_ways NoClause site default d = d site
     numbered_ways (Clause None body more) site default d = numbered_ways more site default d
     numbered_ways (Clause (Some comm) body more) site default d =

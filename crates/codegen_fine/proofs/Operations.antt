@@ -108,7 +108,7 @@ module _ (globals : Globals) (elements : List Element) (code : Code) (f : CodeFu
           number = c.number;
           is = c.numbered;
           there = grounds.functions.there function c.number c.is;
-          pushed = typed_all globals elements code f grounds scope housed s alike (expressions arguments.values) (map known (parameters_of globals c.number)) first (λ flaw h. free flaw (inl h)) makes c.fit (grounds.functions.noted c.number);
+          pushed = typed_all globals elements code f grounds scope housed s alike (expressions arguments.values) (map known (parameters_of globals c.number)) first (λ violation h. free violation (inl h)) makes c.fit (grounds.functions.noted c.number);
         }
 
     -- a call leaves the kinds of the function's result
@@ -125,6 +125,6 @@ module _ (globals : Globals) (elements : List Element) (code : Code) (f : CodeFu
     -- a receive leaves the item and whether it was sent
     pub typed_received : (channel : Expression) (first : ℕ) → Free (ReceiveHas globals s first channel) → ExpressionMakes globals.types elements channel → PS (kinds_of globals.structs elements (carried globals elements scope channel) ++ kinds.Bool ∷ []) (pushes_received globals elements scope channel)
     typed_received channel first free makes =
-        let c = channel_there channel first (λ flaw h. free flaw (inl h)) makes (λ flaw h. free flaw (inr (inl h))) in
+        let c = channel_there channel first (λ violation h. free violation (inl h)) makes (λ violation h. free violation (inr (inl h))) in
         subst (λ j. PS (kinds_of globals.structs elements j ++ kinds.Bool ∷ []) (λ rest. emits globals elements scope channel (Do (instrs.Receive (shape_of elements j)) rest))) (sym c.carries)
         (λ a ks out rest t. c.emitted a ks out (Do (instrs.Receive (shape_of elements c.element)) rest) (receives_typed globals elements code f grounds c.direction c.element c.noted a ks out rest t))

@@ -8,7 +8,7 @@ use Rattle.syntax.specs.Tree.{Place}
 use Rattle.bytecode.specs.declared.instr.WordKind.{WordKind}
 use Rattle.bytecode.specs.Code.{Function as CodeFunction, Code}
 use Rattle.type_table.specs.Types.{ValueType}
-use Rattle.type_table.specs.Containment.{Structs, Selected, behind, field_of}
+use Rattle.type_table.specs.Containment.{Structs, Selected, following, field_of}
 use Rattle.type_table.specs.Scopes.{Globals, Scope, Variable, is_blank, later, last_named, variable_named}
 use Rattle.typing_rules.specs.Worths.{kind_of, type_of_field}
 use Rattle.typing_rules.specs.Operations.{PathHas, PlaceHas, followed, variable_at, selected, place_type}
@@ -82,7 +82,7 @@ module _ (globals : Globals) (elements : List Element) (f : CodeFunction) where
     path_leads [] at end le h free = record { at = at; is = refl; housed = h }
     path_leads (field ∷ rest) at end le h free = go (field_of globals.structs h.kind field) refl (λ next g x. path_leads rest next end le g x) where
       free-of : Free (PathHas globals.structs (Some h.kind) (field ∷ rest) end)
-      free-of flaw x = free flaw (subst (λ o. PathHas globals.structs o (field ∷ rest) end flaw) (sym h.has) x)
+      free-of violation x = free violation (subst (λ o. PathHas globals.structs o (field ∷ rest) end violation) (sym h.has) x)
 
       go : (o : Option Selected) → field_of globals.structs h.kind field ≡ o → ((next : Selected) → IsHoused next.place next.kind → Free (PathHas globals.structs next.kind rest end) → Leads (followed globals.structs (Some next) rest)) → Leads (followed globals.structs (Some at) (field ∷ rest))
       go None is more = let b = broken rules.Assigned end le in absurd (free-of b.0 (inl (is, b.1)))
@@ -100,9 +100,9 @@ module _ (globals : Globals) (elements : List Element) (f : CodeFunction) where
             stand = own.0;
             noted = grounds.fields_noted h.kind field x t is has;
           } in
-          let next = more (behind at.place x) housed (λ flaw y. free-of flaw (inr (subst (λ o. PathHas globals.structs (type_of_field o) rest end flaw) (sym is) y))) in
-          let same : option_map (behind at.place) (option_and_then (λ kind. field_of globals.structs kind field) at.kind) ≡ Some (behind at.place x) =
-          ap (λ o. option_map (behind at.place) (option_and_then (λ kind. field_of globals.structs kind field) o)) h.has ∙ ap (option_map (behind at.place)) is in
+          let next = more (following at.place x) housed (λ violation y. free-of violation (inr (subst (λ o. PathHas globals.structs (type_of_field o) rest end violation) (sym is) y))) in
+          let same : option_map (following at.place) (option_and_then (λ kind. field_of globals.structs kind field) at.kind) ≡ Some (following at.place x) =
+          ap (λ o. option_map (following at.place) (option_and_then (λ kind. field_of globals.structs kind field) o)) h.has ∙ ap (option_map (following at.place)) is in
           subst (λ o. Leads (followed globals.structs o rest)) (sym same) next
 
     -- an lvalue with which nothing is wrong, and which is not `_`
@@ -118,7 +118,7 @@ module _ (globals : Globals) (elements : List Element) (f : CodeFunction) where
       go (Some v) (Some w) is ib same =
           let kinds : kind_of (variable_named s place.name) ≡ w.kind = kind_alike (variable_named s place.name) (variable_named scope place.name) same ∙ ap kind_of ib in
           let housed = found_housed scope.variables place.name w all (unblanked scope place.name w ib) in
-          let leads = path_leads place.fields (variable_at w) (first + 1) (omega arith) housed (λ flaw h. free flaw (inr (inr (subst (λ o. PathHas globals.structs o place.fields (first + 1) flaw) (sym kinds) h)))) in
+          let leads = path_leads place.fields (variable_at w) (first + 1) (omega arith) housed (λ violation h. free violation (inr (inr (subst (λ o. PathHas globals.structs o place.fields (first + 1) violation) (sym kinds) h)))) in
           subst (λ o. Leads (followed globals.structs (option_map variable_at o) place.fields)) (sym ib) leads
 
 -- ---- the types of lvalues
@@ -134,23 +134,23 @@ followed_alike structs [] a b e = e
 followed_alike structs (field ∷ rest) None None e = refl
 followed_alike structs (field ∷ rest) None (Some y) e = nowhere structs rest ∙ followed_alike structs rest None (next y.kind) (none y.kind e) where
   next : Option ValueType → Option Selected
-  next o = option_map (behind y.place) (option_and_then (λ kind. field_of structs kind field) o)
+  next o = option_map (following y.place) (option_and_then (λ kind. field_of structs kind field) o)
 
   none : (o : Option ValueType) → None ≡ o → None ≡ type_of_field (next o)
   none None e = refl
   none (Some k) e = absurd cc
 followed_alike structs (field ∷ rest) (Some x) None e = followed_alike structs rest (next x.kind) None (none x.kind e) ∙ sym (nowhere structs rest) where
   next : Option ValueType → Option Selected
-  next o = option_map (behind x.place) (option_and_then (λ kind. field_of structs kind field) o)
+  next o = option_map (following x.place) (option_and_then (λ kind. field_of structs kind field) o)
 
   none : (o : Option ValueType) → o ≡ None → type_of_field (next o) ≡ None
   none None e = refl
   none (Some k) e = absurd cc
 followed_alike structs (field ∷ rest) (Some x) (Some y) e = followed_alike structs rest (next x.place x.kind) (next y.place y.kind) (ap (λ o. type_of_field (next x.place o)) e ∙ moved (option_and_then (λ kind. field_of structs kind field) y.kind)) where
   next : ℕ → Option ValueType → Option Selected
-  next place o = option_map (behind place) (option_and_then (λ kind. field_of structs kind field) o)
+  next place o = option_map (following place) (option_and_then (λ kind. field_of structs kind field) o)
 
-  moved : (o : Option Selected) → type_of_field (option_map (behind x.place) o) ≡ type_of_field (option_map (behind y.place) o)
+  moved : (o : Option Selected) → type_of_field (option_map (following x.place) o) ≡ type_of_field (option_map (following y.place) o)
   moved None = refl
   moved (Some z) = refl
 

@@ -11,7 +11,7 @@ use Rattle.bytecode.specs.Code.{Function as CodeFunction, Code, PrintTable}
 use Rattle.bytecode.specs.Effects.{part_kinds, print_kinds}
 use Rattle.type_table.specs.Types.{IntType, BoolType, StructType, ChannelType}
 use Rattle.type_table.specs.Scopes.{Globals, Scope}
-use Rattle.typing_rules.specs.Flaws.{Nodes}
+use Rattle.typing_rules.specs.Violations.{Nodes}
 use Rattle.typing_rules.specs.Worths.{Worth, Typed as TypedWorth, Constant, Nil, is_int, worth}
 use Rattle.typing_rules.specs.Expressions.{nodes_of, PrintedHas, default_type}
 use Rattle.typing_rules.specs.Simples.{PartsHave, SimpleHas}
@@ -55,19 +55,19 @@ module _ (globals : Globals) (elements : List Element) where
       -- the values of a print statement are of the kinds that its table takes
       pub typed_parts : (parts : List Part) (first : ℕ) → Free (PartsHave globals s first parts) → PartsMake globals elements parts → Puts globals.structs elements code f (part_kinds (map (printed_part globals elements scope) parts)) (pushes_parts globals elements scope parts)
       typed_parts [] first free makes a ks out rest t = subst (λ (l : List WordKind). Typed code f a l rest out) (append-nil ks) t
-      typed_parts (Text bytes ∷ others) first free makes a ks out rest t = typed_parts others (first + part_size (Text bytes)) (λ flaw h. free flaw (inr h)) makes a ks out rest t
+      typed_parts (Text bytes ∷ others) first free makes a ks out rest t = typed_parts others (first + part_size (Text bytes)) (λ violation h. free violation (inr h)) makes a ks out rest t
       typed_parts (ValuePart value ∷ others) first free makes a ks out rest t =
-          let w = worth_there globals s grounds.types_known (known_sees s scope alike housed.known) value first (λ flaw h. free flaw (inl (inl h))) in
+          let w = worth_there globals s grounds.types_known (known_sees s scope alike housed.known) value first (λ violation h. free violation (inl (inl h))) in
           let here-is : worth globals scope value ≡ Some w.0 = sym (worth_sees s scope alike globals value) ∙ w.1 in
-          let p = printable w.0 (nodes_of first value) (nodes_end first value) (λ flaw h. free flaw (inl (inr (subst (λ o. PrintedHas o (nodes_of first value) flaw) (sym w.1) h)))) in
+          let p = printable w.0 (nodes_of first value) (nodes_end first value) (λ violation h. free violation (inl (inr (subst (λ o. PrintedHas o (nodes_of first value) violation) (sym w.1) h)))) in
           let kind = known (default_type (Some w.0)) in
           let more = part_kinds (map (printed_part globals elements scope) others) in
           let same : part_kinds (printed_as (worth globals scope value) ∷ map (printed_part globals elements scope) others) ≡ kinds_of globals.structs elements kind ++ more =
           ap (λ o. part_kinds (printed_as o ∷ map (printed_part globals elements scope) others)) here-is ∙ p.part (map (printed_part globals elements scope) others) in
           subst (λ o. Typed code f a ks (pushes globals elements scope (known (default_type o)) value (pushes_parts globals elements scope others rest)) out) (sym here-is)
           (puts_both globals.structs elements code f (kinds_of globals.structs elements kind) more (pushes globals elements scope kind value) (pushes_parts globals elements scope others)
-          (typed_pushes globals elements code f grounds scope housed s alike value first (λ flaw h. free flaw (inl (inl h))) makes.0 w.0 kind here-is p.fit p.noted)
-          (typed_parts others (first + part_size (ValuePart value)) (λ flaw h. free flaw (inr h)) makes.1) a ks out rest
+          (typed_pushes globals elements code f grounds scope housed s alike value first (λ violation h. free violation (inl (inl h))) makes.0 w.0 kind here-is p.fit p.noted)
+          (typed_parts others (first + part_size (ValuePart value)) (λ violation h. free violation (inr h)) makes.1) a ks out rest
           (subst (λ (l : List WordKind). Typed code f a (ks ++ l) rest out) same t))
 
     -- if the statement's table has its number, the statement leaves the stack as it was

@@ -126,8 +126,8 @@ module _ (structs : Structs) (elements : List Element) (code : Code) (f : CodeFu
   puts_locals place n js le is a ks out rest t = typed_none code f a ks (instrs.Load place n) rest out tt le refl tt (subst (λ (l : List WordKind). Typed code f a (ks ++ l) rest out) (sym is) t)
 
   -- an instruction takes what was pushed, and leaves these kinds
-  pub puts_behind : (is js : List WordKind) (first : Plan → Plan) (i : Instr) → Puts is first → ((a : Allowed) (ks out : List WordKind) (rest : Plan) → Typed code f a (ks ++ js) rest out → Typed code f a (ks ++ is) (Do i rest) out) → Puts js (λ rest. first (Do i rest))
-  puts_behind is js first i p q a ks out rest t = p a ks out (Do i rest) (q a ks out rest t)
+  pub puts_after : (is js : List WordKind) (first : Plan → Plan) (i : Instr) → Puts is first → ((a : Allowed) (ks out : List WordKind) (rest : Plan) → Typed code f a (ks ++ js) rest out → Typed code f a (ks ++ is) (Do i rest) out) → Puts js (λ rest. first (Do i rest))
+  puts_after is js first i p q a ks out rest t = p a ks out (Do i rest) (q a ks out rest t)
 
   -- an operator takes two operands
   pub applies : (op : Op) (i j k : ValueType) → Operates structs elements op i j k → (a : Allowed) (ks out : List WordKind) (rest : Plan) → Typed code f a (ks ++ kinds_in k) rest out
@@ -137,7 +137,7 @@ module _ (structs : Structs) (elements : List Element) (code : Code) (f : CodeFu
 
   pub puts_operator : (op : Op) (i j k : ValueType) (left right : Plan → Plan) → Operates structs elements op i j k → Pushes i left → Pushes j right → Pushes k (λ rest. left (right (Do (instrs.Apply op) rest)))
   puts_operator op i j k left right o p q =
-      puts_behind (kinds_in i ++ kinds_in j) (kinds_in k) (λ rest. left (right rest)) (instrs.Apply op) (puts_both (kinds_in i) (kinds_in j) left right p q) (applies op i j k o)
+      puts_after (kinds_in i ++ kinds_in j) (kinds_in k) (λ rest. left (right rest)) (instrs.Apply op) (puts_both (kinds_in i) (kinds_in j) left right p q) (applies op i j k o)
 
   -- the second operand is evaluated if the first one requires it
   pub puts_and : (left right : Plan → Plan) → Pushes BoolType left → Pushes BoolType right → Pushes BoolType (between symbols.LogicalAnd BoolType left right)

@@ -22,7 +22,7 @@ use Rattle.meaning.specs.Values.{known}
 use Rattle.meaning.specs.Variables.{blank}
 use Rattle.codegen_base.specs.declared.element.Element.{Element}
 use Rattle.codegen_base.specs.Elements.{kinds_of, shape_of}
-use Rattle.codegen_base.specs.Layouts.{Layout, entering, leaving, type_of, carried, keeping, behind_target}
+use Rattle.codegen_base.specs.Layouts.{Layout, entering, leaving, type_of, carried, keeping, following_target}
 use Rattle.codegen_base.specs.Pushes.{drops}
 use Rattle.codegen_base.specs.Statements.{Spot, Local, stores, place_spot, taken_type, name_spot, name_type}
 use Rattle.codegen_base.specs.Generated.{inside, item_site, made, made_all, keeps, receives, takes}
@@ -94,18 +94,18 @@ module _ (globals : Globals) (elements : List Element) (code : Code) (f : CodeFu
   -- ---- the item goes to its target
 
   -- the layout of an item, and what goes there
-  record Goes (result : Yield) (layout : Layout) (s : Scope) (kind : ValueType) (target : Target) (o : Option ValueType) (behind : Layout) : Type 0 where
+  record Goes (result : Yield) (layout : Layout) (s : Scope) (kind : ValueType) (target : Target) (o : Option ValueType) (following : Layout) : Type 0 where
     taken : Typed code f in_loop (kinds_in kind) (takes globals elements result layout kind target) []
-    room : Room globals elements code f behind
-    alike : Alike (after_target globals s o target) behind.scope
+    room : Room globals elements code f following
+    alike : Alike (after_target globals s o target) following.scope
 
   stored : (layout : Layout) (kind : ValueType) (spot : Spot) (js : List WordKind) → js ≡ kinds_in kind → SpotFits globals.structs elements code f spot js → Typed code f in_loop (kinds_in kind) (stores spot (Do instrs.Tick Skip)) []
   stored layout kind spot js same fit =
       stores_typed globals.structs elements code f spot (kinds_in kind) (subst (SpotFits globals.structs elements code f spot) same fit) in_loop [] [] (Do instrs.Tick Skip) (ticks_typed globals.structs elements code f in_loop [] [] Skip refl)
 
   goes : (layout : Layout) (room : Room globals elements code f layout) (s : Scope) (alike : Alike (entered s) layout.scope) (fresh : (name : List ℕ) → own_variable layout.scope name ≡ None) (kind : ValueType) (noted : Noted elements kind) (item : Given) (target : Target) (first end : ℕ)
-      → item.worth ≡ Some (TypedWorth kind) → 1 ≤ item.nodes.end → Free (TargetHas globals (entered s) first target) → Free (TakenHas globals (entered s) target item end) → Begins f (behind_target globals elements kind target layout)
-      → (result : Yield) → Goes result layout (entered s) kind target (Some kind) (behind_target globals elements kind target layout)
+      → item.worth ≡ Some (TypedWorth kind) → 1 ≤ item.nodes.end → Free (TargetHas globals (entered s) first target) → Free (TakenHas globals (entered s) target item end) → Begins f (following_target globals elements kind target layout)
+      → (result : Yield) → Goes result layout (entered s) kind target (Some kind) (following_target globals elements kind target layout)
   goes layout room s alike fresh kind noted item NoTarget first end is le free fit_goes begins _ =
       record { taken = drops_typed globals.structs elements code f (kinds_in kind) in_loop [] [] Skip refl; room = room; alike = alike }
   goes layout room s alike fresh kind noted item (DefineTarget name) first end is le free fit_goes begins _ =
@@ -115,13 +115,13 @@ module _ (globals : Globals) (elements : List Element) (code : Code) (f : CodeFu
       record {
         taken = stored layout kind (name_spot globals elements layout name kind) (kinds_in (name_type globals elements kind (own_variable layout.scope name))) (ap (λ o. kinds_in (name_type globals elements kind o)) (fresh name)) n.fit.0;
         room = n.room;
-        alike = subst (λ x. Alike x (behind_target globals elements kind (DefineTarget name) layout).scope) after n.alike;
+        alike = subst (λ x. Alike x (following_target globals elements kind (DefineTarget name) layout).scope) after n.alike;
       }
   goes layout room s alike fresh kind noted item (AssignTarget place) first end is le free fit_goes begins _ =
       let places = place ∷ [] in
-      let fine : Free (PlacesHave globals (entered s) first places) = λ flaw h. one_of (PlaceHas globals (entered s) first place flaw) (free flaw) h in
+      let fine : Free (PlacesHave globals (entered s) first places) = λ violation h. one_of (PlaceHas globals (entered s) first place violation) (free violation) h in
       let t = typed_taken globals elements (place_want globals layout.scope place) kind item is le (places_noted globals elements code f grounds layout.scope room.housed (entered s) alike.named places first fine) noted
-      (λ flaw h. one_of (GoesHas (is_blank place.name) item (place_type globals (entered s) place) flaw) (fit_goes flaw) (places_fail globals elements code f grounds layout.scope room.housed (entered s) alike.named places first (item ∷ []) flaw fine (inl h))) in
+      (λ violation h. one_of (GoesHas (is_blank place.name) item (place_type globals (entered s) place) violation) (fit_goes violation) (places_fail globals elements code f grounds layout.scope room.housed (entered s) alike.named places first (item ∷ []) violation fine (inl h))) in
       let fitting = places_fit globals elements code f grounds layout.scope room.housed (entered s) alike.named places first (kind ∷ []) fine in
       record {
         taken = stored layout kind (place_spot globals elements layout.scope place kind) (kinds_in (taken_type globals elements layout.scope place kind)) (ap kinds_in (place_taken globals elements layout.scope place kind) ∙ t.same) fitting.0;
@@ -135,7 +135,7 @@ module _ (globals : Globals) (elements : List Element) (code : Code) (f : CodeFu
         let layout = site.layout in
         let at = first + target_size target in
         let housed = housed_of globals elements f layout.scope room.housed in
-        let c = channel_there globals elements code f grounds layout.scope housed (entered s) alike.named channel at (λ flaw h. free flaw (inr (inl (inl h)))) makes (λ flaw h. free flaw (inr (inl (inr (inl h))))) in
+        let c = channel_there globals elements code f grounds layout.scope housed (entered s) alike.named channel at (λ violation h. free violation (inr (inl (inl h)))) makes (λ violation h. free violation (inr (inl (inr (inl h))))) in
         let kind = carried globals elements layout.scope channel in
         let whole = ChannelType c.direction c.element in
         let own : type_of globals elements layout.scope channel ≡ whole = ap (λ o. known (default_type o)) c.is in
@@ -155,7 +155,7 @@ module _ (globals : Globals) (elements : List Element) (code : Code) (f : CodeFu
         let element-is : element_of (worth globals (entered s) channel) ≡ Some kind = ap element_of (worth_sees (entered s) layout.scope alike.named globals channel ∙ c.is) ∙ ap Some (sym c.carries) in
         let noted = subst (Noted elements) (sym c.carries) c.noted.0 in
         let g = goes within (room_entering globals elements code f kept kept-room) s (alike_blank globals.structs s layout.scope (type_of globals elements layout.scope channel) alike) (λ name. new_entered kept.scope name) kind noted (item_given globals (entered s) at channel) target first end
-        (ap (option_map TypedWorth) element-is) (nodes_end at channel) (λ flaw x. free flaw (inl x)) (λ flaw x. free flaw (inr (inr x))) item-begins result in
+        (ap (option_map TypedWorth) element-is) (nodes_end at channel) (λ violation x. free violation (inl x)) (λ violation x. free violation (inr (inr x))) item-begins result in
         let m = body-made g.room (subst (λ o. Alike (after_target globals (entered s) o target) item.layout.scope) (sym element-is) g.alike)
         (record { begins = begins_before f inner.layout all.layout (longer_as inner.layout inner.layout inner.layout all.layout refl refl (longer_no inner.layout)) fits.begins; prints = fits.prints }) in
         let w = layout.scope.words in

@@ -28,8 +28,8 @@ module _ (globals : Globals) (elements : List Element) (code : Code) (f : CodeFu
   shape_is d c noted =
       ap (λ (l : List (List WordKind)). kinds_in (slice_get l (shape_of elements c))) grounds.shapes ∙ ap kinds_in (shape_there globals.structs elements c noted.1)
 
-  behind_nothing : (a : Allowed) (ks out : List WordKind) (rest : Plan) → T a ks rest out → T a (ks ++ []) rest out
-  behind_nothing a ks out rest t = subst (λ (l : List WordKind). T a l rest out) (sym (append-nil ks)) t
+  after_nothing : (a : Allowed) (ks out : List WordKind) (rest : Plan) → T a ks rest out → T a (ks ++ []) rest out
+  after_nothing a ks out rest t = subst (λ (l : List WordKind). T a l rest out) (sym (append-nil ks)) t
 
   module _ (d : Direction) (c : ValueType) (noted : Noted elements (ChannelType d c)) (a : Allowed) (ks out : List WordKind) (rest : Plan) where
     -- an item is received, and whether it was sent
@@ -42,7 +42,7 @@ module _ (globals : Globals) (elements : List Element) (code : Code) (f : CodeFu
     pub sends_typed : T a ks rest out → T a (ks ++ (value_kinds (ChannelType d c) ++ value_kinds c)) (Do (instrs.Send (shape_of elements c)) rest) out
     sends_typed t =
         let same : kinds.Chan (shape_of elements c) ∷ shape_kinds code (shape_of elements c) ≡ kinds.Chan (shape_of elements c) ∷ value_kinds c = ap (λ (l : List WordKind). kinds.Chan (shape_of elements c) ∷ l) (shape_is d c noted) in
-        typed_step code f a ks (value_kinds (ChannelType d c) ++ value_kinds c) (instrs.Send (shape_of elements c)) rest out tt (shape_within globals elements code f grounds d c noted) (ap length same) (sym same) (behind_nothing a ks out rest t)
+        typed_step code f a ks (value_kinds (ChannelType d c) ++ value_kinds c) (instrs.Send (shape_of elements c)) rest out tt (shape_within globals elements code f grounds d c noted) (ap length same) (sym same) (after_nothing a ks out rest t)
 
     -- a channel is made
     pub makes_typed : T a (ks ++ value_kinds (ChannelType d c)) rest out → T a (ks ++ kinds.Int ∷ []) (Do (instrs.Make (shape_of elements c)) rest) out
@@ -50,7 +50,7 @@ module _ (globals : Globals) (elements : List Element) (code : Code) (f : CodeFu
 
   module _ (d : Direction) (c : ValueType) (a : Allowed) (ks out : List WordKind) (rest : Plan) where
     pub closes_typed : T a ks rest out → T a (ks ++ value_kinds (ChannelType d c)) (Do instrs.Close rest) out
-    closes_typed t = typed_step code f a ks (value_kinds (ChannelType d c)) instrs.Close rest out tt tt refl (tt, refl) (behind_nothing a ks out rest t)
+    closes_typed t = typed_step code f a ks (value_kinds (ChannelType d c)) instrs.Close rest out tt tt refl (tt, refl) (after_nothing a ks out rest t)
 
     pub lengths_typed : T a (ks ++ kinds.Int ∷ []) rest out → T a (ks ++ value_kinds (ChannelType d c)) (Do instrs.Len rest) out
     lengths_typed t = typed_step code f a ks (value_kinds (ChannelType d c)) instrs.Len rest out tt tt refl (tt, refl) t
@@ -65,8 +65,8 @@ module _ (globals : Globals) (elements : List Element) (code : Code) (f : CodeFu
 
     -- it is started
     pub starts_typed : T a ks rest out → T a (ks ++ params) (Do (instrs.Go g) rest) out
-    starts_typed t = typed_step code f a ks params (instrs.Go g) rest out tt there (ap length is) (sym is) (behind_nothing a ks out rest t)
+    starts_typed t = typed_step code f a ks params (instrs.Go g) rest out tt there (ap length is) (sym is) (after_nothing a ks out rest t)
 
   -- values are printed
   pub prints_typed : (q : ℕ) (js : List WordKind) → q < length code.prints → print_kinds (slice_get code.prints q) ≡ js → (a : Allowed) (ks out : List WordKind) (rest : Plan) → T a ks rest out → T a (ks ++ js) (Do (instrs.Print q) rest) out
-  prints_typed q js there is a ks out rest t = typed_step code f a ks js (instrs.Print q) rest out tt there (ap length is) (sym is) (behind_nothing a ks out rest t)
+  prints_typed q js there is a ks out rest t = typed_step code f a ks js (instrs.Print q) rest out tt there (ap length is) (sym is) (after_nothing a ks out rest t)

@@ -38,6 +38,6 @@ module _ (globals : Globals) (elements : List Element) (code : Code) (f : CodeFu
     typed_returned (Yields kind) r NoValue first free makes a out = let b = broken rules.Returned (first + (returned_size NoValue + 1)) (omega arith) in absurd (free b.0 (inr b.1))
     typed_returned NoResult r (ReturnedValue value) first free makes a out = let b = broken rules.Returned (first + (returned_size (ReturnedValue value) + 1)) (omega arith) in absurd (free b.0 (inr b.1))
     typed_returned (Yields kind) r (ReturnedValue value) first free makes a out =
-        let (w, is) = worth_there globals s grounds.types_known (known_sees s layout.scope sees (housed_of globals elements f layout.scope room.housed).known) value first (λ flaw h. free flaw (inl h)) in
-        let fit = fits w (known kind) (nodes_of first value) (nodes_end first value) (λ flaw h. free flaw (inr (subst (λ o. ValueHas (worth globals s value) o (nodes_of first value) flaw) (sym (r.known_kind kind refl)) (subst (λ o. ValueHas o (Some (known kind)) (nodes_of first value) flaw) (sym is) h)))) in
-        typed_return globals elements code f grounds layout.scope (housed_of globals elements f layout.scope room.housed) s sees value first (λ flaw h. free flaw (inl h)) makes w (known kind) (sym (worth_sees s layout.scope sees globals value) ∙ is) fit (r.noted kind refl) (sym r.kinds_are) a out
+        let (w, is) = worth_there globals s grounds.types_known (known_sees s layout.scope sees (housed_of globals elements f layout.scope room.housed).known) value first (λ violation h. free violation (inl h)) in
+        let fit = fits w (known kind) (nodes_of first value) (nodes_end first value) (λ violation h. free violation (inr (subst (λ o. ValueHas (worth globals s value) o (nodes_of first value) violation) (sym (r.known_kind kind refl)) (subst (λ o. ValueHas o (Some (known kind)) (nodes_of first value) violation) (sym is) h)))) in
+        typed_return globals elements code f grounds layout.scope (housed_of globals elements f layout.scope room.housed) s sees value first (λ violation h. free violation (inl h)) makes w (known kind) (sym (worth_sees s layout.scope sees globals value) ∙ is) fit (r.noted kind refl) (sym r.kinds_are) a out

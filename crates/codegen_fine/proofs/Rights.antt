@@ -66,7 +66,7 @@ module _ (globals : Globals) (elements : List Element) (code : Code) (f : CodeFu
         let here = plain_given globals scope count 0 right plain in
         let many = same_count (length (given globals s count first right)) count end le numbers in
         let counted = ap length seen ∙ given_long globals s first right in
-        let fit = values_fit globals elements code f grounds scope housed s alike right wants first 0 (omega (arith, many, counted, long)) noted free (λ flaw h. fail flaw (subst (λ (l : List Given). WantsFail wants l flaw) (sym seen) h)) makes in
+        let fit = values_fit globals elements code f grounds scope housed s alike right wants first 0 (omega (arith, many, counted, long)) noted free (λ violation h. fail violation (subst (λ (l : List Given). WantsFail wants l violation) (sym seen) h)) makes in
         let types = taken_all wants (types_in (given_values globals scope 0 right)) in
         record {
           many = ap length here ∙ given_long globals scope 0 right ∙ sym counted ∙ many;
@@ -82,11 +82,11 @@ module _ (globals : Globals) (elements : List Element) (code : Code) (f : CodeFu
     both_taken channel first end (want ∷ (other ∷ (third ∷ more))) le long noted free numbers fail makes = absurd (omega (arith, long))
     both_taken channel first end (want ∷ (other ∷ [])) le long noted free numbers fail makes =
         let e = Receive channel in
-        let c = channel_there globals elements code f grounds scope housed s alike channel first (λ flaw h. free flaw (inl (inl h))) makes.0 (λ flaw h. free flaw (inl (inr (inl h)))) in
+        let c = channel_there globals elements code f grounds scope housed s alike channel first (λ violation h. free violation (inl (inl h))) makes.0 (λ violation h. free violation (inl (inr (inl h)))) in
         let n = first_noted globals elements want (other ∷ []) noted in
         let is : worth globals s e ≡ Some (TypedWorth c.element) = ap (λ o. option_map TypedWorth (element_of o)) (worth_sees s scope alike globals channel ∙ c.is) in
-        let x = typed_taken globals elements want c.element (record { worth = worth globals s e; nodes = nodes_of first e }) is (nodes_end first e) n.0 c.noted.0 (λ flaw h. fail flaw (inl h)) in
-        let y = typed_taken globals elements other BoolType (record { worth = Some (TypedWorth BoolType); nodes = nodes_of first e }) refl (nodes_end first e) (first_noted globals elements other [] n.1).0 tt (λ flaw h. fail flaw (inr (inl h))) in
+        let x = typed_taken globals elements want c.element (record { worth = worth globals s e; nodes = nodes_of first e }) is (nodes_end first e) n.0 c.noted.0 (λ violation h. fail violation (inl h)) in
+        let y = typed_taken globals elements other BoolType (record { worth = Some (TypedWorth BoolType); nodes = nodes_of first e }) refl (nodes_end first e) (first_noted globals elements other [] n.1).0 tt (λ violation h. fail violation (inr (inl h))) in
         let here-is : worth globals scope e ≡ Some (TypedWorth c.element) = ap (λ o. option_map TypedWorth (element_of o)) c.is in
         let one : known (default_type (worth globals scope e)) ≡ c.element = ap (λ o. known (default_type o)) here-is in
         let push = pushes_received globals elements scope channel in
@@ -98,7 +98,7 @@ module _ (globals : Globals) (elements : List Element) (code : Code) (f : CodeFu
             many = refl;
             well = (λ h. subst (HasDefault elements) (sym here-is) (refl, c.noted.0), (λ h. (refl, tt), tt));
             pushed = subst (λ k. PS (kinds_in (taken want k) ++ (kinds_in (taken other BoolType) ++ [])) push) (sym one)
-                (subst (λ (l : List WordKind). PS l push) (sym both) (typed_received globals elements code f grounds scope housed s alike channel first (λ flaw h. free flaw (inl h)) makes.0));
+                (subst (λ (l : List WordKind). PS l push) (sym both) (typed_received globals elements code f grounds scope housed s alike channel first (λ violation h. free violation (inl h)) makes.0));
           };
           same = ap (λ (l : List WordKind). l ++ (kinds_in (taken other BoolType) ++ [])) (subst (λ k. kinds_in (taken want k) ≡ kinds_in k) (sym one) x.same) ∙ ap (λ (l : List WordKind). kinds_in (known (default_type (worth globals scope e))) ++ (l ++ [])) y.same;
         }
@@ -131,15 +131,15 @@ module _ (globals : Globals) (elements : List Element) (code : Code) (f : CodeFu
       one = sym (ap length seen) ∙ same_count (length (given globals s count first (e ∷ []))) count end le numbers
 
       fail-seen : Free (WantsFail wants (given_values globals s first (e ∷ [])))
-      fail-seen flaw h = fail flaw (subst (λ (l : List Given). WantsFail wants l flaw) (sym seen) h)
+      fail-seen violation h = fail violation (subst (λ (l : List Given). WantsFail wants l violation) (sym seen) h)
 
       go : (ws : List (Option ValueType)) → length ws ≡ count → WantsNoted elements ws → Free (WantsFail ws (given_values globals s first (e ∷ []))) → all_kinds globals.structs elements (taken_all ws (types_in (given_values globals scope 0 (e ∷ [])))) ≡ all_kinds globals.structs elements (types_in (given_values globals scope 0 (e ∷ [])))
       go [] long noted fail = absurd (omega (arith, long, one))
       go (want ∷ (other ∷ more)) long noted fail = absurd (omega (arith, long, one))
       go (want ∷ []) long noted fail =
-          let c = channel_there globals elements code f grounds scope housed s alike channel first (λ flaw h. free flaw (inl (inl h))) makes.0 (λ flaw h. free flaw (inl (inr (inl h)))) in
+          let c = channel_there globals elements code f grounds scope housed s alike channel first (λ violation h. free violation (inl (inl h))) makes.0 (λ violation h. free violation (inl (inr (inl h)))) in
           let is : worth globals s e ≡ Some (TypedWorth c.element) = ap (λ o. option_map TypedWorth (element_of o)) (worth_sees s scope alike globals channel ∙ c.is) in
-          let x = typed_taken globals elements want c.element (record { worth = worth globals s e; nodes = nodes_of first e }) is (nodes_end first e) (first_noted globals elements want [] noted).0 c.noted.0 (λ flaw h. fail flaw (inl h)) in
+          let x = typed_taken globals elements want c.element (record { worth = worth globals s e; nodes = nodes_of first e }) is (nodes_end first e) (first_noted globals elements want [] noted).0 c.noted.0 (λ violation h. fail violation (inl h)) in
           let own : known (default_type (worth globals scope e)) ≡ c.element = ap (λ o. known (default_type (option_map TypedWorth (element_of o)))) c.is in
           ap (λ (l : List WordKind). l ++ []) (subst (λ k. kinds_in (taken want k) ≡ kinds_in k) (sym own) x.same)
 

@@ -73,27 +73,27 @@ module _ (globals : Globals) (elements : List Element) (code : Code) (f : CodeFu
         → Puts globals.structs elements code f (all_clause_kinds code (clauses_at layout clauses places)) (pushes_clauses globals elements result layout clauses)
     all_puts NoClause s sees b c first places le free makes a ks out rest t = subst (λ (l : List WordKind). Typed code f a l rest out) (append-nil ks) t
     all_puts (Clause None body more) s sees b c first places le free makes a ks out rest t =
-        all_puts more (left s (after_all globals (entered s) body)) sees b c (first + if_any comm_size None + statements_size body + 1) places le (λ flaw h. free flaw (inr (inr h))) makes.2 a ks out rest t
+        all_puts more (left s (after_all globals (entered s) body)) sees b c (first + if_any comm_size None + statements_size body + 1) places le (λ violation h. free violation (inr (inr h))) makes.2 a ks out rest t
     all_puts (Clause (Some comm) body more) s sees b c first [] le free makes a ks out rest t = absurd (omega (arith, le))
     all_puts (Clause (Some comm) body more) s sees b c first (to ∷ places) le free makes a ks out rest t =
         let inner = after_any globals (entered s) (Some (comm_simple comm)) in
-        let one = comm_fine globals elements code f grounds result layout room (entered s) sees comm first (λ flaw h. free flaw (inl h)) makes.0 in
+        let one = comm_fine globals elements code f grounds result layout room (entered s) sees comm first (λ violation h. free violation (inl h)) makes.0 in
         puts_both globals.structs elements code f _ (all_clause_kinds code (clauses_at layout more places)) (pushes_comm globals elements result layout comm) (pushes_clauses globals elements result layout more) (one.pushed to)
-        (all_puts more (left s (after_all globals inner body)) sees b c (first + comm_size comm + statements_size body + 1) places (omega (arith, le)) (λ flaw h. free flaw (inr (inr h))) makes.2) a ks out rest t
+        (all_puts more (left s (after_all globals inner body)) sees b c (first + comm_size comm + statements_size body + 1) places (omega (arith, le)) (λ violation h. free violation (inr (inr h))) makes.2) a ks out rest t
 
     -- the shapes that they name are there
     shapes_named : (clauses : Clauses) (s : Scope) → Sees s layout.scope → (breaks continues : Bool) (first : ℕ) (places : List ℕ) → Free (ClausesHave (setting breaks continues) s first clauses) → ClausesMake globals elements clauses
         → (n : ℕ) (x : TableClause) → slice_get (clauses_at layout clauses places) n ≡ Some x → clause_shape x < length code.shapes
     shapes_named NoClause s sees b c first places free makes n x e = absurd cc
     shapes_named (Clause None body more) s sees b c first places free makes n x e =
-        shapes_named more (left s (after_all globals (entered s) body)) sees b c (first + if_any comm_size None + statements_size body + 1) places (λ flaw h. free flaw (inr (inr h))) makes.2 n x e
+        shapes_named more (left s (after_all globals (entered s) body)) sees b c (first + if_any comm_size None + statements_size body + 1) places (λ violation h. free violation (inr (inr h))) makes.2 n x e
     shapes_named (Clause (Some comm) body more) s sees b c first [] free makes n x e = absurd cc
     shapes_named (Clause (Some comm) body more) s sees b c first (to ∷ places) free makes zero x e =
-        let one = comm_fine globals elements code f grounds result layout room (entered s) sees comm first (λ flaw h. free flaw (inl h)) makes.0 in
+        let one = comm_fine globals elements code f grounds result layout room (entered s) sees comm first (λ violation h. free violation (inl h)) makes.0 in
         subst (λ y. clause_shape y < length code.shapes) (same_Some (table_clause globals elements result layout comm to) x e) (one.there to)
     shapes_named (Clause (Some comm) body more) s sees b c first (to ∷ places) free makes (suc n) x e =
         let inner = after_any globals (entered s) (Some (comm_simple comm)) in
-        shapes_named more (left s (after_all globals inner body)) sees b c (first + comm_size comm + statements_size body + 1) places (λ flaw h. free flaw (inr (inr h))) makes.2 n x e
+        shapes_named more (left s (after_all globals inner body)) sees b c (first + comm_size comm + statements_size body + 1) places (λ violation h. free violation (inr (inr h))) makes.2 n x e
 
     -- ---- the pcs at which the ways begin
 
@@ -123,7 +123,7 @@ module _ (globals : Globals) (elements : List Element) (code : Code) (f : CodeFu
       pub begin : (place : ℕ) → length (starts place m.plan) ≡ length (entries m.plan)
       pub kinds_are : (places : List ℕ) → comm_count clauses ≤ length places → (k : ℕ) (js : List WordKind) → slice_get (entries m.plan) k ≡ Some js → js ≡ clause_gives code (slice_get (clauses_at layout clauses places) k)
       pub runs : (place : ℕ) → Tabled code.selects place m.plan → (first : List WordKind) × Typed code f a first m.plan []
-      pub behind : Room globals elements code f m.layout
+      pub following : Room globals elements code f m.layout
       pub seen : Alike s m.layout.scope
 
     abbrev pub WaysOf : Scope → Clauses → Allowed → Option Made → Type 0
@@ -133,20 +133,20 @@ module _ (globals : Globals) (elements : List Element) (code : Code) (f : CodeFu
     -- a way, and those after it
     pub join_way : (s : Scope) (comm : Comm) (body : Statements) (more : Clauses) (a : Allowed) (ks : List WordKind) (one : Made) (o : Option Made) → ((to : ℕ) → clause_gives code (Some (table_clause globals elements result layout comm to)) ≡ ks)
         → ((place : ℕ) → Tabled code.selects place one.plan → Typed code f a ks one.plan []) → Room globals elements code f one.layout → Alike s one.layout.scope → WaysOf s more a o → WaysFine s (Clause (Some comm) body more) a (with_way ks one o)
-    join_way s comm body more a ks one None gives runs behind seen none = record {
+    join_way s comm body more a ks one None gives runs following seen none = record {
       least = omega (arith, none);
       most = omega (arith, none);
       begin = λ place. refl;
       kinds_are = own;
       runs = λ place tabled. (ks, (refl, runs place tabled));
-      behind = behind;
+      following = following;
       seen = seen;
     } where
       own : (places : List ℕ) → suc (comm_count more) ≤ length places → (k : ℕ) (js : List WordKind) → slice_get (ks ∷ []) k ≡ Some js → js ≡ clause_gives code (slice_get (clauses_at layout (Clause (Some comm) body more) places) k)
       own [] le k js e = absurd (omega (arith, le))
       own (to ∷ places) le zero js e = sym (same_Some ks js e) ∙ sym (gives to)
       own (to ∷ places) le (suc k) js e = absurd cc
-    join_way s comm body more a ks one (Some m) gives runs behind seen w =
+    join_way s comm body more a ks one (Some m) gives runs following seen w =
         let least = w.least in
         let most = w.most in
         record {
@@ -155,7 +155,7 @@ module _ (globals : Globals) (elements : List Element) (code : Code) (f : CodeFu
           begin = λ place. ap suc (w.begin _);
           kinds_are = own;
           runs = λ place tabled. let next = w.runs _ tabled.1 in (ks, (next.0, refl, runs place tabled.0, next.1));
-          behind = w.behind;
+          following = w.following;
           seen = w.seen;
         } where
           own : (places : List ℕ) → suc (comm_count more) ≤ length places → (k : ℕ) (js : List WordKind) → slice_get (ks ∷ entries m.plan) k ≡ Some js → js ≡ clause_gives code (slice_get (clauses_at layout (Clause (Some comm) body more) places) k)
@@ -171,7 +171,7 @@ module _ (globals : Globals) (elements : List Element) (code : Code) (f : CodeFu
       begin = λ place. refl;
       kinds_are = λ places le k js e. own k js e;
       runs = λ place tabled. ([], (refl, m.runs place tabled));
-      behind = m.room;
+      following = m.room;
       seen = seen;
     } where
       own : (k : ℕ) (js : List WordKind) → slice_get ([] ∷ []) k ≡ Some js → js ≡ []
@@ -185,7 +185,7 @@ module _ (globals : Globals) (elements : List Element) (code : Code) (f : CodeFu
       begin = λ place. refl;
       kinds_are = λ places le k js e. absurd cc;
       runs = λ place tabled. ([], refl);
-      behind = room;
+      following = room;
       seen = seen;
     }
 
@@ -228,7 +228,7 @@ module _ (globals : Globals) (elements : List Element) (code : Code) (f : CodeFu
                 let begin = w.begin (t.0 + 1) in
                 let least = w.least in
                 all_puts clauses s sees b c first (starts (t.0 + 1) ways.plan) (omega (arith, begin, least)) free makes a [] [] plan (chosen s clauses a site.selects t.0 ways w (λ places. shapes_named clauses s sees b c first places free makes) t.1.0 t.1.1);
-            room = w.behind;
+            room = w.following;
           },
           w.seen,
         )

@@ -121,7 +121,7 @@ struct_narrow file wide free m =
           let empty : Some 0 ≡ Some v = sym (ap (fields_width (width_within structs (length structs))) (none_node (globals_of file.tops).types file.tops 0 m none)) ∙ is in
           let z = same_Some 0 v empty in
           omega (arith, z)
-      go v is (Some node) some = narrow v (node + 1) (omega arith) (λ flaw h. free flaw (inl (inl (inr (m, node, some, inr (subst (λ o. WidthHas o (node + 1) flaw) (sym is) h))))))
+      go v is (Some node) some = narrow v (node + 1) (omega arith) (λ violation h. free violation (inl (inl (inr (m, node, some, inr (subst (λ o. WidthHas o (node + 1) violation) (sym is) h))))))
 
 pub shapes_short : (file : File) → AllWide (globals_of file.tops).structs → Free (FileHas file) → (n : ℕ) (ks : List WordKind) → slice_get (code_of file).shapes n ≡ Some ks → length ks ≤ 16
 shapes_short file wide free n ks e =

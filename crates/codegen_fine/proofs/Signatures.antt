@@ -80,10 +80,10 @@ module _ (globals : Globals) (elements : List Element) where
   heads_are : (tops : List Top) (names : List (List ℕ)) (number first prints selects : ℕ) → Free (HeadersHave globals.types names number first tops) → (all : List Element) → Grows (noting_tops globals.types tops all) elements → (n : ℕ)
       → HeadAt (slice_get (functions_code globals elements prints selects tops) n) (slice_get (signatures globals.types tops) n)
   heads_are [] names number first prints selects free all g n = record { params = refl; results = refl; noted = tt; kinds_known = tt; result_known = λ kind e. absurd cc }
-  heads_are (StructTop struct ∷ rest) names number first prints selects free all g n = heads_are rest names number (first + top_size (StructTop struct)) prints selects (λ flaw h. free flaw (inr h)) (noting_top globals.types (StructTop struct) all) g n
+  heads_are (StructTop struct ∷ rest) names number first prints selects free all g n = heads_are rest names number (first + top_size (StructTop struct)) prints selects (λ violation h. free violation (inr h)) (noting_top globals.types (StructTop struct) all) g n
   heads_are (FunctionTop function ∷ rest) names number first prints selects free all g (suc n) =
       let m = made_function globals elements prints selects function in
-      heads_are rest names (counting_function number (FunctionTop function)) (first + top_size (FunctionTop function)) (prints + length m.prints) (selects + table_count m.plan) (λ flaw h. free flaw (inr h)) (noting_top globals.types (FunctionTop function) all) g n
+      heads_are rest names (counting_function number (FunctionTop function)) (first + top_size (FunctionTop function)) (prints + length m.prints) (selects + table_count m.plan) (λ violation h. free violation (inr h)) (noting_top globals.types (FunctionTop function) all) g n
   heads_are (FunctionTop function ∷ rest) names number first prints selects free all g zero =
       let one = noting_declared globals.types function.parameters all in
       let two = noting_any globals.types function.result one in
@@ -91,13 +91,13 @@ module _ (globals : Globals) (elements : List Element) where
       let g2 = grows_on two three elements (statements_grow globals.types function.body two) (grows_on three (noting_tops globals.types rest three) elements (tops_grow globals.types rest three) g) in
       let g1 = grows_on one two elements (any_grows globals.types function.result one) g2 in
       let fields = fields_declared globals.types function.parameters in
-      let fine = groups_fine globals elements function.parameters roles.Parameter [] first (λ flaw h. free flaw (inl (inr (inr (inl h))))) all g1 in
+      let fine = groups_fine globals elements function.parameters roles.Parameter [] first (λ violation h. free violation (inl (inr (inr (inl h))))) all g1 in
       record {
         params = first_locals function prints selects;
         results = refl;
         noted = all_noted fields fine;
         kinds_known = all_known fields fine;
-        result_known = result_fine globals elements function.result _ (λ flaw h. free flaw (inl (inr (inr (inr h))))) one g2;
+        result_known = result_fine globals elements function.result _ (λ violation h. free violation (inl (inr (inr (inr h))))) one g2;
       }
 
   many_functions : (tops : List Top) (prints selects : ℕ) → length (functions_code globals elements prints selects tops) ≡ length (signatures globals.types tops)
@@ -120,7 +120,7 @@ functions_of file free =
       result_noted = λ n kind e. ((at n).result_known kind e).1;
     } where
       at : (n : ℕ) → HeadAt (globals_of file.tops) (elements_of file) (slice_get (code_of file).functions n) (slice_get (globals_of file.tops).functions n)
-      at n = heads_are (globals_of file.tops) (elements_of file) file.tops (function_names file.tops) 0 0 0 0 (λ flaw h. free flaw (inl (inr h))) [] (grows_no (elements_of file)) n
+      at n = heads_are (globals_of file.tops) (elements_of file) file.tops (function_names file.tops) 0 0 0 0 (λ violation h. free violation (inl (inr h))) [] (grows_no (elements_of file)) n
 
 -- the functions of the code of a file that the checker takes, no post statement of which declares anything
 pub file_keeps : (file : File) → Grounds (globals_of file.tops) (elements_of file) (code_of file) → FormedTops file.tops → Free (FileHas file) → AllHold (code_of file) (code_of file).functions (code_of file).selects

@@ -54,7 +54,7 @@ module _ (globals : Globals) (elements : List Element) (code : Code) (f : CodeFu
 
       pub typed_close : (channel : Expression) (first : ℕ) → Free (SimpleHas globals s first (Close channel)) → OneMakes globals elements channel → Leaves q (Close channel)
       typed_close channel first free makes a ks out t =
-          let c = channel_there globals elements code f grounds layout.scope housed s alike channel first (λ flaw h. free flaw (inl (inl h))) makes (λ flaw h. free flaw (inl (inr h))) in
+          let c = channel_there globals elements code f grounds layout.scope housed s alike channel first (λ violation h. free violation (inl (inl h))) makes (λ violation h. free violation (inl (inr h))) in
           c.pushed a ks out (Do instrs.Close Skip) (closes_typed globals elements code f grounds c.direction c.element a ks out Skip t)
 
       pub typed_receive_alone : (channel : Expression) (first : ℕ) → Free (SimpleHas globals s first (ReceiveAlone channel)) → OneMakes globals elements channel → Leaves q (ReceiveAlone channel)
@@ -65,14 +65,14 @@ module _ (globals : Globals) (elements : List Element) (code : Code) (f : CodeFu
 
       pub typed_send : (channel value : Expression) (first : ℕ) → Free (SimpleHas globals s first (Send channel value)) → OneMakes globals elements channel → OneMakes globals elements value → Leaves q (Send channel value)
       typed_send channel value first free channel-makes value-makes a ks out t =
-          let c = channel_there globals elements code f grounds layout.scope housed s alike channel first (λ flaw h. free flaw (inl h)) channel-makes (λ flaw h. free flaw (inr (inr (inl h)))) in
-          let behind = first + expression_size channel in
-          let w = worth_there globals s grounds.types_known (known_sees s layout.scope alike housed.known) value behind (λ flaw h. free flaw (inr (inl h))) in
+          let c = channel_there globals elements code f grounds layout.scope housed s alike channel first (λ violation h. free violation (inl h)) channel-makes (λ violation h. free violation (inr (inr (inl h)))) in
+          let following = first + expression_size channel in
+          let w = worth_there globals s grounds.types_known (known_sees s layout.scope alike housed.known) value following (λ violation h. free violation (inr (inl h))) in
           let is-element : element_of (worth globals s channel) ≡ Some c.element = ap element_of (worth_sees s layout.scope alike globals channel ∙ c.is) in
-          let fit = fits w.0 c.element (nodes_of behind value) (nodes_end behind value)
-          (λ flaw h. free flaw (inr (inr (inr (inr (subst (λ o. ValueHas (worth globals s value) o (nodes_of behind value) flaw) (sym is-element) (subst (λ o. ValueHas o (Some c.element) (nodes_of behind value) flaw) (sym w.1) h))))))) in
+          let fit = fits w.0 c.element (nodes_of following value) (nodes_end following value)
+          (λ violation h. free violation (inr (inr (inr (inr (subst (λ o. ValueHas (worth globals s value) o (nodes_of following value) violation) (sym is-element) (subst (λ o. ValueHas o (Some c.element) (nodes_of following value) violation) (sym w.1) h))))))) in
           subst (λ j. Typed code f a ks (pushes_own globals elements layout.scope channel (pushes globals elements layout.scope j value (Do (instrs.Send (shape_of elements j)) Skip))) out) (sym c.carries)
           (c.pushed a ks out (pushes globals elements layout.scope c.element value (Do (instrs.Send (shape_of elements c.element)) Skip))
-          (typed_pushes globals elements code f grounds layout.scope housed s alike value behind (λ flaw h. free flaw (inr (inl h))) value-makes w.0 c.element (sym (worth_sees s layout.scope alike globals value) ∙ w.1) fit c.noted.0 a (ks ++ kinds.Chan (shape_of elements c.element) ∷ []) out (Do (instrs.Send (shape_of elements c.element)) Skip)
+          (typed_pushes globals elements code f grounds layout.scope housed s alike value following (λ violation h. free violation (inr (inl h))) value-makes w.0 c.element (sym (worth_sees s layout.scope alike globals value) ∙ w.1) fit c.noted.0 a (ks ++ kinds.Chan (shape_of elements c.element) ∷ []) out (Do (instrs.Send (shape_of elements c.element)) Skip)
           (subst (λ (l : List WordKind). Typed code f a l (Do (instrs.Send (shape_of elements c.element)) Skip) out) (sym (append_assoc ks (kinds.Chan (shape_of elements c.element) ∷ []) (kinds_of globals.structs elements c.element)))
           (sends_typed globals elements code f grounds c.direction c.element c.noted a ks out Skip t))))

@@ -6,7 +6,7 @@ use Rattle.bytecode.specs.Code.{Function as CodeFunction, Code, PrintTable}
 use Rattle.type_table.specs.Scopes.{Globals, Scope}
 use Rattle.typing_rules.specs.Simples.{SimpleHas, after_simple}
 use Rattle.codegen_base.specs.declared.element.Element.{Element}
-use Rattle.codegen_base.specs.Layouts.{Layout, behind_simple}
+use Rattle.codegen_base.specs.Layouts.{Layout, following_simple}
 use Rattle.codegen_base.specs.Statements.{printed_part, simple_prints, simple_plan}
 use Rattle.syntax.specs.Grammar.{IsStill}
 use Rattle.codegen_base.proofs.Alike.{Alike}
@@ -46,9 +46,9 @@ module _ (globals : Globals) (elements : List Element) (code : Code) (f : CodeFu
 
   module _ (layout : Layout) (room : Room globals elements code f layout) (s : Scope) (alike : Alike s layout.scope) where
     abbrev pub IsDone : ℕ → Simple → Type 0
-    IsDone q simple = Declares globals elements code f grounds (simple_plan globals elements layout q simple) (after_simple globals s simple) (behind_simple globals elements simple layout)
+    IsDone q simple = Declares globals elements code f grounds (simple_plan globals elements layout q simple) (after_simple globals s simple) (following_simple globals elements simple layout)
 
-    pub typed_simple : (q : ℕ) (simple : Simple) (first : ℕ) → Free (SimpleHas globals s first simple) → SimpleMakes globals elements simple → Begins f (behind_simple globals elements simple layout) → Prints code q (simple_prints globals elements layout.scope simple) → IsDone q simple
+    pub typed_simple : (q : ℕ) (simple : Simple) (first : ℕ) → Free (SimpleHas globals s first simple) → SimpleMakes globals elements simple → Begins f (following_simple globals elements simple layout) → Prints code q (simple_prints globals elements layout.scope simple) → IsDone q simple
     typed_simple q (CallAlone a b) first free makes begins prints = record { leaves = typed_still layout room s alike.named q (CallAlone a b) first tt free makes prints; room = room; alike = alike }
     typed_simple q (Close a) first free makes begins prints = record { leaves = typed_still layout room s alike.named q (Close a) first tt free makes prints; room = room; alike = alike }
     typed_simple q (ReceiveAlone a) first free makes begins prints = record { leaves = typed_still layout room s alike.named q (ReceiveAlone a) first tt free makes prints; room = room; alike = alike }

@@ -10,7 +10,7 @@ use Rattle.bytecode.specs.declared.instr.WordKind.TheVariants as kinds
 use Rattle.bytecode.specs.Code.{Code}
 use Rattle.bytecode.specs.Rules.{IsThere, AreThere}
 use Rattle.type_table.specs.Types.{ValueType, IntType, BoolType, StructType, ChannelType}
-use Rattle.type_table.specs.Containment.{Field, Selected, fields_in, fields_of, behind, variable_words, field_among, kind_parts, fields_parts, parts_within}
+use Rattle.type_table.specs.Containment.{Field, Selected, fields_in, fields_of, following, variable_words, field_among, kind_parts, fields_parts, parts_within}
 use Rattle.type_table.specs.Scopes.{Globals}
 use Rattle.typing_rules.specs.Files.{FileHas}
 use Rattle.typing_rules.specs.declared.role.Role.TheVariants as roles
@@ -39,11 +39,11 @@ module _ (globals : Globals) (elements : List Element) where
   -- the fields of each struct have types that are known and noted
   structs_fine : (tops : List Top) (number first : ℕ) → Free (StructsHave globals.types number first tops) → (all : List Element) → Grows (noting_tops globals.types tops all) elements → (n : ℕ) → ParametersFine globals elements (fields_in (slice_get (structs_with globals.types tops) n))
   structs_fine [] number first free all g n = tt
-  structs_fine (FunctionTop function ∷ rest) number first free all g n = structs_fine rest number (first + top_size (FunctionTop function)) (λ flaw h. free flaw (inr h)) (noting_top globals.types (FunctionTop function) all) g n
+  structs_fine (FunctionTop function ∷ rest) number first free all g n = structs_fine rest number (first + top_size (FunctionTop function)) (λ violation h. free violation (inr h)) (noting_top globals.types (FunctionTop function) all) g n
   structs_fine (StructTop struct ∷ rest) number first free all g zero =
       let noted = noting_top globals.types (StructTop struct) all in
-      groups_fine globals elements struct.fields roles.Field [] first (λ flaw h. free flaw (inl (inr (inr (inl h))))) all (grows_on noted (noting_tops globals.types rest noted) elements (tops_grow globals.types rest noted) g)
-  structs_fine (StructTop struct ∷ rest) number first free all g (suc n) = structs_fine rest (counting_struct number (StructTop struct)) (first + top_size (StructTop struct)) (λ flaw h. free flaw (inr h)) (noting_top globals.types (StructTop struct) all) g n
+      groups_fine globals elements struct.fields roles.Field [] first (λ violation h. free violation (inl (inr (inr (inl h))))) all (grows_on noted (noting_tops globals.types rest noted) elements (tops_grow globals.types rest noted) g)
+  structs_fine (StructTop struct ∷ rest) number first free all g (suc n) = structs_fine rest (counting_struct number (StructTop struct)) (first + top_size (StructTop struct)) (λ violation h. free violation (inr h)) (noting_top globals.types (StructTop struct) all) g n
 
   typed_fields : (fields : List Field) → ParametersFine globals elements fields → AllTyped globals.structs fields
   typed_fields [] fine = tt
@@ -57,10 +57,10 @@ module _ (globals : Globals) (elements : List Element) where
   noted_among : (fields : List Field) (name : List ℕ) (at : Selected) → ParametersFine globals elements fields → field_among globals.structs fields name ≡ Some at → Noted elements (known at.kind)
   noted_among [] name at fine e = absurd cc
   noted_among (field ∷ rest) name at fine e = go (bytes_eq field.name name) (field_among globals.structs rest name) e (λ x h. noted_among rest name x fine.2 h) where
-    go : (t : Bool) (o : Option Selected) → (if t then Some (record { place = 0; kind = field.kind }) else option_map (behind (variable_words globals.structs field.kind)) o) ≡ Some at → ((x : Selected) → o ≡ Some x → Noted elements (known x.kind)) → Noted elements (known at.kind)
+    go : (t : Bool) (o : Option Selected) → (if t then Some (record { place = 0; kind = field.kind }) else option_map (following (variable_words globals.structs field.kind)) o) ≡ Some at → ((x : Selected) → o ≡ Some x → Noted elements (known x.kind)) → Noted elements (known at.kind)
     go true o e more = subst (λ (s : Selected). Noted elements (known s.kind)) (same_Some (record { place = 0; kind = field.kind }) at e) fine.1
     go false None e more = absurd cc
-    go false (Some x) e more = subst (λ (s : Selected). Noted elements (known s.kind)) (same_Some (behind (variable_words globals.structs field.kind) x) at e) (more x refl)
+    go false (Some x) e more = subst (λ (s : Selected). Noted elements (known s.kind)) (same_Some (following (variable_words globals.structs field.kind) x) at e) (more x refl)
 
   noted_of : ((n : ℕ) → ParametersFine globals elements (fields_of globals.structs n)) → FieldsNoted elements globals
   noted_of fine IntType name at t e k = absurd cc
@@ -99,7 +99,7 @@ module _ (globals : Globals) (elements : List Element) where
 -- ---- files with which nothing is wrong
 
 fields_fine : (file : File) → Free (FileHas file) → (n : ℕ) → ParametersFine (globals_of file.tops) (elements_of file) (fields_of (globals_of file.tops).structs n)
-fields_fine file free = structs_fine (globals_of file.tops) (elements_of file) file.tops 0 0 (λ flaw h. free flaw (inl (inl (inl h)))) [] (grows_no (elements_of file))
+fields_fine file free = structs_fine (globals_of file.tops) (elements_of file) file.tops 0 0 (λ violation h. free violation (inl (inl (inl h)))) [] (grows_no (elements_of file))
 
 -- the types of all fields are known
 fields_typed : (file : File) → Free (FileHas file) → (n : ℕ) → AllTyped (globals_of file.tops).structs (fields_of (globals_of file.tops).structs n)

@@ -12,7 +12,7 @@ use Rattle.bytecode.specs.declared.instr.WordKind.{WordKind}
 use Rattle.bytecode.specs.Code.{Function as CodeFunction, Code}
 use Rattle.type_table.specs.Types.{ValueType}
 use Rattle.type_table.specs.Scopes.{Globals, Scope, Variable, is_blank, is_reserved, own_variable, declared, type_in}
-use Rattle.typing_rules.specs.declared.flaw.Flaw.{Flaw}
+use Rattle.typing_rules.specs.declared.violation.Violation.{Violation}
 use Rattle.typing_rules.specs.Worths.{Typed as TypedWorth}
 use Rattle.typing_rules.specs.Expressions.{ValueHas}
 use Rattle.typing_rules.specs.Operations.{Given, given}
@@ -119,11 +119,11 @@ module _ (globals : Globals) (elements : List Element) where
   want_noted [] kind noted = tt
   want_noted (name ∷ names) kind noted = (noted, want_noted names kind noted)
 
-  want_fails : (names : List (List ℕ)) (kind : ValueType) (o : Option ValueType) (values : List Given) (flaw : Flaw) → o ≡ Some kind → WantsFail (all_want names kind) values flaw → AllFail o (length names) values flaw
-  want_fails [] kind o values flaw is h = absurd h
-  want_fails (name ∷ names) kind o [] flaw is h = absurd h
-  want_fails (name ∷ names) kind o (value ∷ values) flaw is (inl h) = inl (subst (λ x. ValueHas value.worth x value.nodes flaw) (sym is) h)
-  want_fails (name ∷ names) kind o (value ∷ values) flaw is (inr h) = inr (want_fails names kind o values flaw is h)
+  want_fails : (names : List (List ℕ)) (kind : ValueType) (o : Option ValueType) (values : List Given) (violation : Violation) → o ≡ Some kind → WantsFail (all_want names kind) values violation → AllFail o (length names) values violation
+  want_fails [] kind o values violation is h = absurd h
+  want_fails (name ∷ names) kind o [] violation is h = absurd h
+  want_fails (name ∷ names) kind o (value ∷ values) violation is (inl h) = inl (subst (λ x. ValueHas value.worth x value.nodes violation) (sym is) h)
+  want_fails (name ∷ names) kind o (value ∷ values) violation is (inr h) = inr (want_fails names kind o values violation is h)
 
   module _ (code : Code) (f : CodeFunction) (grounds : Grounds globals elements code) where
     zeros_put : (names : List (List ℕ)) (count : ℕ) (kind : ValueType) → Noted elements kind → Puts globals.structs elements code f (all_kinds globals.structs elements (same_types globals elements names kind)) (zero_values globals elements count names kind)
@@ -147,7 +147,7 @@ module _ (globals : Globals) (elements : List Element) where
           let b = broken rules.Declared end (omega arith) in
           let none = not_true (list_any is_reserved names || has_twice names || list_any (λ name. is_some (own_variable s name)) names) (λ e. free b.0 (inr (inr (inl (e, b.1))))) in
           typed_defines globals elements code f grounds layout room s alike names right first end (omega arith) (three_false (list_any is_reserved names) (has_twice names) (list_any (λ name. is_some (own_variable s name)) names) none).0
-          (λ flaw h. free flaw (inl h)) (λ flaw h. free flaw (inr (inl h))) (untyped_names s names (given globals s (length names) first right) end (omega arith) (λ flaw h. free flaw (inr h))) noted begins
+          (λ violation h. free violation (inl h)) (λ violation h. free violation (inr (inl h))) (untyped_names s names (given globals s (length names) first right) end (omega arith) (λ violation h. free violation (inr h))) noted begins
 
       -- a `var` with a type
       pub typed_typed : (names : List (List ℕ)) (written : TypeExpression) (right : Option (List Expression)) (first : ℕ) (kind : ValueType) → type_in globals.types s written ≡ Some kind → Noted elements kind → Free (TypedVariablesHave globals s first names written right)
@@ -167,7 +167,7 @@ module _ (globals : Globals) (elements : List Element) where
           let same = names_same layout names kind fresh-here in
           let types = same_types globals elements names kind in
           record {
-            leaves = go right (λ flaw h. free flaw (inr (inl h))) makes same fit;
+            leaves = go right (λ violation h. free violation (inr (inl h))) makes same fit;
             room = subst (Room globals elements code f) (all_each names kind layout) n.room;
             alike = subst (λ o. Alike (with_variables globals s o names) (declaring_each globals elements kind names layout).scope) (sym is)
                 (subst (λ x. Alike x (declaring_each globals elements kind names layout).scope) (variables_are names kind s s alike.fits (own_same s names) fresh parts.0) (subst (λ (x : Layout). Alike (with_defined globals s names (alike_values names kind)) x.scope) (all_each names kind layout) n.alike));
@@ -185,6 +185,6 @@ module _ (globals : Globals) (elements : List Element) where
                 let at = first + type_size written in
                 let values = given globals layout.scope count 0 r in
                 let t = typed_right globals elements code f grounds layout.scope (housed_of globals elements f layout.scope room.housed) s alike.named r count at (at + sum_by expression_size r + 1) (all_want names kind) (omega arith) (length-map names (λ name. Some kind)) (want_noted names kind noted)
-                (λ flaw h. free flaw (inl h)) (λ flaw h. free flaw (inr (inl h))) (λ flaw h. free flaw (inr (inr (want_fails names kind (type_in globals.types s written) (given globals s count at r) flaw is h)))) makes in
+                (λ violation h. free violation (inl h)) (λ violation h. free violation (inr (inl h))) (λ violation h. free violation (inr (inr (want_fails names kind (type_in globals.types s written) (given globals s count at r) violation is h)))) makes in
                 let pushed = subst (λ (l : List ValueType). Puts globals.structs elements code f (all_kinds globals.structs elements l) (pushes_right globals elements layout.scope count l r)) (want_same names kind values t.many ∙ sym same) t.pushed in
                 put_leaves globals elements code f grounds (name_types globals elements layout names (same_types globals elements names kind)) (name_spots globals elements layout names (same_types globals elements names kind)) (pushes_right globals elements layout.scope count (name_types globals elements layout names (same_types globals elements names kind)) r) pushed fit

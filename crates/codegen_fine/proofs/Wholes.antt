@@ -77,7 +77,7 @@ module _ (globals : Globals) (elements : List Element) where
           let whole : Begins f m.layout = record { more = []; is = sym (append-nil m.layout.locals) } in
           let yields : IsResult globals elements f result = record { kinds_are = refl; known_kind = fine.known_kind; noted = fine.noted } in
           let (room, alike) = parameters_fit f (fields_declared globals.types function.parameters) empty nothing_declared fine.takes (record { housed = tt; words = refl; there = λ n k e. absurd cc }) (alike_refl nothing_declared (omega arith)) (begins_before f start m.layout longer whole) in
-          let b = typed_body globals elements code f grounds result yields function.body site (parameters globals function) _ room alike fine.still (λ flaw h. free flaw (inl h)) (all_make globals elements function.body all fine.still g) (record { begins = whole; prints = tables-of }) in
+          let b = typed_body globals elements code f grounds result yields function.body site (parameters globals function) _ room alike fine.still (λ violation h. free violation (inl h)) (all_make globals elements function.body all fine.still g) (record { begins = whole; prints = tables-of }) in
           let tab = tabled code.selects m.plan 0 selects rest (numbered_body globals elements result function.body site) selects-of in
           let long = longer.is in
           (holds_by code f m.plan [] tab refl (b.runs 0 tab) b.ends (omega (arith, ap length long, length-append start.locals longer.more)) b.room.there (result_there globals elements code f grounds result yields), typed_makes code f outside [] m.plan [] (b.runs 0 tab))

@@ -60,8 +60,8 @@ pub makes_part : (old new : List Instr) (part : Plan → Plan) → Puts old new 
 makes_part old new part p = record { within = tt; is = λ leave again. puts_alone old new part p leave again }
 
 -- a part, and a plan after it
-pub makes_behind : (old middle new : List Instr) (ws : List Wait) (part : Plan → Plan) (rest : Plan) → Puts old middle part → Makes middle new ws rest → Makes old new ws (part rest)
-makes_behind old middle new ws part rest p m =
+pub makes_after : (old middle new : List Instr) (ws : List Wait) (part : Plan → Plan) (rest : Plan) → Puts old middle part → Makes middle new ws rest → Makes old new ws (part rest)
+makes_after old middle new ws part rest p m =
     let n = makes_length middle new ws rest m in
     let longer = ap length (puts_alone old middle part p 0 0) ∙ length-append old (flat 0 0 (length old) (part Skip)) in
     record {
@@ -113,9 +113,9 @@ makes_cut i0 i1 ws p q ends m = record {
 -- ---- conditions: the test's jump is known after what is done
 
 -- an instruction, and a plan after it
-pub behind_set : (i0 i1 i2 i3 : List Instr) (ws : List Wait) (p : Plan) (leave again : ℕ) (i j : Instr) → i1 ≡ i0 ++ i ∷ [] → Makes i1 i2 ws p → i3 ≡ slice_set i2 (length i0) j
+pub after_set : (i0 i1 i2 i3 : List Instr) (ws : List Wait) (p : Plan) (leave again : ℕ) (i j : Instr) → i1 ≡ i0 ++ i ∷ [] → Makes i1 i2 ws p → i3 ≡ slice_set i2 (length i0) j
     → filled ws leave again i3 ≡ (i0 ++ j ∷ []) ++ flat leave again (length i1) p
-behind_set i0 i1 i2 i3 ws p leave again i j e1 m e3 =
+after_set i0 i1 i2 i3 ws p leave again i j e1 m e3 =
     let n : length i1 ≡ length i0 + 1 = ap length e1 ∙ length-append i0 (i ∷ []) in
     let fp = flat leave again (length i1) p in
     ap (filled ws leave again) e3 ∙ filled_set ws leave again (length i1) (length i2) (length i0) i2 j m.within (omega (arith, n)) ∙ ap (λ (c : List Instr). slice_set c (length i0) j) (m.is leave again)
@@ -131,5 +131,5 @@ makes_if_then i0 i1 i2 i3 ws so next e1 m en e3 =
     record {
       within = within_wider ws (length i1) (length i2) (length i0) (length i3) (omega (arith, n1)) (omega (arith, n3)) m.within;
       is = λ leave again.
-          appends_if_then leave again next i0 j1 (filled ws leave again i3) so refl (behind_set i0 i1 i2 i3 ws so leave again (instrs.Unless 0) (instrs.Unless next) e1 m e3 ∙ ap (λ x. j1 ++ flat leave again x so) (sym k1)) (omega (arith, en, n2, n1));
+          appends_if_then leave again next i0 j1 (filled ws leave again i3) so refl (after_set i0 i1 i2 i3 ws so leave again (instrs.Unless 0) (instrs.Unless next) e1 m e3 ∙ ap (λ x. j1 ++ flat leave again x so) (sym k1)) (omega (arith, en, n2, n1));
     }

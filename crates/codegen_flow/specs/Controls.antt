@@ -33,11 +33,11 @@ jumping place leaves = record { waits = wait_at place leaves; ends = false; brea
 
 -- from a first part, whose end is reached, and another one after it
 abbrev pub joined : Control → Control → Control
-joined first behind = record {
-  waits = first.waits ++ behind.waits;
-  ends = behind.ends;
-  breaks = first.breaks || behind.breaks;
-  continues = first.continues || behind.continues;
+joined first following = record {
+  waits = first.waits ++ following.waits;
+  ends = following.ends;
+  breaks = first.breaks || following.breaks;
+  continues = first.continues || following.continues;
 }
 
 -- from one of two parts

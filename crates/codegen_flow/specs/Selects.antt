@@ -23,5 +23,5 @@ abbrev pub no_table : SelectTable
 no_table = record { clauses = []; default = None }
 
 -- from a select: a break of a way leads to its end
-abbrev pub behind_select : Control → Control
-behind_select flow = record { waits = continues flow.waits; ends = flow.ends || flow.breaks; breaks = false; continues = flow.continues }
+abbrev pub after_select : Control → Control
+after_select flow = record { waits = continues flow.waits; ends = flow.ends || flow.breaks; breaks = false; continues = flow.continues }

@@ -33,7 +33,7 @@ impl Flow {
     }
 
     /// Only to what follows a loop, if a break leads there.
-    pub fn behind_loop(alloc: Global, reaches_end: bool) -> Flow
+    pub fn after_loop(alloc: Global, reaches_end: bool) -> Flow
         ensures { control result ≡ leading reaches_end }
     {
         Flow {
@@ -79,13 +79,13 @@ impl Flow {
 /// Adds the flow of the code that follows.
 ///
 /// Errors: out of memory.
-pub fn join(flow: &mut Flow, mut behind: Flow) -> Result<(), AllocError>
-    ensures { OnOk result (control flow.new ≡ joined (control flow.old) (control behind)) }
+pub fn join(flow: &mut Flow, mut following: Flow) -> Result<(), AllocError>
+    ensures { OnOk result (control flow.new ≡ joined (control flow.old) (control following)) }
 {
-    flow.waits.append(&mut behind.waits)?;
-    flow.reaches_end = behind.reaches_end;
-    flow.has_break |= behind.has_break;
-    flow.has_continue |= behind.has_continue;
+    flow.waits.append(&mut following.waits)?;
+    flow.reaches_end = following.reaches_end;
+    flow.has_break |= following.has_break;
+    flow.has_continue |= following.has_continue;
     Ok(())
 }
 

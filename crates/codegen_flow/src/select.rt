@@ -5,7 +5,7 @@ ghost use Rattle.bytecode.specs.declared.instr.Instr.TheVariants as instrs;
 ghost use Rattle.codegen_flow.specs.Controls.{control};
 ghost use Rattle.codegen_flow.specs.Closed.{closed, closed_one};
 ghost use Rattle.codegen_flow.specs.Waits.{continues, settled};
-ghost use Rattle.codegen_flow.specs.Selects.{any_control, behind_select, no_table, together};
+ghost use Rattle.codegen_flow.specs.Selects.{any_control, after_select, no_table, together};
 ghost use Rattle.std.specs.Option.{is_some};
 
 use crate::flow::{Flow, join_way};
@@ -154,7 +154,7 @@ fn left_waiting(alloc: Global, waits: &[Wait]) -> Result<Vec<Wait>, AllocError>
 ///
 /// Errors: out of memory.
 pub fn leave_select(alloc: Global, ways: &Flow, code: &mut Vec<Instr>) -> Result<Flow, AllocError>
-    ensures flow { IfOk result (λ flow. control flow ≡ behind_select (control ways.now)) }
+    ensures flow { IfOk result (λ flow. control flow ≡ after_select (control ways.now)) }
     ensures settled { OnOk result (code.new.items ≡ settled ways.now.waits.items (length code.old.items) code.old.items) }
 {
     let stop = number(code.len())?;

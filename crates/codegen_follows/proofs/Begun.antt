@@ -16,7 +16,7 @@ use Rattle.codegen_base.proofs.Alike.{drop_all, alike_entered}
 use Rattle.codegen_base.proofs.Seen.{seen, seen_block}
 use Rattle.codegen_base.proofs.Static.{innermost_begins, Nested}
 use Rattle.codegen_base.proofs.Typing.{Free}
-use Rattle.codegen_follows.proofs.Stands.{Around, View, scope_of, variables, Together, Inner, opened, Prints, IsOn, LeadsOn, within, Fine, made_here, behind, Fits, Makes, Doing, Live, Sits}
+use Rattle.codegen_follows.proofs.Stands.{Around, View, scope_of, variables, Together, Inner, opened, Prints, IsOn, LeadsOn, within, Fine, made_here, following, Fits, Makes, Doing, Live, Sits}
 use Rattle.codegen_follows.proofs.Grown.{grown, grown_statements}
 use Rattle.codegen_follows.proofs.Narrowed.{unreached}
 use Rattle.codegen_follows.proofs.Unwound.{together_refl, together_on}
@@ -73,7 +73,7 @@ module _ {globals : Globals} {program : Compiled globals} (coded : Coded program
   L view l body place out = Live coded view l body place out
 
   abbrev past_one : View → Statement → View
-  past_one view s = behind coded view s
+  past_one view s = following coded view s
 
   abbrev one : View → Statement → Made
   one view s = made_here coded view s
@@ -92,13 +92,13 @@ module _ {globals : Globals} {program : Compiled globals} (coded : Coded program
 
   -- ---- after a statement
 
-  pub together_behind : (view : View) (s : Statement) → Nested view.begins (length (variables view)) → Together view (past_one view s)
-  together_behind view s nested =
+  pub together_after : (view : View) (s : Statement) → Nested view.begins (length (variables view)) → Together view (past_one view s)
+  together_after view s nested =
       let g = grown globals elements result view.site s in
       (refl, ap (take (innermost_begins view.begins)) g.variables ∙ take_front (innermost_begins view.begins) (variables view) g.more (nested_least view.begins (length (variables view)) nested))
 
-  nested_behind : (view : View) (s : Statement) → Nested view.begins (length (variables view)) → Nested view.begins (length (variables (past_one view s)))
-  nested_behind view s nested =
+  nested_after : (view : View) (s : Statement) → Nested view.begins (length (variables view)) → Nested view.begins (length (variables (past_one view s)))
+  nested_after view s nested =
       let g = grown globals elements result view.site s in
       nested_up view.begins (length (variables view)) (length (variables (past_one view s))) (let e = ap length g.variables in let h = length-append (variables view) g.more in omega (arith, e, h)) nested
 
@@ -126,10 +126,10 @@ module _ {globals : Globals} {program : Compiled globals} (coded : Coded program
   parts l first a b place out false is le on h = record { mid = None; on = unreached code.selects f.instrs a.plan place l.leave l.again out is on; fits = h; others = tt }
 
   -- after a statement in which nothing is wrong the layout has the variables that the typing rules see
-  abbrev pub FineBehind : Type 0
-  FineBehind = (view : View) (s : Statement) (first : ℕ) (breaks continues : Bool) → Fine coded view → Free (StatementHas (within coded breaks continues) view.checked first s) → Makes globals elements s → Fine coded (past_one view s)
+  abbrev pub FineAfter : Type 0
+  FineAfter = (view : View) (s : Statement) (first : ℕ) (breaks continues : Bool) → Fine coded view → Free (StatementHas (within coded breaks continues) view.checked first s) → Makes globals elements s → Fine coded (past_one view s)
 
-  module _ (fine_behind : FineBehind) where
+  module _ (fine_following : FineAfter) where
     -- the first statement's code, and the others' if they are reached
     live_parts : (view : View) (l : Around) (s : Statement) (rest : Statements) (place : ℕ) (out : Option ℕ) → L view l (Then s rest) place out
         → (mid : Option ℕ) × Doing coded l view s place mid × IfSome mid (λ m. L (past_one view s) l rest m out)
@@ -138,7 +138,7 @@ module _ {globals : Globals} {program : Compiled globals} (coded : Coded program
         let b = made_all globals elements result (past view.site a) rest in
         let p = parts l view.site.prints a b place out (reaches_end a.plan) refl ((grown_statements globals elements result (past view.site a) rest).words) h.on h.fits in (
           p.mid,
-          record { first = h.first; breaks = h.breaks; continues = h.continues; fine = h.fine; good = λ flaw x. h.good flaw (inl x); makes = h.makes.0; on = p.on; fits = p.fits },
+          record { first = h.first; breaks = h.breaks; continues = h.continues; fine = h.fine; good = λ violation x. h.good violation (inl x); makes = h.makes.0; on = p.on; fits = p.fits },
           go p.mid p.others,
         ) where
           go : (mid : Option ℕ) → IfSome mid (λ m. On' l (made_all globals elements result (past view.site (one view s)) rest).plan m out × Fits coded (view.site.prints + length (one view s).prints) (made_all globals elements result (past view.site (one view s)) rest))
@@ -148,8 +148,8 @@ module _ {globals : Globals} {program : Compiled globals} (coded : Coded program
             first = h.first + statement_size s;
             breaks = h.breaks;
             continues = h.continues;
-            fine = fine_behind view s h.first h.breaks h.continues h.fine (λ flaw y. h.good flaw (inl y)) h.makes.0;
-            good = λ flaw y. h.good flaw (inr y);
+            fine = fine_following view s h.first h.breaks h.continues h.fine (λ violation y. h.good violation (inl y)) h.makes.0;
+            good = λ violation y. h.good violation (inr y);
             makes = h.makes.1;
             on = x.0;
             fits = x.1;
@@ -165,14 +165,14 @@ module _ {globals : Globals} {program : Compiled globals} (coded : Coded program
     sits_all NoStatement view l (Some p) out k live nested sits = (out, live.on, sits view (together_refl view))
     sits_all (Then s rest) view l None out k live nested sits =
         let next = past_one view s in
-        let t = together_behind view s nested in
-        let r = sits_all rest next l None out k tt (nested_behind view s nested) (λ last u. sits last (together_on view next last t u)) in
+        let t = together_after view s nested in
+        let r = sits_all rest next l None out k tt (nested_after view s nested) (λ last u. sits last (together_on view next last t u)) in
         (None, tt, (next, t, None, tt, r.0, r.1, r.2))
     sits_all (Then s rest) view l (Some p) out k live nested sits =
         let next = past_one view s in
-        let t = together_behind view s nested in
+        let t = together_after view s nested in
         let h = live_parts view l s rest p out live in
-        let r = sits_all rest next l h.0 out k h.2 (nested_behind view s nested) (λ last u. sits last (together_on view next last t u)) in
+        let r = sits_all rest next l h.0 out k h.2 (nested_after view s nested) (λ last u. sits last (together_on view next last t u)) in
         (Some p, at_once, (next, t, h.0, (h.1, refl), r.0, r.1, r.2))
 
   -- ---- a block begins

@@ -9,9 +9,9 @@ use Rattle.meaning.specs.Tasks.{Task, Do, EndBlock, Decide, frame, Course, Frame
 use Rattle.codegen_base.specs.Generated.{nothing, inside, ended, past, made_simple, made_otherwise}
 use Rattle.plan.proofs.Words.{Words}
 use Rattle.plan.proofs.Places.{at_once}
-use Rattle.codegen_follows.proofs.Stands.{Around, View, variables, Inner, opened, IsOn, LeadsOn, Fine, made_body, behind, Doing, Deciding, Sits}
+use Rattle.codegen_follows.proofs.Stands.{Around, View, variables, Inner, opened, IsOn, LeadsOn, Fine, made_body, following, Doing, Deciding, Sits}
 use Rattle.codegen_follows.proofs.Grown.{grown_statements, grown_otherwise}
-use Rattle.codegen_follows.proofs.Begun.{prints_front, prints_back, together_behind, fine_opened, inner_opened, seen_opened}
+use Rattle.codegen_follows.proofs.Begun.{prints_front, prints_back, together_after, fine_opened, inner_opened, seen_opened}
 use Rattle.codegen_follows.proofs.Follows.{lands, map_reached, end_sits, inner_same, sits_here}
 use Rattle.codegen_base.proofs.Running.{Compiled, Coded}
 use Rattle.codegen_follows.proofs.Simulated.{Simulated, Held, Rest, blocks_of, at, Works, Reaches, slides}
@@ -21,7 +21,7 @@ use Rattle.meaning.specs.Source.{statement_work}
 module _ {globals : Globals} {program : Compiled globals} {coded : Coded program} (simulated : Simulated coded) where
   open program use {elements, code, wide as all}
   open coded use {function as f, number as g, there, result}
-  open simulated use {running, running.{context, context.{callers as ds}}, fine_behind, sitting}
+  open simulated use {running, running.{context, context.{callers as ds}}, fine_following, sitting}
 
   abbrev structs : Structs
   structs = globals.structs
@@ -64,8 +64,8 @@ module _ {globals : Globals} {program : Compiled globals} {coded : Coded program
       let inside' = opened view in
       let fine = fine_opened coded view d.fine in
       let first = made_simple globals elements inside'.site simple in
-      let v = behind coded inside' (Alone simple) in
-      let u = together_behind coded inside' (Alone simple) fine.placed.nested in
+      let v = following coded inside' (Alone simple) in
+      let u = together_after coded inside' (Alone simple) fine.placed.nested in
       let so = ended v.site.layout (made_body coded v body) in
       let other = made_otherwise globals elements result v.site condition so otherwise in
       let a = (grown_statements globals elements result (inside v.site) body).words in
@@ -76,12 +76,12 @@ module _ {globals : Globals} {program : Compiled globals} {coded : Coded program
         breaks = d.breaks;
         continues = d.continues;
         fine = fine;
-        good = λ flaw x. d.good flaw (inl (inl x));
+        good = λ violation x. d.good violation (inl (inl x));
         makes = d.makes.0;
         on = d.on.1;
         fits = record { tables = prints_front code view.site.prints first.prints other.prints d.fits.tables; room = omega (arith, a, b, most) };
       } in
-      let fine' = fine_behind inside' (Alone simple) d.first d.breaks d.continues fine (λ flaw x. d.good flaw (inl (inl x))) d.makes.0 in
+      let fine' = fine_following inside' (Alone simple) d.first d.breaks d.continues fine (λ violation x. d.good violation (inl (inl x))) d.makes.0 in
       let deciding : (m : ℕ) → IsOn coded l other.plan m mid → Deciding coded l v condition body otherwise m mid = λ m on. record {
         first = _;
         second = _;
@@ -89,9 +89,9 @@ module _ {globals : Globals} {program : Compiled globals} {coded : Coded program
         breaks = d.breaks;
         continues = d.continues;
         fine = fine';
-        test = λ flaw x. d.good flaw (inl (inr x));
-        good = λ flaw x. d.good flaw (inr (inl x));
-        other = λ flaw x. d.good flaw (inr (inr x));
+        test = λ violation x. d.good violation (inl (inr x));
+        good = λ violation x. d.good violation (inr (inl x));
+        other = λ violation x. d.good violation (inr (inr x));
         test_makes = d.makes.1;
         makes = d.makes.2;
         other_makes = d.makes.3;
@@ -127,9 +127,9 @@ module _ {globals : Globals} {program : Compiled globals} {coded : Coded program
         breaks = d.breaks;
         continues = d.continues;
         fine = fine';
-        test = λ flaw x. d.good flaw (inl (inr x));
-        good = λ flaw x. d.good flaw (inr (inl x));
-        other = λ flaw x. d.good flaw (inr (inr x));
+        test = λ violation x. d.good violation (inl (inr x));
+        good = λ violation x. d.good violation (inr (inl x));
+        other = λ violation x. d.good violation (inr (inr x));
         test_makes = d.makes.1;
         makes = d.makes.2;
         other_makes = d.makes.3;

@@ -29,7 +29,7 @@ use Rattle.codegen_base.proofs.Static.{variables_known}
 use Rattle.codegen_follows.proofs.Stands.{scope_of, variables, ValuesMake}
 use Rattle.codegen_follows.proofs.Requests.{goes_on, asks_alone}
 use Rattle.codegen_base.proofs.Running.{Compiled, Coded}
-use Rattle.codegen_follows.proofs.Simulated.{Simulated, at, Comes, Works, works_behind, Position, here_blocks, On', standing}
+use Rattle.codegen_follows.proofs.Simulated.{Simulated, at, Comes, Works, works_after, Position, here_blocks, On', standing}
 use Rattle.meaning.specs.Worked.{Worked, ready, and_then, needs, Calling, Given}
 use Rattle.codegen_base.proofs.Likeness.{AreLike, all_words_of, kinds_long, like_length}
 use Rattle.codegen_base.proofs.Gave.{Follows, bind as follows_then, calls as calls_at}
@@ -107,7 +107,7 @@ module _ {globals : Globals} {program : Compiled globals} {coded : Coded program
       let c = call_there function arguments first free in
       let given = result_of globals n in
       let rest = drops (result_words globals elements scope given) Skip in
-      all_go arguments.values first (parameters n) (λ all. does globals blocks k (Calling n all)) (Comes simulated) (Do (instrs.Call n) rest) mid place (λ flaw x. free flaw (inl x)) makes c.fit on (λ vs like to on1.
+      all_go arguments.values first (parameters n) (λ all. does globals blocks k (Calling n all)) (Comes simulated) (Do (instrs.Call n) rest) mid place (λ violation x. free violation (inl x)) makes c.fit on (λ vs like to on1.
       let many = ap (λ o. length (params_in o)) c.there_is ∙ c.params vs like in
       let enters = calls_function code g f there ds to ls [] (all_words_of vs) n c.made on1.0 many c.there_is in
       let back = spot code g f there ds (to + 1) ls [] in
@@ -117,7 +117,7 @@ module _ {globals : Globals} {program : Compiled globals} {coded : Coded program
       (λ given' d m.
       let v = words_like (zero_result globals given) m.0 in
       let x = drops_goes running l.leave l.again (result_words globals elements scope given) v [] ls Skip mid (to + 1) (dropped_long given m.0) on1.1 in
-      subst (λ y. Works' (ready (Goes (frame blocks k))) y) (sym m.1) (works_behind simulated (ready (Goes (frame blocks k))) (place_at (to + 1) ls v) (place_at x.0 ls []) x.1 (goes_on position same x.0 x.2))))
+      subst (λ y. Works' (ready (Goes (frame blocks k))) y) (sym m.1) (works_after simulated (ready (Goes (frame blocks k))) (place_at (to + 1) ls v) (place_at x.0 ls []) x.1 (goes_on position same x.0 x.2))))
 
   -- a goroutine is started
   pub go_goes : (function : List ℕ) (arguments : Arguments) (first : ℕ) (place : ℕ) → Free (CallHas globals view.checked first function arguments) → ValuesMake globals elements arguments.values
@@ -126,7 +126,7 @@ module _ {globals : Globals} {program : Compiled globals} {coded : Coded program
   go_goes function arguments first place free makes on same =
       let n = number_of globals function in
       let c = call_there function arguments first free in
-      all_go arguments.values first (parameters n) (λ all. asks globals blocks k (requests.Go n (flat_map (λ words. words) all))) (Comes simulated) (Do (instrs.Go n) Skip) mid place (λ flaw x. free flaw (inl x)) makes c.fit on (λ vs like to on1.
+      all_go arguments.values first (parameters n) (λ all. asks globals blocks k (requests.Go n (flat_map (λ words. words) all))) (Comes simulated) (Do (instrs.Go n) Skip) mid place (λ violation x. free violation (inl x)) makes c.fit on (λ vs like to on1.
       let many = ap (λ o. length (params_in o)) c.there_is ∙ c.params vs like in
       let ws = all_words_of vs in
       subst (λ (x : Words). Works' (asks globals blocks k (requests.Go n x)) (place_at to ls ws)) (sym (flat_words vs))

@@ -29,7 +29,7 @@ use Rattle.codegen_follows.proofs.Valued.{own_goes}
 use Rattle.codegen_base.proofs.Running.{Compiled, Coded}
 use Rattle.codegen_follows.proofs.Simulated.{Simulated, at, Point, here_blocks, On', standing}
 use Rattle.meaning.specs.Worked.{Worked, and_then, needs, Asking, Given, Told}
-use Rattle.codegen_base.proofs.Gave.{Follows, bind as follows_then, asks as asks_at, behind as follows_behind}
+use Rattle.codegen_base.proofs.Gave.{Follows, bind as follows_then, asks as asks_at, following as follows_after}
 use Rattle.codegen_base.proofs.Pushed.{channel_at, checked, shaped}
 use Rattle.codegen_base.proofs.Expressions.{same_worth}
 use Rattle.codegen_base.proofs.Told.{same_reply, parted_words}
@@ -106,7 +106,7 @@ module _ {globals : Globals} {program : Compiled globals} {coded : Coded program
   asks_goes q i xs zeros go L place stack is many tells asks zero-is begins then' =
       follows_then context (needs (Asking q)) go M L (at simulated place ls (stack ++ xs))
       (asks_at context q M (at simulated place ls (stack ++ xs)) asks begins (λ reply suits. (reply, suits, refl, after reply)))
-      (λ given d m. subst (λ x. Follows context (go x) L d) (sym m.2) (follows_behind context (go (Told m.0)) L d (at simulated (place + 1) ls (stack ++ all_words_of (parted zeros (reply_words m.0)))) m.3 (then' m.0 m.1))) where
+      (λ given d m. subst (λ x. Follows context (go x) L d) (sym m.2) (follows_after context (go (Told m.0)) L d (at simulated (place + 1) ls (stack ++ all_words_of (parted zeros (reply_words m.0)))) m.3 (then' m.0 m.1))) where
         M : Given → CodeFrames → Type 0
         M given d = (reply : Reply) × Suits q reply × (given ≡ Told reply) × Slips (code_next code) d (at simulated (place + 1) ls (stack ++ all_words_of (parted zeros (reply_words reply))))
 

@@ -27,7 +27,7 @@ use Rattle.codegen_base.proofs.Likeness.{fitted_like, AreLike, all_words_of}
 use Rattle.codegen_follows.proofs.Stands.{Around, View, variables, opened, in_way, WayAt, scope_of}
 use Rattle.codegen_follows.proofs.Unwound.{together_on}
 use Rattle.codegen_base.proofs.Running.{Compiled, Coded}
-use Rattle.codegen_follows.proofs.Simulated.{Simulated, Held, Rest, blocks_of, at, Comes, Works, works_behind, Position, here_blocks, On'}
+use Rattle.codegen_follows.proofs.Simulated.{Simulated, Held, Rest, blocks_of, at, Comes, Works, works_after, Position, here_blocks, On'}
 use Rattle.meaning.specs.Worked.{Worked, ready, and_then, needs, Asking, Given, Told}
 use Rattle.plan.specs.Plan.{Plan}
 use Rattle.codegen_base.proofs.Gave.{bind as follows_then, asks as asks_at}
@@ -183,7 +183,7 @@ module _ {globals : Globals} {program : Compiled globals} {coded : Coded program
         blocks_are = seen_opened coded ls w.outer ∙ ap entered (blocks_same simulated ls view w.outer w.same w.begins_are)
 
         soon : Rest coded w.next (in_way l mid) w.mid tail
-        soon = sits_all coded simulated.fine_behind body w.next (in_way l mid) w.mid mid (EndSelect ∷ k) w.live w.fine.placed.nested (λ last u. (
+        soon = sits_all coded simulated.fine_following body w.next (in_way l mid) w.mid mid (EndSelect ∷ k) w.live w.fine.placed.nested (λ last u. (
           next,
           inner_same simulated w.outer next last (same ∙ sym w.same) (t.0 ∙ sym w.begins_are) (inner_opened coded w.outer last (together_on inner w.next last w.together u)),
           l,
@@ -224,7 +224,7 @@ module _ {globals : Globals} {program : Compiled globals} {coded : Coded program
         subst (λ x. Works' (ready x) (answered reply)) (sym (way_is globals blocks k clauses n w.way ws w.way_there) ∙ ap (λ m. at_clause globals blocks k clauses m ws) number)
         (subst (λ x. Works' (ready c) x) (sym (answer_is reply n to index (target_there d.table.clauses (default_targets d.table.default) n w.clause w.clause_is)))
         (subst (λ (x : Words). Works' (ready c) (record { function = g; place = to; locals = ls; stack = []; told = x } ∷ ds)) (sym told-are)
-        (works_behind simulated (ready c) (record { function = g; place = to; locals = ls; stack = []; told = all_words_of values } ∷ ds) (place_at to ls (all_words_of values)) (takes_told code g f there ds to ls [] (all_words_of values))
+        (works_after simulated (ready c) (record { function = g; place = to; locals = ls; stack = []; told = all_words_of values } ∷ ds) (place_at to ls (all_words_of values)) (takes_told code g f there ds to ls [] (all_words_of values))
         (way_goes w.types w.way.destinations w.way.body to values w.stands like same))))
 
     default_goes : is_some (default_of globals blocks k clauses) ≡ true → Works' (ready (at_default globals blocks k (default_of globals blocks k clauses))) (answered Default)

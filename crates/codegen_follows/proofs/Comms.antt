@@ -21,11 +21,11 @@ use Rattle.meaning.specs.Destinations.{new, all_new, all_defined, placed}
 use Rattle.codegen_base.specs.Layouts.{carried, declaring_all, given_types}
 use Rattle.codegen_base.specs.Pushes.{drops}
 use Rattle.codegen_base.specs.Statements.{assigns, name_spots, place_spots, width}
-use Rattle.codegen_base.specs.Generated.{Site, past, comm_plan, behind_comm, made_comm}
+use Rattle.codegen_base.specs.Generated.{Site, past, comm_plan, after_comm, made_comm}
 use Rattle.plan.specs.Plan.{Plan, Skip, Do}
 use Rattle.plan.proofs.Words.{Words}
 use Rattle.codegen_base.proofs.Alike.{drop_all}
-use Rattle.codegen_base.proofs.Assigned.{behind_all}
+use Rattle.codegen_base.proofs.Assigned.{following_all}
 use Rattle.codegen_base.proofs.Likeness.{kinds_long}
 use Rattle.codegen_base.proofs.Seen.{seen, seen_lookup, rising_up}
 use Rattle.codegen_base.proofs.Typing.{Free, nodes_end}
@@ -34,7 +34,7 @@ use Rattle.codegen_follows.proofs.Places.{places_are, places_stay}
 use Rattle.codegen_follows.proofs.Sets.{AreTyped, typed_default, typed_suit as places_suit}
 use Rattle.codegen_follows.proofs.Names.{AreNew, new_names, names_are}
 use Rattle.codegen_follows.proofs.Defined.{once, typed_suit as names_suit}
-use Rattle.codegen_follows.proofs.Stands.{Around, View, scope_of, variables, Together, Fine, IsOn, Assigning, Taking, all_wide, opened, behind, SimpleMakes}
+use Rattle.codegen_follows.proofs.Stands.{Around, View, scope_of, variables, Together, Fine, IsOn, Assigning, Taking, all_wide, opened, following, SimpleMakes}
 use Rattle.codegen_follows.proofs.Begun.{fine_opened, take_front}
 use Rattle.codegen_follows.proofs.Grown.{grown_comm}
 use Rattle.codegen_base.proofs.Running.{Compiled, Coded}
@@ -162,17 +162,17 @@ module _ {globals : Globals} {program : Compiled globals} {coded : Coded program
   -- ---- the variables after it
 
   received_layout : (item : List ℕ) (ok : Option (List ℕ)) (e : Expression)
-      → (declaring_all globals elements (and_also item ok) (given_types globals elements (given globals scope (length (and_also item ok)) 0 (Receive e ∷ []))) site.layout).scope ≡ (behind_comm globals elements result (CommDefine item ok e) site.layout).scope
+      → (declaring_all globals elements (and_also item ok) (given_types globals elements (given globals scope (length (and_also item ok)) 0 (Receive e ∷ []))) site.layout).scope ≡ (after_comm globals elements result (CommDefine item ok e) site.layout).scope
   received_layout item None e = ap (λ kind. (declaring_all globals elements (item ∷ []) (kind ∷ []) site.layout).scope) (typed_default (element_of (worth globals scope e)))
   received_layout item (Some other) e = ap (λ kind. (declaring_all globals elements (item ∷ other ∷ []) (kind ∷ BoolType ∷ []) site.layout).scope) (typed_default (element_of (worth globals scope e)))
 
   pub comm_fine : (comm : Comm) (first : ℕ) → Good comm first → SimpleMakes globals elements (comm_simple comm) → Fine coded (comm_view comm)
-  comm_fine comm first good makes = go comm (simulated.fine_behind clause_view (Alone (comm_simple comm)) first true true fine_clause good makes) where
-    go : (comm : Comm) → Fine coded (behind coded clause_view (Alone (comm_simple comm))) → Fine coded (comm_view comm)
+  comm_fine comm first good makes = go comm (simulated.fine_following clause_view (Alone (comm_simple comm)) first true true fine_clause good makes) where
+    go : (comm : Comm) → Fine coded (following coded clause_view (Alone (comm_simple comm))) → Fine coded (comm_view comm)
     go (CommSend to item) h = record { placed = h.placed; alike = h.alike; noted = h.noted }
     go (CommReceive e) h = record { placed = h.placed; alike = h.alike; noted = h.noted }
     go (CommAssign item ok e) h = record { placed = h.placed; alike = h.alike; noted = h.noted }
-    go (CommDefine item ok e) h = fine_in coded (behind coded clause_view (Alone (Define (and_also item ok) (Receive e ∷ [])))).site (comm_view (CommDefine item ok e)).site clause_view.begins (comm_view (CommDefine item ok e)).checked (received_layout item ok e) h
+    go (CommDefine item ok e) h = fine_in coded (following coded clause_view (Alone (Define (and_also item ok) (Receive e ∷ [])))).site (comm_view (CommDefine item ok e)).site clause_view.begins (comm_view (CommDefine item ok e)).checked (received_layout item ok e) h
 
   -- ---- what it is stored in
 
@@ -195,19 +195,19 @@ module _ {globals : Globals} {program : Compiled globals} {coded : Coded program
   named : (l : Around) (names : List (List ℕ)) (kept others : List ValueType) (vs : List Given) (comm : Comm) (place : ℕ) (mid : Option ℕ) → has_twice names ≡ false → AreTyped vs kept → length vs ≡ length names → Free (NamesFail clause_view.checked names vs)
       → scope_of (comm_view comm) ≡ (declaring_all globals elements names kept site.layout).scope → (scope_of (comm_view comm)).words ≤ length f.locals
       → OnAt l (drops (all_wide coded others) (assigns (name_spots globals elements site.layout names kept) Skip)) place mid → Assigning' l others kept (all_new globals inner names kept) comm place mid
-  named l names kept others vs comm place mid single typed many goes behind most on =
+  named l names kept others vs comm place mid single typed many goes following most on =
       let structs = globals.structs in
       let suit = names_suit coded ls clause_view fine_clause names vs kept typed many goes in
       let are = names_are coded ls clause_view fine_clause names kept kept single suit in
       let same = new_names coded ls clause_view fine_clause names kept (fresh (beside view b).checked names) in
-      let behind-is : scope_of (comm_view comm) ≡ behind_all structs all (all_defined globals inner names kept) scope = behind ∙ sym are.1 in
+      let following-is : scope_of (comm_view comm) ≡ following_all structs all (all_defined globals inner names kept) scope = following ∙ sym are.1 in
       subst (λ (to : List Destination). Assigning' l others kept to comm place mid) (sym same) (record {
         spots = name_spots globals elements site.layout names kept;
         fine = fine_clause;
         spots_are = are.0;
-        room = subst (λ (s : Scope). s.words ≤ length f.locals) behind-is most;
+        room = subst (λ (s : Scope). s.words ≤ length f.locals) following-is most;
         on = on;
-        variables_are = ap (λ (s : Scope). s.variables) behind-is;
+        variables_are = ap (λ (s : Scope). s.variables) following-is;
       })
 
   define_taking : (l : Around) (item : List ℕ) (ok : Option (List ℕ)) (e : Expression) (first place : ℕ) (mid : Option ℕ) → IsChannel point e → Good (CommDefine item ok e) first → (scope_of (comm_view (CommDefine item ok e))).words ≤ length f.locals
@@ -216,12 +216,12 @@ module _ {globals : Globals} {program : Compiled globals} {coded : Coded program
   define_taking l item None e first place mid c good most on =
       let names = item ∷ [] in
       let K = item_type e in
-      let a = named l names (K ∷ []) (BoolType ∷ []) (received_given e first false) (CommDefine item None e) place mid (once clause_view.checked names _ (omega arith) (λ flaw x. good flaw (inr (inr (inl x))))) (received_typed e c first false) refl (λ flaw x. good flaw (inr (inr (inr x)))) refl most on in
+      let a = named l names (K ∷ []) (BoolType ∷ []) (received_given e first false) (CommDefine item None e) place mid (once clause_view.checked names _ (omega arith) (λ violation x. good violation (inr (inr (inl x))))) (received_typed e c first false) refl (λ violation x. good violation (inr (inr (inr x)))) refl most on in
       (K ∷ [], BoolType ∷ [], refl, subst (λ kind. Assigning' l (BoolType ∷ []) (K ∷ []) (new globals blocks item kind ∷ []) (CommDefine item None e) place mid) (sym (kind_item e c)) a)
   define_taking l item (Some other) e first place mid c good most on =
       let names = item ∷ other ∷ [] in
       let K = item_type e in
-      let a = named l names (K ∷ BoolType ∷ []) [] (received_given e first true) (CommDefine item (Some other) e) place mid (once clause_view.checked names _ (omega arith) (λ flaw x. good flaw (inr (inr (inl x))))) (received_typed e c first true) refl (λ flaw x. good flaw (inr (inr (inr x)))) refl most on in
+      let a = named l names (K ∷ BoolType ∷ []) [] (received_given e first true) (CommDefine item (Some other) e) place mid (once clause_view.checked names _ (omega arith) (λ violation x. good violation (inr (inr (inl x))))) (received_typed e c first true) refl (λ violation x. good violation (inr (inr (inr x)))) refl most on in
       (K ∷ BoolType ∷ [], [], refl, subst (λ kind. Assigning' l [] (K ∷ BoolType ∷ []) (new globals blocks item kind ∷ new globals blocks other BoolType ∷ []) (CommDefine item (Some other) e) place mid) (sym (kind_item e c)) a)
 
   -- an lvalue is the same in the clause's block
@@ -237,7 +237,7 @@ module _ {globals : Globals} {program : Compiled globals} {coded : Coded program
   set : (l : Around) (places : List Place) (kept others : List ValueType) (vs : List Given) (comm : Comm) (first place : ℕ) (mid : Option ℕ) → AreTyped vs kept → length vs ≡ length places → Free (PlacesHave globals clause_view.checked first places) → Free (PlacesFail globals clause_view.checked places vs)
       → scope_of (comm_view comm) ≡ scope → scope.words ≤ length f.locals → OnAt l (drops (all_wide coded others) (assigns (place_spots globals elements scope places kept) Skip)) place mid
       → Assigning' l others kept (map (placed globals blocks) places) comm place mid
-  set l places kept others vs comm first place mid typed many good goes behind most on =
+  set l places kept others vs comm first place mid typed many good goes following most on =
       let structs = globals.structs in
       let suit = places_suit coded ls clause_view fine_clause places vs kept first typed many good goes in
       let stay = places_stay coded ls clause_view fine_clause places in
@@ -247,7 +247,7 @@ module _ {globals : Globals} {program : Compiled globals} {coded : Coded program
         spots_are = places_are coded ls clause_view fine_clause places first kept kept good suit;
         room = subst (λ (s : Scope). s.words ≤ length f.locals) (sym stay) most;
         on = on;
-        variables_are = ap (λ (s : Scope). s.variables) (behind ∙ sym stay);
+        variables_are = ap (λ (s : Scope). s.variables) (following ∙ sym stay);
       })
 
   assign_taking : (l : Around) (item : Place) (ok : Option Place) (e : Expression) (first place : ℕ) (mid : Option ℕ) → IsChannel point e → Good (CommAssign item ok e) first → scope.words ≤ length f.locals
@@ -255,10 +255,10 @@ module _ {globals : Globals} {program : Compiled globals} {coded : Coded program
       → Taking coded l clause_view (item_type e ∷ BoolType ∷ []) (comm_destinations globals blocks k (CommAssign item ok e)) (comm_view (CommAssign item ok e)) place mid
   assign_taking l item None e first place mid c good most on =
       let K = item_type e in
-      (K ∷ [], BoolType ∷ [], refl, set l (item ∷ []) (K ∷ []) (BoolType ∷ []) (received_given e (first + 1) false) (CommAssign item None e) first place mid (received_typed e c (first + 1) false) refl (λ flaw x. good flaw (inl x)) (λ flaw x. good flaw (inr (inr (inr x)))) refl most on)
+      (K ∷ [], BoolType ∷ [], refl, set l (item ∷ []) (K ∷ []) (BoolType ∷ []) (received_given e (first + 1) false) (CommAssign item None e) first place mid (received_typed e c (first + 1) false) refl (λ violation x. good violation (inl x)) (λ violation x. good violation (inr (inr (inr x)))) refl most on)
   assign_taking l item (Some other) e first place mid c good most on =
       let K = item_type e in
-      (K ∷ BoolType ∷ [], [], refl, set l (item ∷ other ∷ []) (K ∷ BoolType ∷ []) [] (received_given e (first + 2) true) (CommAssign item (Some other) e) first place mid (received_typed e c (first + 2) true) refl (λ flaw x. good flaw (inl x)) (λ flaw x. good flaw (inr (inr (inr x)))) refl most on)
+      (K ∷ BoolType ∷ [], [], refl, set l (item ∷ other ∷ []) (K ∷ BoolType ∷ []) [] (received_given e (first + 2) true) (CommAssign item (Some other) e) first place mid (received_typed e c (first + 2) true) refl (λ violation x. good violation (inl x)) (λ violation x. good violation (inr (inr (inr x)))) refl most on)
 
   -- values of these types are received
   abbrev pub received_types : Comm → List ValueType

@@ -88,11 +88,11 @@ module _ {globals : Globals} {program : Compiled globals} (coded : Coded program
   name_fits name v w is positive goes = go (own_variable view.checked name) (own name) (own_alike view.checked (scope_of view) fine.alike name) (λ x e. own_known name x e) goes where
     go : (a b : Option Variable) → kind_if a ≡ kind_if b → ((x : Variable) → b ≡ Some x → x.kind ≡ Some (known x.kind)) → Free (GoesHas (is_none a) v (kind_of a))
         → Fits w (type_taken (known (default_type (Some w))) b) × Suit b (known (default_type (Some w))) (type_taken (known (default_type (Some w))) b)
-    go None None e has goes = (default_fits w v.nodes positive (λ flaw x. goes flaw (subst (λ o. DefaultHas o v.nodes flaw) (sym is) x)), refl)
+    go None None e has goes = (default_fits w v.nodes positive (λ violation x. goes violation (subst (λ o. DefaultHas o v.nodes violation) (sym is) x)), refl)
     go None (Some y) e has goes = absurd cc
     go (Some x) None e has goes = absurd cc
     go (Some x) (Some y) e has goes = (
-      fits w (known y.kind) v.nodes positive (λ flaw z. goes flaw (subst (λ o. ValueHas o x.kind v.nodes flaw) (sym is) (subst (λ o. ValueHas (Some w) o v.nodes flaw) (sym (kind_alike (Some x) (Some y) e ∙ has y refl)) z))),
+      fits w (known y.kind) v.nodes positive (λ violation z. goes violation (subst (λ o. ValueHas o x.kind v.nodes violation) (sym is) (subst (λ o. ValueHas (Some w) o v.nodes violation) (sym (kind_alike (Some x) (Some y) e ∙ has y refl)) z))),
       refl,
     )
 
@@ -103,11 +103,11 @@ module _ {globals : Globals} {program : Compiled globals} (coded : Coded program
   values_suit [] (e ∷ es) second n many good goes = absurd cc
   values_suit (name ∷ names) [] second n many good goes = absurd cc
   values_suit (name ∷ names) (e ∷ es) second n many good goes =
-      let w = worth_there globals view.checked program.types_known (variables_known view.checked (scope_of view) fine.alike fine.placed.known) e second (λ flaw x. good flaw (inl x)) in
-      let one = name_fits name (record { worth = worth globals view.checked e; nodes = nodes_of second e }) w.0 w.1 (nodes_end second e) (λ flaw x. goes flaw (inl x)) in
+      let w = worth_there globals view.checked program.types_known (variables_known view.checked (scope_of view) fine.alike fine.placed.known) e second (λ violation x. good violation (inl x)) in
+      let one = name_fits name (record { worth = worth globals view.checked e; nodes = nodes_of second e }) w.0 w.1 (nodes_end second e) (λ violation x. goes violation (inl x)) in
       let same : Some w.0 ≡ worth globals (scope_of view) e = sym w.1 ∙ worth_alike view.checked (scope_of view) fine.alike globals e in
       let left : suc (length es) ≡ suc (length names) = many in
-      let more = values_suit names es (second + expression_size e) (n + expression_size e) (omega (arith, left)) (λ flaw x. good flaw (inr x)) (λ flaw x. goes flaw (inr x)) in (
+      let more = values_suit names es (second + expression_size e) (n + expression_size e) (omega (arith, left)) (λ violation x. good violation (inr x)) (λ violation x. goes violation (inr x)) in (
         ((w.0, w.1, subst (λ o. Fits w.0 (type_taken (known (default_type o)) (own name))) same one.0), more.0),
         (subst (λ o. Suit (own name) (known (default_type o)) (type_taken (known (default_type o)) (own name))) same one.1, more.1),
       )
@@ -123,9 +123,9 @@ module _ {globals : Globals} {program : Compiled globals} (coded : Coded program
   typed_suit (name ∷ names) [] kinds typed many goes = absurd cc
   typed_suit (name ∷ names) (v ∷ vs) [] typed many goes = absurd typed
   typed_suit (name ∷ names) (v ∷ vs) (kind ∷ kinds) (is, positive, typed) many goes =
-      let one = name_fits name v (Typed kind) is positive (λ flaw x. goes flaw (inl x)) in
+      let one = name_fits name v (Typed kind) is positive (λ violation x. goes violation (inl x)) in
       let left : suc (length vs) ≡ suc (length names) = many in
-      (typed_one (own name) kind one.0, typed_suit names vs kinds typed (omega (arith, left)) (λ flaw x. goes flaw (inr x)))
+      (typed_one (own name) kind one.0, typed_suit names vs kinds typed (omega (arith, left)) (λ violation x. goes violation (inr x)))
 
   -- the types that the source takes from a right side are the code's
   pub kinds_are : (count : ℕ) (right : List Expression) → given_kinds globals (seen globals.structs ls (variables view) view.begins) count right ≡ right_types globals elements (scope_of view) count right
@@ -175,15 +175,15 @@ module _ {globals : Globals} {program : Compiled globals} {coded : Coded program
   types_long (v ∷ vs) = ap suc (types_long vs)
 
   -- the variables that the code has after the names
-  abbrev pub Behind : List (List ℕ) → List ValueType → Type 0
-  Behind names types = (variables next ≡ (declaring_all globals elements names types view.site.layout).scope.variables) × ((declaring_all globals elements names types view.site.layout).scope.words ≤ length f.locals)
+  abbrev pub Following : List (List ℕ) → List ValueType → Type 0
+  Following names types = (variables next ≡ (declaring_all globals elements names types view.site.layout).scope.variables) × ((declaring_all globals elements names types view.site.layout).scope.words ≤ length f.locals)
 
   -- names are given what a right side gives
   names_plain : (names : List (List ℕ)) (es : List Expression) (first end place : ℕ) → 1 ≤ end → IsPlain (length names) es → ValuesMake globals elements es → has_twice names ≡ false
       → Free (RightHas globals view.checked first es) → Free (NumbersHave (length (given_values globals view.checked first es)) (length names) end) → Free (NamesFail view.checked names (given_values globals view.checked first es))
-      → On (defines globals elements view.site.layout names (right_types globals elements scope (length names) es) es) place → Behind names (right_types globals elements scope (length names) es)
+      → On (defines globals elements view.site.layout names (right_types globals elements scope (length names) es) es) place → Following names (right_types globals elements scope (length names) es)
       → Works' (gives globals blocks k (all_defined globals blocks names (given_kinds globals blocks (length names) es)) es) (place_at place ls [])
-  names_plain names es first end place le plain makes single good numbers goes on behind =
+  names_plain names es first end place le plain makes single good numbers goes on following =
       let vs = given_values globals scope 0 es in
       let types = given_types globals elements vs in
       let types-are : right_types globals elements scope (length names) es ≡ types = ap (given_types globals elements) (plain_given globals scope (length names) 0 es plain) in
@@ -192,7 +192,7 @@ module _ {globals : Globals} {program : Compiled globals} {coded : Coded program
       let es-long = sym (given_long globals view.checked first es) ∙ many in
       let suit = values_suit coded ls view fine names es first 0 es-long good goes in
       let are = names_are coded ls view fine names types others single suit.1 in
-      let b = subst (Behind names) types-are behind in
+      let b = subst (Following names) types-are following in
       subst (λ (ts : List ValueType). Works' (gives globals blocks k (all_defined globals blocks names ts) es) (place_at place ls [])) (sym (kinds_are coded ls view fine (length names) es ∙ types-are))
       (gives_plain position (all_defined globals blocks names types) others (name_spots globals elements view.site.layout names types) (length names) es first place (defined_long names types (types_long vs ∙ given_long globals scope 0 es ∙ es-long)) plain
       (record { are = are.0; fit = subst (λ (s : Scope). s.words ≤ length f.locals) (sym are.1) b.1; variables_are = b.0 ∙ ap (λ (s : Scope). s.variables) (sym are.1) }) good makes suit.0
@@ -200,16 +200,16 @@ module _ {globals : Globals} {program : Compiled globals} {coded : Coded program
 
   names_both : (names : List (List ℕ)) (e : Expression) (first end place : ℕ) → 1 ≤ end → length names ≡ suc (suc zero) → OneMakes globals elements e → has_twice names ≡ false
       → Free (ExpressionHas globals view.checked first (Receive e)) → Free (NumbersHave (length (given globals view.checked (suc (suc zero)) first (Receive e ∷ []))) (length names) end) → Free (NamesFail view.checked names (given globals view.checked (suc (suc zero)) first (Receive e ∷ [])))
-      → On (defines globals elements view.site.layout names (right_types globals elements scope (length names) (Receive e ∷ [])) (Receive e ∷ [])) place → Behind names (right_types globals elements scope (length names) (Receive e ∷ []))
+      → On (defines globals elements view.site.layout names (right_types globals elements scope (length names) (Receive e ∷ [])) (Receive e ∷ [])) place → Following names (right_types globals elements scope (length names) (Receive e ∷ []))
       → Works' (gives globals blocks k (all_defined globals blocks names (given_kinds globals blocks (length names) (Receive e ∷ []))) (Receive e ∷ [])) (place_at place ls [])
-  names_both names e first end place le two makes single good numbers goes on behind =
+  names_both names e first end place le two makes single good numbers goes on following =
       let es : List Expression = Receive e ∷ [] in
       let types : List ValueType = carried globals elements scope e ∷ BoolType ∷ [] in
       let types-are : right_types globals elements scope (length names) es ≡ types = ap (λ n. right_types globals elements scope n es) two ∙ both_types position e in
       let many = same_count (length (given globals view.checked (suc (suc zero)) first es)) (length names) end le numbers in
       let suit = typed_suit coded ls view fine names (given globals view.checked (suc (suc zero)) first es) types (both_typed position e first good makes) many goes in
       let are = names_are coded ls view fine names types types single suit in
-      let b = subst (Behind names) types-are behind in
+      let b = subst (Following names) types-are following in
       subst (λ (ts : List ValueType). Works' (gives globals blocks k (all_defined globals blocks names ts) es) (place_at place ls [])) (sym (kinds_are coded ls view fine (length names) es ∙ types-are))
       (gives_both position (all_defined globals blocks names types) (name_types globals elements view.site.layout names types) types (name_spots globals elements view.site.layout names types) (length names) e first place (defined_long names types (sym two)) two refl
       (record { are = are.0; fit = subst (λ (s : Scope). s.words ≤ length f.locals) (sym are.1) b.1; variables_are = b.0 ∙ ap (λ (s : Scope). s.variables) (sym are.1) }) good makes
@@ -217,23 +217,23 @@ module _ {globals : Globals} {program : Compiled globals} {coded : Coded program
 
   pub names_go : (names : List (List ℕ)) (right : List Expression) (first end place : ℕ) → 1 ≤ end → ValuesMake globals elements right → has_twice names ≡ false
       → Free (RightHas globals view.checked first right) → Free (NumbersHave (length (given globals view.checked (length names) first right)) (length names) end) → Free (NamesFail view.checked names (given globals view.checked (length names) first right))
-      → On (defines globals elements view.site.layout names (right_types globals elements scope (length names) right) right) place → Behind names (right_types globals elements scope (length names) right)
+      → On (defines globals elements view.site.layout names (right_types globals elements scope (length names) right) right) place → Following names (right_types globals elements scope (length names) right)
       → Works' (gives globals blocks k (all_defined globals blocks names (given_kinds globals blocks (length names) right)) right) (place_at place ls [])
-  names_go names right first end place le makes single good numbers goes on behind = go (form (length names) right) where
+  names_go names right first end place le makes single good numbers goes on following = go (form (length names) right) where
     Goal : List Expression → Type 0
     Goal x = Works' (gives globals blocks k (all_defined globals blocks names (given_kinds globals blocks (length names) x)) x) (place_at place ls [])
 
     go : IsBoth (length names) right ⊎ IsPlain (length names) right → Goal right
     go (inr plain) =
         let same = plain_given globals view.checked (length names) first right plain in
-        names_plain names right first end place le plain makes single good (λ flaw x. numbers flaw (subst (λ (l : List Given). NumbersHave (length l) (length names) end flaw) (sym same) x)) (λ flaw x. goes flaw (subst (λ (l : List Given). NamesFail view.checked names l flaw) (sym same) x)) on behind
+        names_plain names right first end place le plain makes single good (λ violation x. numbers violation (subst (λ (l : List Given). NumbersHave (length l) (length names) end violation) (sym same) x)) (λ violation x. goes violation (subst (λ (l : List Given). NamesFail view.checked names l violation) (sym same) x)) on following
     go (inl (e, two, is)) =
         subst (λ (x : List Expression). ValuesMake globals elements x → Free (RightHas globals view.checked first x) → Free (NumbersHave (length (given globals view.checked (length names) first x)) (length names) end) → Free (NamesFail view.checked names (given globals view.checked (length names) first x))
-        → On (defines globals elements view.site.layout names (right_types globals elements scope (length names) x) x) place → Behind names (right_types globals elements scope (length names) x) → Goal x) (sym is)
-        (λ m fr nu gs o b. names_both names e first end place le two m.0 single (λ flaw x. fr flaw (inl x)) (subst (λ n. Free (NumbersHave (length (given globals view.checked n first (Receive e ∷ []))) (length names) end)) two nu) (subst (λ n. Free (NamesFail view.checked names (given globals view.checked n first (Receive e ∷ [])))) two gs) o b) makes good numbers goes on behind
+        → On (defines globals elements view.site.layout names (right_types globals elements scope (length names) x) x) place → Following names (right_types globals elements scope (length names) x) → Goal x) (sym is)
+        (λ m fr nu gs o b. names_both names e first end place le two m.0 single (λ violation x. fr violation (inl x)) (subst (λ n. Free (NumbersHave (length (given globals view.checked n first (Receive e ∷ []))) (length names) end)) two nu) (subst (λ n. Free (NamesFail view.checked names (given globals view.checked n first (Receive e ∷ [])))) two gs) o b) makes good numbers goes on following
 
   pub define_goes : (names : List (List ℕ)) (right : List Expression) (first place : ℕ) → ValuesMake globals elements right → Free (SimpleHas globals view.checked first (Define names right))
-      → On (simple_plan globals elements view.site.layout view.site.prints (Define names right)) place → Behind names (right_types globals elements scope (length names) right) → Works' (simple_work globals blocks k (Define names right)) (place_at place ls [])
-  define_goes names right first place makes free on behind =
+      → On (simple_plan globals elements view.site.layout view.site.prints (Define names right)) place → Following names (right_types globals elements scope (length names) right) → Works' (simple_work globals blocks k (Define names right)) (place_at place ls [])
+  define_goes names right first place makes free on following =
       let end = first + sum_by expression_size right + 1 in
-      names_go names right first end place (omega arith) makes (once view.checked names end (omega arith) (λ flaw x. free flaw (inr (inr (inl x))))) (λ flaw x. free flaw (inl x)) (λ flaw x. free flaw (inr (inl x))) (λ flaw x. free flaw (inr (inr (inr x)))) on behind
+      names_go names right first end place (omega arith) makes (once view.checked names end (omega arith) (λ violation x. free violation (inr (inr (inl x))))) (λ violation x. free violation (inl x)) (λ violation x. free violation (inr (inl x))) (λ violation x. free violation (inr (inr (inr x)))) on following

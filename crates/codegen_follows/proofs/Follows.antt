@@ -21,19 +21,19 @@ use Rattle.codegen_base.proofs.Seen.{seen, rising_up}
 use Rattle.codegen_base.proofs.Assigned.{AllLike, holding_like, like_holding}
 use Rattle.codegen_base.proofs.Static.{innermost_begins}
 use Rattle.codegen_base.proofs.Static.{Holding}
-use Rattle.codegen_follows.proofs.Stands.{Around, View, scope_of, variables, Together, Inner, opened, IsOn, LeadsOn, Fine, made_body, behind, behind_body, Doing, Deciding, Looping, post_made, Live, Sits}
+use Rattle.codegen_follows.proofs.Stands.{Around, View, scope_of, variables, Together, Inner, opened, IsOn, LeadsOn, Fine, made_body, following, after_body, Doing, Deciding, Looping, post_made, Live, Sits}
 use Rattle.codegen_follows.proofs.Grown.{grown_statements, grown_otherwise}
 use Rattle.codegen_follows.proofs.Unwound.{Left, inner_left, broken_sits, continued_sits}
-use Rattle.codegen_follows.proofs.Begun.{prints_front, prints_back, together_behind, sits_all, fine_opened, inner_opened, seen_opened}
+use Rattle.codegen_follows.proofs.Begun.{prints_front, prints_back, together_after, sits_all, fine_opened, inner_opened, seen_opened}
 use Rattle.codegen_follows.proofs.Valued.{test_goes}
 use Rattle.codegen_base.proofs.Running.{Compiled, Coded}
-use Rattle.codegen_follows.proofs.Simulated.{Simulated, Held, Rest, blocks_of, at, Comes, Works, Reaches, reaches_behind, works_behind, slides, moves, Point}
+use Rattle.codegen_follows.proofs.Simulated.{Simulated, Held, Rest, blocks_of, at, Comes, Works, Reaches, reaches_after, works_after, slides, moves, Point}
 use Rattle.meaning.specs.Worked.{Worked, ready}
 
 module _ {globals : Globals} {program : Compiled globals} {coded : Coded program} (simulated : Simulated coded) where
   open program use {elements, code}
   open coded use {function as f, number as g, there, result}
-  open simulated use {running.{context, context.{callers as ds}}, fine_behind, sitting, Sat}
+  open simulated use {running.{context, context.{callers as ds}}, fine_following, sitting, Sat}
 
   abbrev S : View → Around → Option ℕ → List Task → Type 0
   S view l place tasks = Sits coded view l place tasks
@@ -86,12 +86,12 @@ module _ {globals : Globals} {program : Compiled globals} {coded : Coded program
   pub inner_same : (view next last : View) → variables next ≡ variables view → next.begins ≡ view.begins → Inner view last → Inner next last
   inner_same view next last same begins i = record { begin = i.begin; begins = i.begins ∙ ap (λ ns. i.begin ∷ ns) (sym begins); within = i.within ∙ sym same }
 
-  pub fine_body : (view : View) (body : Statements) → Fine coded view → Fine coded (behind_body coded view body)
+  pub fine_body : (view : View) (body : Statements) → Fine coded view → Fine coded (after_body coded view body)
   fine_body view body fine =
       let p = fine.placed in
       let le = (grown_statements globals elements result (inside view.site) body).words in
       record {
-        placed = record { rising = rising_up globals.structs 0 (variables view) (scope_of view).words (scope_of (behind_body coded view body)).words le p.rising; known = p.known; outer = p.outer; nested = p.nested };
+        placed = record { rising = rising_up globals.structs 0 (variables view) (scope_of view).words (scope_of (after_body coded view body)).words le p.rising; known = p.known; outer = p.outer; nested = p.nested };
         alike = alike_left view.checked (scope_of view) (after_all globals (scope_entered view.checked) body) (made_body coded view body).layout.scope fine.alike;
         noted = fine.noted;
       }
@@ -116,7 +116,7 @@ module _ {globals : Globals} {program : Compiled globals} {coded : Coded program
 
   pub lands : (ls : Words) (view : View) (l : Around) (place : ℕ) (to : Option ℕ) (tasks : List Task) → H ls view → Leads f.instrs place to → S view l to tasks → Reaches' (frame (blocks ls view) tasks) (place_at place ls [])
   lands ls view l place None tasks h lead sits = absurd lead
-  lands ls view l place (Some n) tasks h lead sits = reaches_behind simulated (frame (blocks ls view) tasks) (place_at place ls []) (place_at n ls []) (passes code g f there ds place n ls [] lead) (sits_here view l n ls tasks h sits)
+  lands ls view l place (Some n) tasks h lead sits = reaches_after simulated (frame (blocks ls view) tasks) (place_at place ls []) (place_at n ls []) (passes code g f there ds place n ls [] lead) (sits_here view l n ls tasks h sits)
 
   -- what is next has the same variables
   pub lands_same : (ls : Words) (view next : View) (l : Around) (place : ℕ) (mid : Option ℕ) (k : List Task) → H ls view → variables next ≡ variables view → next.begins ≡ view.begins → Leads f.instrs place mid → Rest coded next l mid k → Reaches' (frame (blocks ls view) k) (place_at place ls [])
@@ -128,7 +128,7 @@ module _ {globals : Globals} {program : Compiled globals} {coded : Coded program
       → Reaches' (frame (entered (blocks ls view)) (all_of body ++ k)) (place_at place ls [])
   block_lands ls view l body place out k h live sits =
       let fine = live.fine in
-      let soon = sits_all coded fine_behind body (opened view) l (Some place) out k live fine.placed.nested (λ last t. sits last (inner_opened coded view last t)) in
+      let soon = sits_all coded fine_following body (opened view) l (Some place) out k live fine.placed.nested (λ last t. sits last (inner_opened coded view last t)) in
       subst (λ b. Reaches' (frame b (all_of body ++ k)) (place_at place ls [])) (seen_opened coded ls view)
       (lands ls (opened view) l place soon.0 (all_of body ++ k) (record { holding = h.holding; full = h.full }) soon.1 soon.2)
 
@@ -168,12 +168,12 @@ module _ {globals : Globals} {program : Compiled globals} {coded : Coded program
       (lands_same ls view next l on.0 mid k h same begins on.3 r)) where
         go : (b : Bool) (to other : ℕ) → At f.instrs to (instrs.Unless other) → Reaches' (frame (entered (blocks ls view)) (all_of body ++ EndBlock ∷ k)) (place_at (to + 1) ls []) → Reaches' (frame (blocks ls view) k) (place_at other ls [])
             → Works' (decides globals (blocks ls view) k body NoElse (Truth b)) (place_at to ls (Truth b ∷ []))
-        go true to other i x y = slides simulated _ _ (reaches_behind simulated _ _ _ (chooses code g f there ds to other ls [] true i) x)
-        go false to other i x y = slides simulated _ _ (reaches_behind simulated _ _ _ (chooses code g f there ds to other ls [] false i) y)
+        go true to other i x y = slides simulated _ _ (reaches_after simulated _ _ _ (chooses code g f there ds to other ls [] true i) x)
+        go false to other i x y = slides simulated _ _ (reaches_after simulated _ _ _ (chooses code g f there ds to other ls [] false i) y)
   decide_goes ls view next l condition body (ElseBlock others) place mid k h d same begins r =
       let fits = d.fits in
       let so = ended view.site.layout (made_body coded view body) in
-      let second = behind_body coded view body in
+      let second = after_body coded view body in
       let grown = grown_statements globals elements result (inside view.site) body in
       let more = grown_statements globals elements result (inside second.site) others in
       let most : (made_body coded view body).layout.scope.words ≤ length f.locals = (let a = more.words in let b = fits.room in omega (arith, a, b)) in
@@ -206,12 +206,12 @@ module _ {globals : Globals} {program : Compiled globals} {coded : Coded program
       (λ last i. end_sits next last l mid r.0 k (inner_same second next last same begins i) r.1 r.2))) where
         go : (b : Bool) (to other : ℕ) → At f.instrs to (instrs.Unless other) → Reaches' (frame (entered (blocks ls view)) (all_of body ++ EndBlock ∷ k)) (place_at (to + 1) ls []) → Reaches' (frame (entered (blocks ls view)) (all_of others ++ EndBlock ∷ k)) (place_at other ls [])
             → Works' (decides globals (blocks ls view) k body (ElseBlock others) (Truth b)) (place_at to ls (Truth b ∷ []))
-        go true to other i x y = slides simulated _ _ (reaches_behind simulated _ _ _ (chooses code g f there ds to other ls [] true i) x)
-        go false to other i x y = slides simulated _ _ (reaches_behind simulated _ _ _ (chooses code g f there ds to other ls [] false i) y)
+        go true to other i x y = slides simulated _ _ (reaches_after simulated _ _ _ (chooses code g f there ds to other ls [] true i) x)
+        go false to other i x y = slides simulated _ _ (reaches_after simulated _ _ _ (chooses code g f there ds to other ls [] false i) y)
   decide_goes ls view next l condition body (ElseIf branch) place mid k h d same begins r =
       let fits = d.fits in
       let so = ended view.site.layout (made_body coded view body) in
-      let second = behind_body coded view body in
+      let second = after_body coded view body in
       let grown = grown_statements globals elements result (inside view.site) body in
       let le = grown_otherwise globals elements result view.site condition so (ElseIf branch) in
       let most : (made_body coded view body).layout.scope.words ≤ length f.locals = (let b = fits.room in omega (arith, le, b)) in
@@ -254,8 +254,8 @@ module _ {globals : Globals} {program : Compiled globals} {coded : Coded program
       ))) where
         go : (b : Bool) (to other : ℕ) → At f.instrs to (instrs.Unless other) → Reaches' (frame (entered (blocks ls view)) (all_of body ++ EndBlock ∷ k)) (place_at (to + 1) ls []) → Reaches' (frame (blocks ls view) (Do (If branch) ∷ k)) (place_at other ls [])
             → Works' (decides globals (blocks ls view) k body (ElseIf branch) (Truth b)) (place_at to ls (Truth b ∷ []))
-        go true to other i x y = slides simulated _ _ (reaches_behind simulated _ _ _ (chooses code g f there ds to other ls [] true i) x)
-        go false to other i x y = slides simulated _ _ (reaches_behind simulated _ _ _ (chooses code g f there ds to other ls [] false i) y)
+        go true to other i x y = slides simulated _ _ (reaches_after simulated _ _ _ (chooses code g f there ds to other ls [] true i) x)
+        go false to other i x y = slides simulated _ _ (reaches_after simulated _ _ _ (chooses code g f there ds to other ls [] false i) y)
 
   -- ---- loops
 
@@ -281,12 +281,12 @@ module _ {globals : Globals} {program : Compiled globals} {coded : Coded program
       let grown = grown_statements globals elements result (inside view.site) body in
       let fits = d.fits in
       test_goes (point_at ls l view d.fine (room_of ls view (made_body coded view body).layout.scope.words h.full grown.words fits.room) h) condition d.first k _ (Comes simulated) Skip (Some on.0) place d.test d.test_makes on.3
-      (λ b to lead. works_behind simulated _ (place_at to ls (Truth b ∷ [])) (place_at on.0 ls (Truth b ∷ [])) (passes code g f there ds to on.0 ls (Truth b ∷ []) lead)
+      (λ b to lead. works_after simulated _ (place_at to ls (Truth b ∷ [])) (place_at on.0 ls (Truth b ∷ [])) (passes code g f there ds to on.0 ls (Truth b ∷ []) lead)
       (go b on.0 on.2 on.4 (body_lands ls view next l (Some condition) post body place mid k (on.0 + 1) on.1 h d on.5 on.6 t same r) (lands_same ls view next l on.2 mid k h same t.0 on.7 r))) where
         go : (b : Bool) (to other : ℕ) → At f.instrs to (instrs.Unless other) → Reaches' (frame (entered (blocks ls view)) (all_of body ++ Again (Repeating (Some condition) post body) ∷ k)) (place_at (to + 1) ls []) → Reaches' (frame (blocks ls view) k) (place_at other ls [])
             → Works' (if truth_in (Truth b) then body_work globals (blocks ls view) k (Repeating (Some condition) post body) body else ready (Goes (frame (blocks ls view) k))) (place_at to ls (Truth b ∷ []))
-        go true to other i x y = slides simulated _ _ (reaches_behind simulated _ _ _ (chooses code g f there ds to other ls [] true i) x)
-        go false to other i x y = slides simulated _ _ (reaches_behind simulated _ _ _ (chooses code g f there ds to other ls [] false i) y)
+        go true to other i x y = slides simulated _ _ (reaches_after simulated _ _ _ (chooses code g f there ds to other ls [] true i) x)
+        go false to other i x y = slides simulated _ _ (reaches_after simulated _ _ _ (chooses code g f there ds to other ls [] false i) y)
 
   -- after a loop's body and its post statement the code goes back to the loop's head
   pub turn_goes : (ls : Words) (view next : View) (l : Around) (condition : Option Expression) (post : Option Simple) (body : Statements) (head place : ℕ) (mid : Option ℕ) (k : List Task) → H ls view → At f.instrs place (instrs.Loop head) → Looping coded l view condition post body head mid → Together view next → variables next ≡ variables view
@@ -307,10 +307,10 @@ module _ {globals : Globals} {program : Compiled globals} {coded : Coded program
       (lands ls outer around place (Some m.0) (Turn (Repeating condition None body) ∷ k) (held_inner ls outer view inner h) m.1 (turn_sits outer next around condition None body head m.0 out k m.2 d t same (to, lead, sits))))
   again_goes ls view l condition (Some post) body place k h (outer, inner, around, next, t, same, head, out, leave, (d, turns'), is, to, lead, sits) =
       let m = subst (λ o. IfSome o (λ m. (turn : ℕ) × IsOn coded around (post_made coded outer body (Some post)).plan m (Some turn) × At f.instrs turn (instrs.Loop head))) is turns' in
-      let within = opened (behind_body coded outer body) in
-      let fine = fine_opened coded (behind_body coded outer body) (fine_body outer body d.fine) in
-      let last = behind coded within (Alone post) in
-      let u = together_behind coded within (Alone post) fine.placed.nested in
+      let within = opened (after_body coded outer body) in
+      let fine = fine_opened coded (after_body coded outer body) (fine_body outer body d.fine) in
+      let last = following coded within (Alone post) in
+      let u = together_after coded within (Alone post) fine.placed.nested in
       let tail = turn_sits outer next around condition (Some post) body head m.0 out k m.2 d t same (to, lead, sits) in
       let k' : List Task = EndBlock ∷ (Turn (Repeating condition (Some post) body) ∷ k) in
       let sits' : S within around (Some place) (Do (Alone post) ∷ k') = (

@@ -8,15 +8,15 @@ use Rattle.type_table.specs.Scopes.{Variable, Globals, Yield}
 use Rattle.typing_rules.specs.Simples.{is_declarable}
 use Rattle.typing_rules.specs.Statements.{head_simple}
 use Rattle.codegen_base.specs.declared.element.Element.{Element}
-use Rattle.codegen_base.specs.Layouts.{Layout, entering, declaring, declaring_new, declaring_all, declaring_each, behind_simple, behind_target, keeping, with_item, carried}
-use Rattle.codegen_base.specs.Generated.{Site, Made, past, followed, ended, inside, with_way, made_any, made_post, made_comm, behind_comm, item_site, within_select, unless_ended, made, made_all, made_branch, made_otherwise, made_ways, made_default, made_select, one_or_two, comm_kinds}
+use Rattle.codegen_base.specs.Layouts.{Layout, entering, declaring, declaring_new, declaring_all, declaring_each, following_simple, following_target, keeping, with_item, carried}
+use Rattle.codegen_base.specs.Generated.{Site, Made, past, followed, ended, inside, with_way, made_any, made_post, made_comm, after_comm, item_site, within_select, unless_ended, made, made_all, made_branch, made_otherwise, made_ways, made_default, made_select, one_or_two, comm_kinds}
 use Rattle.plan.specs.Plan.{reaches_end}
 
 -- the variables that were there are there, and no fewer words are taken
-pub record Grown (layout behind : Layout) : Type 0 where
+pub record Grown (layout following : Layout) : Type 0 where
   pub more : List Variable
-  pub variables : behind.scope.variables ≡ layout.scope.variables ++ more
-  pub words : layout.scope.words ≤ behind.scope.words
+  pub variables : following.scope.variables ≡ layout.scope.variables ++ more
+  pub words : layout.scope.words ≤ following.scope.words
 
 pub grown_no : (layout : Layout) → Grown layout layout
 grown_no layout = record { more = []; variables = sym (append-nil layout.scope.variables); words = omega arith }
@@ -27,8 +27,8 @@ grown_on a b c g h =
     let y = h.words in
     record { more = g.more ++ h.more; variables = h.variables ∙ ap (λ (l : List Variable). l ++ h.more) g.variables ∙ append_assoc a.scope.variables g.more h.more; words = omega (arith, x, y) }
 
-pub grown_kept : (outer behind : Layout) → behind.scope.variables ≡ outer.scope.variables → outer.scope.words ≤ behind.scope.words → Grown outer behind
-grown_kept outer behind same le = record { more = []; variables = same ∙ sym (append-nil outer.scope.variables); words = le }
+pub grown_kept : (outer following : Layout) → following.scope.variables ≡ outer.scope.variables → outer.scope.words ≤ following.scope.words → Grown outer following
+grown_kept outer following same le = record { more = []; variables = same ∙ sym (append-nil outer.scope.variables); words = le }
 
 module _ (globals : Globals) (elements : List Element) where
   grown_declaring : (kind : ValueType) (name : List ℕ) (layout : Layout) → Grown layout (declaring globals elements kind name layout)
@@ -49,7 +49,7 @@ module _ (globals : Globals) (elements : List Element) where
   grown_each kind [] layout = grown_no layout
   grown_each kind (name ∷ names) layout = grown_on layout (declaring_new globals elements kind name layout) _ (grown_new kind name layout) (grown_each kind names (declaring_new globals elements kind name layout))
 
-  pub grown_simple : (simple : Simple) (layout : Layout) → Grown layout (behind_simple globals elements simple layout)
+  pub grown_simple : (simple : Simple) (layout : Layout) → Grown layout (following_simple globals elements simple layout)
   grown_simple (Define names right) layout = grown_all names _ layout
   grown_simple (CallAlone a b) layout = grown_no layout
   grown_simple (Close a) layout = grown_no layout
@@ -65,7 +65,7 @@ module _ (globals : Globals) (elements : List Element) where
   grown_any None site = grown_no site.layout
   grown_any (Some simple) site = grown_simple simple site.layout
 
-  grown_target : (kind : ValueType) (target : Target) (layout : Layout) → Grown layout (behind_target globals elements kind target layout)
+  grown_target : (kind : ValueType) (target : Target) (layout : Layout) → Grown layout (following_target globals elements kind target layout)
   grown_target kind NoTarget layout = grown_no layout
   grown_target kind (DefineTarget name) layout = grown_new kind name layout
   grown_target kind (AssignTarget place) layout = grown_no layout
@@ -82,7 +82,7 @@ module _ (globals : Globals) (elements : List Element) where
   grown_post header site (Some simple) = (grown_simple simple (entering site.layout)).words
 
   module _ (result : Yield) where
-    pub grown_comm : (comm : Comm) (layout : Layout) → Grown layout (behind_comm globals elements result comm layout)
+    pub grown_comm : (comm : Comm) (layout : Layout) → Grown layout (after_comm globals elements result comm layout)
     grown_comm (CommSend a b) layout = grown_no layout
     grown_comm (CommReceive a) layout = grown_no layout
     grown_comm (CommDefine a b c) layout = grown_all (one_or_two globals elements result a b) (carried globals elements layout.scope c ∷ BoolType ∷ []) layout
@@ -106,18 +106,18 @@ module _ (globals : Globals) (elements : List Element) where
       grown site (For (While condition) body) = grown_kept site.layout _ refl ((grown_statements (inside site) body).words)
       grown site (For (ForClauses first condition post) body) =
           let header = made_any globals elements (inside site) first in
-          let behind = past (inside site) header in
-          let within = ended header.layout (made_all globals elements result (inside behind) body) in
+          let following = past (inside site) header in
+          let within = ended header.layout (made_all globals elements result (inside following) body) in
           let a = (grown_any first (inside site)).words in
-          let b = (grown_statements (inside behind) body).words in
-          let c = grown_post header.layout (past behind within) post in
+          let b = (grown_statements (inside following) body).words in
+          let c = grown_post header.layout (past following within) post in
           grown_kept site.layout _ refl (omega (arith, a, b, c))
       grown site (For (Range target channel) body) =
           let item = item_site globals elements result site target channel in
           let a = grown_item target channel site.layout in
           let b = (grown_statements (inside item) body).words in
           grown_kept site.layout _ refl (omega (arith, a, b))
-      grown site (Select all) = go (made_ways globals elements result (within_select globals elements result site) (λ behind. made_default globals elements result behind all) all) (grown_ways (within_select globals elements result site) (λ behind. made_default globals elements result behind all) all (λ behind. grown_default behind all)) where
+      grown site (Select all) = go (made_ways globals elements result (within_select globals elements result site) (λ following. made_default globals elements result following all) all) (grown_ways (within_select globals elements result site) (λ following. made_default globals elements result following all) all (λ following. grown_default following all)) where
         go : (o : Option Made) → IfSome o (λ m. Grown site.layout m.layout) → Grown site.layout (made_select globals elements result site all o).layout
         go None g = grown_no site.layout
         go (Some m) g = g
@@ -135,11 +135,11 @@ module _ (globals : Globals) (elements : List Element) where
       pub grown_branch : (site : Site) (branch : Branch) → Grown site.layout (made_branch globals elements result site branch).layout
       grown_branch site (Conditional head condition body otherwise) =
           let first = made_any globals elements (inside site) (head_simple head) in
-          let behind = past (inside site) first in
-          let so = ended first.layout (made_all globals elements result (inside behind) body) in
+          let following = past (inside site) first in
+          let so = ended first.layout (made_all globals elements result (inside following) body) in
           let a = (grown_any (head_simple head) (inside site)).words in
-          let b = (grown_statements (inside behind) body).words in
-          let c = grown_otherwise behind condition so otherwise in
+          let b = (grown_statements (inside following) body).words in
+          let c = grown_otherwise following condition so otherwise in
           grown_kept site.layout _ refl (omega (arith, a, b, c))
 
       pub grown_otherwise : (site : Site) (condition : Expression) (so : Made) (otherwise : Otherwise) → so.layout.scope.words ≤ (made_otherwise globals elements result site condition so otherwise).layout.scope.words
@@ -147,7 +147,7 @@ module _ (globals : Globals) (elements : List Element) where
       grown_otherwise site condition so (ElseBlock body) = (grown_statements (inside (past site so)) body).words
       grown_otherwise site condition so (ElseIf branch) = (grown_branch (past site so) branch).words
 
-      pub grown_ways : (site : Site) (default : Site → Option Made) (clauses : Clauses) → ((behind : Site) → IfSome (default behind) (λ m. Grown behind.layout m.layout)) → IfSome (made_ways globals elements result site default clauses) (λ m. Grown site.layout m.layout)
+      pub grown_ways : (site : Site) (default : Site → Option Made) (clauses : Clauses) → ((following : Site) → IfSome (default following) (λ m. Grown following.layout m.layout)) → IfSome (made_ways globals elements result site default clauses) (λ m. Grown site.layout m.layout)
       grown_ways site default NoClause d = d site
       grown_ways site default (Clause None body more) d = grown_ways site default more d
       grown_ways site default (Clause (Some comm) body more) d =

@@ -14,9 +14,9 @@ use Rattle.codegen_base.specs.Generated.{Made, nothing, past, inside, loop, test
 use Rattle.plan.proofs.Words.{Words}
 use Rattle.plan.proofs.Places.{at_once}
 use Rattle.codegen_base.proofs.Typing.{Free}
-use Rattle.codegen_follows.proofs.Stands.{Around, View, variables, Together, Inner, Prints, opened, within, IsOn, LeadsOn, Fine, made_body, behind, behind_body, post_made, DeclaresNone, SimpleMakes, AllMake, Doing, Looping, Sits, OneMakes}
+use Rattle.codegen_follows.proofs.Stands.{Around, View, variables, Together, Inner, Prints, opened, within, IsOn, LeadsOn, Fine, made_body, following, after_body, post_made, DeclaresNone, SimpleMakes, AllMake, Doing, Looping, Sits, OneMakes}
 use Rattle.codegen_follows.proofs.Grown.{grown_statements, grown_post}
-use Rattle.codegen_follows.proofs.Begun.{prints_front, prints_back, together_behind, fine_opened, inner_opened, seen_opened}
+use Rattle.codegen_follows.proofs.Begun.{prints_front, prints_back, together_after, fine_opened, inner_opened, seen_opened}
 use Rattle.codegen_follows.proofs.Follows.{lands, map_reached, end_sits, inner_same, repeats_goes, sits_here}
 use Rattle.codegen_follows.proofs.Outers.{test_same}
 use Rattle.codegen_follows.proofs.Simples.{simple_same}
@@ -31,7 +31,7 @@ no_prints code first n table e = absurd cc
 module _ {globals : Globals} {program : Compiled globals} {coded : Coded program} (simulated : Simulated coded) where
   open program use {elements, code, wide as all}
   open coded use {function as f, number as g, there, result}
-  open simulated use {running, running.{context, context.{callers as ds}}, fine_behind, sitting}
+  open simulated use {running, running.{context, context.{callers as ds}}, fine_following, sitting}
 
   abbrev structs : Structs
   structs = globals.structs
@@ -58,11 +58,11 @@ module _ {globals : Globals} {program : Compiled globals} {coded : Coded program
   Does l view condition post body place mid = Looping coded l view condition post body place mid
 
   -- a post statement that declares nothing may be in a block of its own
-  post_good : (view : View) (body : Statements) (post : Option Simple) (first : ℕ) → IfSome post DeclaresNone → Free (IfSimpleHas globals view.checked first post) → IfSome post (λ s. Free (SimpleHas globals (scope_entered (behind_body coded view body).checked) first s))
+  post_good : (view : View) (body : Statements) (post : Option Simple) (first : ℕ) → IfSome post DeclaresNone → Free (IfSimpleHas globals view.checked first post) → IfSome post (λ s. Free (SimpleHas globals (scope_entered (after_body coded view body).checked) first s))
   post_good view body None first none free = tt
   post_good view body (Some simple) first none free =
-      let s = scope_entered (behind_body coded view body).checked in
-      λ flaw h. free flaw (simple_same globals view.checked.variables s.outer view.checked.outer s.words view.checked.words simple first flaw none h)
+      let s = scope_entered (after_body coded view body).checked in
+      λ violation h. free violation (simple_same globals view.checked.variables s.outer view.checked.outer s.words view.checked.words simple first violation none h)
 
   test_good : (checked : Scope) (condition : Option Expression) (first : ℕ) → Free (IfTestHas globals checked first condition) → IfSome condition (λ c. Free (TestHas globals checked first c))
   test_good checked None first free = tt
@@ -88,7 +88,7 @@ module _ {globals : Globals} {program : Compiled globals} {coded : Coded program
   -- the loop after the first statement of a for, whose header has these variables
   clauses_loop : (view : View) (l : Around) (header : Made) (condition : Option Expression) (post : Option Simple) (body : Statements) (first second third : ℕ) (m : ℕ) (mid : Option ℕ) (checked : Scope) → let v : View = record { site = past (inside view.site) header; begins = (opened view).begins; checked = checked } in Fine coded v
       → IfSome condition (λ c. Free (TestHas globals checked first c)) → Free (StatementsHave (within coded true true) (scope_entered checked) second body)
-      → IfSome post (λ s. Free (SimpleHas globals (scope_entered (behind_body coded v body).checked) third s))
+      → IfSome post (λ s. Free (SimpleHas globals (scope_entered (after_body coded v body).checked) third s))
       → IfSome condition (OneMakes globals elements) → AllMake globals elements body → IfSome post (SimpleMakes globals elements)
       → IsOn coded l (loop (test_plan globals elements header.layout condition) (made_body coded v body).plan (post_made coded v body post).plan) m mid
       → Prints code view.site.prints (header.prints ++ ((made_body coded v body).prints ++ (post_made coded v body post).prints)) → (post_made coded v body post).layout.scope.words ≤ length f.locals
@@ -97,8 +97,8 @@ module _ {globals : Globals} {program : Compiled globals} {coded : Coded program
       let v : View = record { site = past (inside view.site) header; begins = (opened view).begins; checked = checked } in
       let one = made_body coded v body in
       let turn = post_made coded v body post in
-      let behind-tables = prints_back code view.site.prints header.prints (one.prints ++ turn.prints) tables in
-      let more = grown_post globals elements v.site.layout (behind_body coded v body).site post in
+      let following-tables = prints_back code view.site.prints header.prints (one.prints ++ turn.prints) tables in
+      let more = grown_post globals elements v.site.layout (after_body coded v body).site post in
       record {
         first = first;
         second = second;
@@ -111,8 +111,8 @@ module _ {globals : Globals} {program : Compiled globals} {coded : Coded program
         makes = makes;
         post_makes = post-makes;
         on = on;
-        fits = record { tables = prints_front code v.site.prints one.prints turn.prints behind-tables; room = omega (arith, more, room) };
-        post_fits = record { tables = prints_back code v.site.prints one.prints turn.prints behind-tables; room = room };
+        fits = record { tables = prints_front code v.site.prints one.prints turn.prints following-tables; room = omega (arith, more, room) };
+        post_fits = record { tables = prints_back code v.site.prints one.prints turn.prints following-tables; room = room };
       }
 
   abbrev Doing' : Around → View → ForHead → Statements → ℕ → Option ℕ → Type 0
@@ -128,7 +128,7 @@ module _ {globals : Globals} {program : Compiled globals} {coded : Coded program
         third = 0;
         fine = d.fine;
         test = tt;
-        good = λ flaw x. d.good flaw (inr x);
+        good = λ violation x. d.good violation (inr x);
         after_good = tt;
         test_makes = tt;
         makes = d.makes.1;
@@ -148,8 +148,8 @@ module _ {globals : Globals} {program : Compiled globals} {coded : Coded program
         second = _;
         third = 0;
         fine = d.fine;
-        test = λ flaw x. d.good flaw (inl (test_same globals s.variables s.outer (length s.variables) s.words s.words condition d.first flaw x));
-        good = λ flaw x. d.good flaw (inr x);
+        test = λ violation x. d.good violation (inl (test_same globals s.variables s.outer (length s.variables) s.words s.words condition d.first violation x));
+        good = λ violation x. d.good violation (inr x);
         after_good = tt;
         test_makes = d.makes.0;
         makes = d.makes.1;
@@ -165,27 +165,27 @@ module _ {globals : Globals} {program : Compiled globals} {coded : Coded program
       let inside' = opened view in
       let fine = fine_opened coded view d.fine in
       let header = made_simple globals elements inside'.site simple in
-      let v = behind coded inside' (Alone simple) in
-      let u = together_behind coded inside' (Alone simple) fine.placed.nested in
+      let v = following coded inside' (Alone simple) in
+      let u = together_after coded inside' (Alone simple) fine.placed.nested in
       let one = made_body coded v body in
       let turn = post_made coded v body post in
       let a = (grown_statements globals elements result (inside v.site) body).words in
-      let b = grown_post globals elements v.site.layout (behind_body coded v body).site post in
+      let b = grown_post globals elements v.site.layout (after_body coded v body).site post in
       let most = d.fits.room in
       let doing : Doing coded l inside' (Alone simple) place d.on.0 = record {
         first = d.first;
         breaks = d.breaks;
         continues = d.continues;
         fine = fine;
-        good = λ flaw x. d.good flaw (inl (inl x));
+        good = λ violation x. d.good violation (inl (inl x));
         makes = d.makes.0.0;
         on = d.on.1;
         fits = record { tables = prints_front code view.site.prints header.prints (one.prints ++ turn.prints) d.fits.tables; room = omega (arith, a, b, most) };
       } in
-      let fine' = fine_behind inside' (Alone simple) d.first d.breaks d.continues fine (λ flaw x. d.good flaw (inl (inl x))) d.makes.0.0 in
+      let fine' = fine_following inside' (Alone simple) d.first d.breaks d.continues fine (λ violation x. d.good violation (inl (inl x))) d.makes.0.0 in
       let looping : (m : ℕ) → IsOn coded l (loop (test_plan globals elements header.layout condition) one.plan turn.plan) m mid → Does l v condition post body m mid = λ m on.
-      clauses_loop view l header condition post body _ _ _ m mid v.checked fine' (test_good v.checked condition _ (λ flaw x. d.good flaw (inl (inr (inl x))))) (λ flaw x. d.good flaw (inr x))
-      (post_good v body post _ d.makes.0.3 (λ flaw x. d.good flaw (inl (inr (inr x))))) d.makes.0.1 d.makes.1 d.makes.0.2 on d.fits.tables most in
+      clauses_loop view l header condition post body _ _ _ m mid v.checked fine' (test_good v.checked condition _ (λ violation x. d.good violation (inl (inr (inl x))))) (λ violation x. d.good violation (inr x))
+      (post_good v body post _ d.makes.0.3 (λ violation x. d.good violation (inl (inr (inr x))))) d.makes.0.1 d.makes.1 d.makes.0.2 on d.fits.tables most in
       let k' : List Task = Head (Repeating condition post body) ∷ (EndBlock ∷ k) in slides simulated _ _ (
       subst (λ b. Reaches' (frame b (Do (Alone simple) ∷ k')) (place_at place ls [])) (seen_opened coded ls view)
       (sits_here simulated inside' l place ls (Do (Alone simple) ∷ k') (record { holding = h.holding; full = h.full }) (
@@ -209,8 +209,8 @@ module _ {globals : Globals} {program : Compiled globals} {coded : Coded program
       let one = made_body coded v body in
       let turn = post_made coded v body post in
       let looping : (m : ℕ) → IsOn coded l (loop (test_plan globals elements header.layout condition) one.plan turn.plan) m mid → Does l v condition post body m mid = λ m on.
-      clauses_loop view l header condition post body _ _ _ m mid v.checked fine' (test_good v.checked condition _ (λ flaw x. d.good flaw (inl (inr (inl x))))) (λ flaw x. d.good flaw (inr x))
-      (post_good v body post _ d.makes.0.3 (λ flaw x. d.good flaw (inl (inr (inr x))))) d.makes.0.1 d.makes.1 d.makes.0.2 on d.fits.tables d.fits.room in
+      clauses_loop view l header condition post body _ _ _ m mid v.checked fine' (test_good v.checked condition _ (λ violation x. d.good violation (inl (inr (inl x))))) (λ violation x. d.good violation (inr x))
+      (post_good v body post _ d.makes.0.3 (λ violation x. d.good violation (inl (inr (inr x))))) d.makes.0.1 d.makes.1 d.makes.0.2 on d.fits.tables d.fits.room in
       let k' : List Task = Head (Repeating condition post body) ∷ (EndBlock ∷ k) in slides simulated _ _ (
       subst (λ b. Reaches' (frame b k') (place_at place ls [])) (seen_opened coded ls view)
       (lands simulated ls v l place d.on.0 k' (record { holding = h.holding; full = h.full }) d.on.1

@@ -12,15 +12,15 @@ use Rattle.codegen_base.proofs.Gave.{Follows}
 use Rattle.codegen_base.proofs.Near.{Near, AllEntered, AllStarted, Lands', context, near_goes, runs}
 use Rattle.codegen_base.proofs.Running.{Compiled, Coded}
 use Rattle.codegen_follows.proofs.Stands.{Around, View, Sits}
-use Rattle.codegen_follows.proofs.Begun.{FineBehind}
-use Rattle.codegen_follows.proofs.Simulated.{Simulated, Held, blocks_of, Works, at, works_behind}
+use Rattle.codegen_follows.proofs.Begun.{FineAfter}
+use Rattle.codegen_follows.proofs.Simulated.{Simulated, Held, blocks_of, Works, at, works_after}
 use Rattle.codegen_follows.proofs.Step.{sits_follow}
 
 module _ (file : File) (program : Compiled (globals file)) where
   open program use {code}
 
   -- the code of a function, called by `callers`, comes without a cost to a pc where it sits
-  pub record SitsBehind (n : ℕ) (top : Frame) (callers d : CodeFrames) : Type 0 where
+  pub record SitsAfter (n : ℕ) (top : Frame) (callers d : CodeFrames) : Type 0 where
     pub coded : Coded program
     pub number_is : coded.number ≡ n
     pub view : View
@@ -32,8 +32,8 @@ module _ (file : File) (program : Compiled (globals file)) where
     pub held : Held coded locals view
     pub sits : Sits coded view around (Some place) top.tasks
 
-  slips_behind : (n : ℕ) (top : Frame) (callers c d : CodeFrames) → Slips (code_next code) c d → SitsBehind n top callers d → SitsBehind n top callers c
-  slips_behind n top callers c d slips sat = record {
+  slips_after : (n : ℕ) (top : Frame) (callers c d : CodeFrames) → Slips (code_next code) c d → SitsAfter n top callers d → SitsAfter n top callers c
+  slips_after n top callers c d slips sat = record {
     coded = sat.coded;
     number_is = sat.number_is;
     view = sat.view;
@@ -46,23 +46,23 @@ module _ (file : File) (program : Compiled (globals file)) where
     sits = sat.sits;
   }
 
-  module _ (fine_behind : (coded : Coded program) → FineBehind coded) (all_entered : AllEntered file program SitsBehind) (all_started : AllStarted file program SitsBehind) where
+  module _ (fine_following : (coded : Coded program) → FineAfter coded) (all_entered : AllEntered file program SitsAfter) (all_started : AllStarted file program SitsAfter) where
     abbrev simulated : (coded : Coded program) → CodeFrames → Simulated coded
     simulated coded callers = record {
-      running = runs file program SitsBehind all_entered all_started coded callers;
-      fine_behind = fine_behind coded;
-      Sat = λ top d. SitsBehind coded.number top callers d;
-      back = λ top c d slips sat. slips_behind coded.number top callers c d slips sat;
+      running = runs file program SitsAfter all_entered all_started coded callers;
+      fine_following = fine_following coded;
+      Sat = λ top d. SitsAfter coded.number top callers d;
+      back = λ top c d slips sat. slips_after coded.number top callers c d slips sat;
       sitting = λ view l place ls tasks held sits. record { coded = coded; number_is = refl; view = view; around = l; place = place; locals = ls; blocks_are = refl; slips = here; held = held; sits = sits };
     }
 
-    sat_follows : (n : ℕ) (top : Frame) (callers c : CodeFrames) → SitsBehind n (frame top.blocks top.tasks) callers c → Follows (context file program SitsBehind callers) (tasks_work (globals file) top.blocks top.tasks) (Lands' file program SitsBehind n callers) c
+    sat_follows : (n : ℕ) (top : Frame) (callers c : CodeFrames) → SitsAfter n (frame top.blocks top.tasks) callers c → Follows (context file program SitsAfter callers) (tasks_work (globals file) top.blocks top.tasks) (Lands' file program SitsAfter n callers) c
     sat_follows n top callers c sat =
         let s = simulated sat.coded callers in
         let place = at s sat.place sat.locals [] in
-        subst (λ (m : ℕ). Follows (context file program SitsBehind callers) (tasks_work (globals file) top.blocks top.tasks) (Lands' file program SitsBehind m callers) c) sat.number_is
-        (works_behind s (tasks_work (globals file) top.blocks top.tasks) c place sat.slips
+        subst (λ (m : ℕ). Follows (context file program SitsAfter callers) (tasks_work (globals file) top.blocks top.tasks) (Lands' file program SitsAfter m callers) c) sat.number_is
+        (works_after s (tasks_work (globals file) top.blocks top.tasks) c place sat.slips
         (subst (λ (b : Blocks). Works s (tasks_work (globals file) b top.tasks) place) (sym sat.blocks_are) (sits_follow s top.tasks sat.locals sat.view sat.around sat.place sat.held sat.sits)))
 
-    pub near_match : (s : Frames) (d : CodeFrames) → Near file program SitsBehind s d → Matches (source_kind file) (code_kind code) (Near file program SitsBehind) s (source_next file s) d
-    near_match s d near = near_goes file program SitsBehind sat_follows s d near
+    pub near_match : (s : Frames) (d : CodeFrames) → Near file program SitsAfter s d → Matches (source_kind file) (code_kind code) (Near file program SitsAfter) s (source_next file s) d
+    near_match s d near = near_goes file program SitsAfter sat_follows s d near

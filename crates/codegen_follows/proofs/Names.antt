@@ -17,7 +17,7 @@ use Rattle.plan.proofs.Words.{Words}
 use Rattle.codegen_base.proofs.Alike.{last_append, drop_append, there_alike, own_alike}
 use Rattle.codegen_base.proofs.Likeness.{kinds_long}
 use Rattle.codegen_base.proofs.Seen.{seen_one, seen, last_split, seen_found}
-use Rattle.codegen_base.proofs.Assigned.{IsSpot, behind_destination, behind_all, AreSpots}
+use Rattle.codegen_base.proofs.Assigned.{IsSpot, after_destination, following_all, AreSpots}
 use Rattle.codegen_follows.proofs.Paths.{held_whole}
 use Rattle.codegen_follows.proofs.Stands.{View, scope_of, variables, Fine}
 use Rattle.codegen_base.proofs.Running.{Compiled, Coded}
@@ -73,7 +73,7 @@ module _ {globals : Globals} {program : Compiled globals} (coded : Coded program
   -- the spot of a name's value, and which variables are there after it
   name_is : (layout : Layout) (name : List ℕ) (given taken : ValueType) → own_variable layout.scope name ≡ own_variable (scope_of view) name → NameSuits (own_variable (scope_of view) name) given taken
       → IsSpot structs layout.scope (defined globals blocks name given) taken (name_spot globals elements layout name given)
-      × (behind_destination structs (defined globals blocks name given) layout.scope ≡ (declaring_new globals elements given name layout).scope)
+      × (after_destination structs (defined globals blocks name given) layout.scope ≡ (declaring_new globals elements given name layout).scope)
   name_is layout name given taken same suits =
       go (is_blank name) (own_variable s name) (in_block (innermost blocks) name)
       (λ blank. own_blank s name blank)
@@ -88,7 +88,7 @@ module _ {globals : Globals} {program : Compiled globals} (coded : Coded program
         Goal : Bool → Option Variable → Option Binding → Type 0
         Goal b o there =
             IsSpot structs s (if b then Nowhere else (if is_some there then Into name (whole (kind_of there)) else New name given)) taken (if not b && is_none o then Local s.words (width globals elements s given) else own_spot globals elements s given o)
-            × (behind_destination structs (if b then Nowhere else (if is_some there then Into name (whole (kind_of there)) else New name given)) s ≡ (if not b && is_none o then declaring globals elements given name layout else layout).scope)
+            × (after_destination structs (if b then Nowhere else (if is_some there then Into name (whole (kind_of there)) else New name given)) s ≡ (if not b && is_none o then declaring globals elements given name layout else layout).scope)
 
         dropped : taken ≡ given → Dropped (width globals elements s given) ≡ Dropped (words_in structs taken)
         dropped e = ap Dropped (kinds_long structs elements given ∙ ap (words_in structs) (sym e))
@@ -141,7 +141,7 @@ module _ {globals : Globals} {program : Compiled globals} (coded : Coded program
 
   names_from : (names : List (List ℕ)) (layout : Layout) (types others : List ValueType) → layout.scope.outer ≤ length layout.scope.variables → AllSame layout.scope names → has_twice names ≡ false → AllNamesSuit names types others
       → AreSpots structs all layout.scope (all_defined globals blocks names types) others (name_spots globals elements layout names types)
-      × (behind_all structs all (all_defined globals blocks names types) layout.scope ≡ (declaring_all globals elements names types layout).scope)
+      × (following_all structs all (all_defined globals blocks names types) layout.scope ≡ (declaring_all globals elements names types layout).scope)
   names_from [] layout [] [] fits same once suit = (tt, refl)
   names_from [] layout [] (o ∷ others) fits same once suit = absurd suit
   names_from [] layout (x ∷ types) others fits same once suit = absurd suit
@@ -154,12 +154,12 @@ module _ {globals : Globals} {program : Compiled globals} (coded : Coded program
       let s = same_next layout name names given fits n.0 same.1 in
       let more = names_from names next types others s.0 s.1 n.1 suit.1 in (
         (one.0, subst (λ x. AreSpots structs all x (all_defined globals blocks names types) others (name_spots globals elements next names types)) (sym one.1) more.0),
-        ap (behind_all structs all (all_defined globals blocks names types)) one.1 ∙ more.1,
+        ap (following_all structs all (all_defined globals blocks names types)) one.1 ∙ more.1,
       )
 
   pub names_are : (names : List (List ℕ)) (types others : List ValueType) → has_twice names ≡ false → AllNamesSuit names types others
       → AreSpots structs all (scope_of view) (all_defined globals blocks names types) others (name_spots globals elements view.site.layout names types)
-      × (behind_all structs all (all_defined globals blocks names types) (scope_of view) ≡ (declaring_all globals elements names types view.site.layout).scope)
+      × (following_all structs all (all_defined globals blocks names types) (scope_of view) ≡ (declaring_all globals elements names types view.site.layout).scope)
   names_are names types others once suit = names_from names view.site.layout types others fine.alike.fit (same_here names) once suit
 
   -- ---- names that are new

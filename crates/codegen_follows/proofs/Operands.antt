@@ -78,7 +78,7 @@ module _ {globals : Globals} {program : Compiled globals} {coded : Coded program
 
   -- an expression of a clause is one outside of its block
   outside : (e : Expression) (first n : ℕ) → Free (ExpressionHas globals (entered (wide n)) first e) → Free (ExpressionHas globals view.checked first e)
-  outside e first n free = let s = view.checked in λ flaw x. free flaw (has_same globals s.variables s.outer (length s.variables) s.words n e first flaw x)
+  outside e first n free = let s = view.checked in λ violation x. free violation (has_same globals s.variables s.outer (length s.variables) s.words n e first violation x)
 
   worth_outside : (e : Expression) (n : ℕ) → worth globals view.checked e ≡ worth globals (entered (wide n)) e
   worth_outside e n = let s = view.checked in worth_same globals s.variables s.outer (length s.variables) s.words n e
@@ -95,14 +95,14 @@ module _ {globals : Globals} {program : Compiled globals} {coded : Coded program
     first = first;
     free = outside e first n free;
     makes = makes;
-    channel = channel_there point e first (outside e first n free) makes (λ flaw x. channel flaw (subst (λ o. ChannelHas o (nodes_of first e) flaw) (worth_outside e n) x));
+    channel = channel_there point e first (outside e first n free) makes (λ violation x. channel violation (subst (λ o. ChannelHas o (nodes_of first e) violation) (worth_outside e n) x));
   }
 
   pub comm_waited : (comm : Comm) (first n : ℕ) → Free (SimpleHas globals (entered (wide n)) first (comm_simple comm)) → SimpleMakes globals elements (comm_simple comm) → IsWaited (comm_channel comm)
-  comm_waited (CommSend to item) first n free makes = waited to first n (λ flaw x. free flaw (inl x)) makes.0 (λ flaw x. free flaw (inr (inr (inl x))))
-  comm_waited (CommReceive e) first n free makes = waited e first n (λ flaw x. free flaw (inl x)) makes (λ flaw x. free flaw (inr (inl x)))
-  comm_waited (CommDefine item ok e) first n free makes = waited e first n (λ flaw x. free flaw (inl (inl (inl x)))) makes.0 (λ flaw x. free flaw (inl (inl (inr (inl x)))))
-  comm_waited (CommAssign item ok e) first n free makes = waited e (first + length (and_also item ok)) n (λ flaw x. free flaw (inr (inl (inl (inl x))))) makes.0 (λ flaw x. free flaw (inr (inl (inl (inr (inl x))))))
+  comm_waited (CommSend to item) first n free makes = waited to first n (λ violation x. free violation (inl x)) makes.0 (λ violation x. free violation (inr (inr (inl x))))
+  comm_waited (CommReceive e) first n free makes = waited e first n (λ violation x. free violation (inl x)) makes (λ violation x. free violation (inr (inl x)))
+  comm_waited (CommDefine item ok e) first n free makes = waited e first n (λ violation x. free violation (inl (inl (inl x)))) makes.0 (λ violation x. free violation (inl (inl (inr (inl x)))))
+  comm_waited (CommAssign item ok e) first n free makes = waited e (first + length (and_also item ok)) n (λ violation x. free violation (inr (inl (inl (inl x))))) makes.0 (λ violation x. free violation (inr (inl (inl (inr (inl x))))))
 
   -- ---- what a clause pushes
 
@@ -132,11 +132,11 @@ module _ {globals : Globals} {program : Compiled globals} {coded : Coded program
       let second = first + expression_size e in
       let w = comm_waited (CommSend e value) first n free makes in
       let c = w.channel in
-      let good = outside value second n (λ flaw x. free flaw (inr (inl x))) in
+      let good = outside value second n (λ violation x. free violation (inr (inl x))) in
       let v = worth_there globals view.checked program.types_known (variables_known view.checked scope fine.alike fine.placed.known) value second good in
       let fit : Fits v.0 kind = subst (Fits v.0) (sym c.carries) (fits v.0 c.element (nodes_of second value) (nodes_end second value)
-      (λ flaw x. free flaw (inr (inr (inr (inr (subst (λ o. ValueHas o (element_of (worth globals (entered (wide n)) e)) (nodes_of second value) flaw) (sym v.1 ∙ worth_outside value n)
-      (subst (λ o. ValueHas (Some v.0) (element_of o) (nodes_of second value) flaw) (sym c.is ∙ worth_outside e n) x)))))))) in
+      (λ violation x. free violation (inr (inr (inr (inr (subst (λ o. ValueHas o (element_of (worth globals (entered (wide n)) e)) (nodes_of second value) violation) (sym v.1 ∙ worth_outside value n)
+      (subst (λ o. ValueHas (Some v.0) (element_of o) (nodes_of second value) violation) (sym c.is ∙ worth_outside e n) x)))))))) in
       let fit-words : Value → Value = as_kind structs (element_kind globals blocks e) in
       let L = OfferedAt (CommSend e value) rest stack in
       channel_goes point e w.first w.free w.makes c k (λ q. and_then (item_in globals blocks k e value) (λ words. ready (sends q words))) L (pushes globals elements scope kind value rest) mid place stack on (λ q to on1.
@@ -196,14 +196,14 @@ module _ {globals : Globals} {program : Compiled globals} {coded : Coded program
   clauses_go NoClause breaks continues n first free makes rest place stack on =
       stays context [] (AllAt NoClause rest stack) (place_at place ls stack) ([], place, (λ places le. (refl, refl)), ap (λ (x : Words). place_at place ls x) (sym (append-nil stack)), on)
   clauses_go (Clause None body more) breaks continues n first free makes rest place stack on =
-      clauses_go more breaks continues (after_all globals (entered (wide n)) body).words (first + if_any comm_size None + statements_size body + 1) (λ flaw x. free flaw (inr (inr x))) makes.2 rest place stack on
+      clauses_go more breaks continues (after_all globals (entered (wide n)) body).words (first + if_any comm_size None + statements_size body + 1) (λ violation x. free violation (inr (inr x))) makes.2 rest place stack on
   clauses_go (Clause (Some comm) body more) breaks continues n first free makes rest place stack on =
       let others = source_cases globals blocks k more in
-      let behind = pushes_clauses globals elements result view.site.layout more rest in
+      let following = pushes_clauses globals elements result view.site.layout more rest in
       let L = AllAt (Clause (Some comm) body more) rest stack in
-      follows_then context (source_case globals blocks k comm) (λ c. and_then others (λ cases. ready (c ∷ cases))) (OfferedAt comm behind stack) L (place_at place ls stack)
-      (comm_offered comm first n (λ flaw x. free flaw (inl x)) makes.0 behind place stack on)
+      follows_then context (source_case globals blocks k comm) (λ c. and_then others (λ cases. ready (c ∷ cases))) (OfferedAt comm following stack) L (place_at place ls stack)
+      (comm_offered comm first n (λ violation x. free violation (inl x)) makes.0 following place stack on)
       (λ c d m. subst (λ x. Follows context (and_then others (λ cases. ready (c ∷ cases))) L x) (sym m.3)
       (follows_then context others (λ cases. ready (c ∷ cases)) (AllAt more rest (stack ++ m.0)) L (place_at m.1 ls (stack ++ m.0))
-      (clauses_go more breaks continues (after_all globals (after_any globals (entered (wide n)) (Some (comm_simple comm))) body).words (first + comm_size comm + statements_size body + 1) (λ flaw x. free flaw (inr (inr x))) makes.2 rest m.1 (stack ++ m.0) m.4)
+      (clauses_go more breaks continues (after_all globals (after_any globals (entered (wide n)) (Some (comm_simple comm))) body).words (first + comm_size comm + statements_size body + 1) (λ violation x. free violation (inr (inr x))) makes.2 rest m.1 (stack ++ m.0) m.4)
       (λ cases e n'. stays context (c ∷ cases) L e (m.0 ++ n'.0, n'.1, all_offered comm body more m.0 n'.0 c cases m.2 n'.2, n'.3 ∙ ap (λ (x : Words). place_at n'.1 ls x) (append_assoc stack m.0 n'.0), n'.4))))

@@ -2,9 +2,9 @@
 use Rattle.std.proofs.Common.{◌≡◌, ℕ, ◌+◌, List, [], ◌∷◌, Option, Some, None, refl, ap, ◌∙◌, subst, inl, inr, option_map}
 use Rattle.std.specs.Prelude.{option_and_then}
 use Rattle.std.specs.Result.{result_ok}
-use Rattle.syntax.specs.Tree.{Expression, Integer, Named, Parenthesized, Selection, Composite, Unary, Binary, Call, Receive, Make, MakeSized, Length, Capacity, TypeExpression, NamedType, ParenthesizedType, Channel, Expressions, NoMore, Behind, expressions_in}
+use Rattle.syntax.specs.Tree.{Expression, Integer, Named, Parenthesized, Selection, Composite, Unary, Binary, Call, Receive, Make, MakeSized, Length, Capacity, TypeExpression, NamedType, ParenthesizedType, Channel, Expressions, NoMore, Following, expressions_in}
 use Rattle.syntax.specs.Measures.{expression_size, type_size}
-use Rattle.typing_rules.specs.declared.flaw.Flaw.{Flaw}
+use Rattle.typing_rules.specs.declared.violation.Violation.{Violation}
 use Rattle.type_table.specs.Types.{ValueType, ChannelType}
 use Rattle.type_table.specs.Scopes.{Variable, Scope, Globals, type_in}
 use Rattle.typing_rules.specs.Worths.{selected_worth, unary_worth, binary_worth, literal_struct, worth, Typed, element_of}
@@ -40,65 +40,65 @@ module _ (globals : Globals) (variables : List Variable) (a b n m : ℕ) where
   worth_same (Length channel) = refl
   worth_same (Capacity channel) = refl
 
-  pub fail_same : (es : List Expression) (kinds : List (Option ValueType)) (first : ℕ) (flaw : Flaw) → ValuesFail globals one first es kinds flaw → ValuesFail globals other first es kinds flaw
-  fail_same [] kinds first flaw h = h
-  fail_same (e ∷ es) [] first flaw h = h
-  fail_same (e ∷ es) (kind ∷ kinds) first flaw (inl h) = inl (subst (λ o. ValueHas o kind (nodes_of first e) flaw) (worth_same e) h)
-  fail_same (e ∷ es) (kind ∷ kinds) first flaw (inr h) = inr (fail_same es kinds (first + expression_size e) flaw h)
+  pub fail_same : (es : List Expression) (kinds : List (Option ValueType)) (first : ℕ) (violation : Violation) → ValuesFail globals one first es kinds violation → ValuesFail globals other first es kinds violation
+  fail_same [] kinds first violation h = h
+  fail_same (e ∷ es) [] first violation h = h
+  fail_same (e ∷ es) (kind ∷ kinds) first violation (inl h) = inl (subst (λ o. ValueHas o kind (nodes_of first e) violation) (worth_same e) h)
+  fail_same (e ∷ es) (kind ∷ kinds) first violation (inr h) = inr (fail_same es kinds (first + expression_size e) violation h)
 
-  fields_same : (es : List Expression) (kinds : List (Option ValueType)) (first end : ℕ) (flaw : Flaw) → FieldsHave globals one first es kinds end flaw → FieldsHave globals other first es kinds end flaw
-  fields_same [] kinds first end flaw h = h
-  fields_same (e ∷ es) kinds first end flaw (inl h) = inl h
-  fields_same (e ∷ es) kinds first end flaw (inr h) = inr (fail_same (e ∷ es) kinds first flaw h)
+  fields_same : (es : List Expression) (kinds : List (Option ValueType)) (first end : ℕ) (violation : Violation) → FieldsHave globals one first es kinds end violation → FieldsHave globals other first es kinds end violation
+  fields_same [] kinds first end violation h = h
+  fields_same (e ∷ es) kinds first end violation (inl h) = inl h
+  fields_same (e ∷ es) kinds first end violation (inr h) = inr (fail_same (e ∷ es) kinds first violation h)
 
-  literal_same : (o : Option ℕ) (es : List Expression) (first end : ℕ) (flaw : Flaw) → LiteralHas globals one o first es end flaw → LiteralHas globals other o first es end flaw
-  literal_same None es first end flaw h = h
-  literal_same (Some number) es first end flaw h = fields_same es _ first end flaw h
+  literal_same : (o : Option ℕ) (es : List Expression) (first end : ℕ) (violation : Violation) → LiteralHas globals one o first es end violation → LiteralHas globals other o first es end violation
+  literal_same None es first end violation h = h
+  literal_same (Some number) es first end violation h = fields_same es _ first end violation h
 
-  pub callee_same : (c : Callee) (first : ℕ) (es : List Expression) (end : ℕ) (flaw : Flaw) → CalleeHas globals one c first es end flaw → CalleeHas globals other c first es end flaw
-  callee_same NotDeclared first es end flaw h = h
-  callee_same NoFunction first es end flaw h = h
-  callee_same (IsFunction number) first es end flaw (inl h) = inl h
-  callee_same (IsFunction number) first es end flaw (inr h) = inr (fail_same es _ first flaw h)
+  pub callee_same : (c : Callee) (first : ℕ) (es : List Expression) (end : ℕ) (violation : Violation) → CalleeHas globals one c first es end violation → CalleeHas globals other c first es end violation
+  callee_same NotDeclared first es end violation h = h
+  callee_same NoFunction first es end violation h = h
+  callee_same (IsFunction number) first es end violation (inl h) = inl h
+  callee_same (IsFunction number) first es end violation (inr h) = inr (fail_same es _ first violation h)
 
   mutual
-    pub has_same : (e : Expression) (first : ℕ) (flaw : Flaw) → ExpressionHas globals one first e flaw → ExpressionHas globals other first e flaw
-    has_same (Integer value) first flaw h = h
-    has_same (Named name) first flaw h = h
-    has_same (Parenthesized inner) first flaw h = has_same inner first flaw h
-    has_same (Selection whole field) first flaw (inl h) = inl (has_same whole first flaw h)
-    has_same (Selection whole field) first flaw (inr h) = inr (subst (λ o. SelectionHas globals o field (nodes_of first whole) (first + expression_size (Selection whole field)) flaw) (worth_same whole) h)
-    has_same (Composite name values trailing) first flaw (inl h) = inl (have_same values first flaw h)
-    has_same (Composite name values trailing) first flaw (inr h) = inr (literal_same (literal_struct globals one name) (expressions_in values) first (first + expression_size (Composite name values trailing)) flaw h)
-    has_same (Unary operator operand) first flaw (inl h) = inl (has_same operand first flaw h)
-    has_same (Unary operator operand) first flaw (inr h) = inr (subst (λ o. UnaryHas operator o (nodes_of first operand) (first + expression_size (Unary operator operand)) flaw) (worth_same operand) h)
-    has_same (Binary operator l r) first flaw (inl h) = inl (has_same l first flaw h)
-    has_same (Binary operator l r) first flaw (inr (inl h)) = inr (inl (has_same r (first + expression_size l) flaw h))
-    has_same (Binary operator l r) first flaw (inr (inr h)) =
-        inr (inr (subst (λ o. BinaryHas operator o (worth globals other r) (nodes_of first l) (nodes_of (first + expression_size l) r) (first + expression_size (Binary operator l r)) flaw) (worth_same l)
-        (subst (λ o. BinaryHas operator (worth globals one l) o (nodes_of first l) (nodes_of (first + expression_size l) r) (first + expression_size (Binary operator l r)) flaw) (worth_same r) h)))
-    has_same (Call function values trailing) first flaw (inl (inl h)) = inl (inl (have_same values first flaw h))
-    has_same (Call function values trailing) first flaw (inl (inr h)) = inl (inr (callee_same (callee globals one function) (first) (expressions_in values) (first + expression_size (Call function values trailing)) flaw h))
-    has_same (Call function values trailing) first flaw (inr h) = inr h
-    has_same (Receive channel) first flaw (inl h) = inl (has_same channel first flaw h)
-    has_same (Receive channel) first flaw (inr (inl h)) = inr (inl (subst (λ o. ChannelHas o (nodes_of first channel) flaw) (worth_same channel) h))
-    has_same (Receive channel) first flaw (inr (inr h)) = inr (inr (subst (λ o. ReceivedHas o (first + expression_size channel + 1) flaw) (worth_same channel) h))
-    has_same (Make kind) first flaw (inl h) = inl (subst (λ o. TypeHas o first flaw) (type_same globals.types kind) h)
-    has_same (Make kind) first flaw (inr h) = inr (subst (λ o. MadeHas o (first + expression_size (Make kind)) flaw) (type_same globals.types kind) h)
-    has_same (MakeSized kind size) first flaw (inl h) = inl (subst (λ o. TypeHas o first flaw) (type_same globals.types kind) h)
-    has_same (MakeSized kind size) first flaw (inr (inl h)) = inr (inl (has_same size (first + type_size kind) flaw h))
-    has_same (MakeSized kind size) first flaw (inr (inr (inl h))) = inr (inr (inl (subst (λ o. SizeHas o (nodes_of (first + type_size kind) size) flaw) (worth_same size) h)))
-    has_same (MakeSized kind size) first flaw (inr (inr (inr h))) = inr (inr (inr (subst (λ o. MadeHas o (first + expression_size (MakeSized kind size)) flaw) (type_same globals.types kind) h)))
-    has_same (Length channel) first flaw (inl h) = inl (has_same channel first flaw h)
-    has_same (Length channel) first flaw (inr h) = inr (subst (λ o. ChannelHas o (nodes_of first channel) flaw) (worth_same channel) h)
-    has_same (Capacity channel) first flaw (inl h) = inl (has_same channel first flaw h)
-    has_same (Capacity channel) first flaw (inr h) = inr (subst (λ o. ChannelHas o (nodes_of first channel) flaw) (worth_same channel) h)
+    pub has_same : (e : Expression) (first : ℕ) (violation : Violation) → ExpressionHas globals one first e violation → ExpressionHas globals other first e violation
+    has_same (Integer value) first violation h = h
+    has_same (Named name) first violation h = h
+    has_same (Parenthesized inner) first violation h = has_same inner first violation h
+    has_same (Selection whole field) first violation (inl h) = inl (has_same whole first violation h)
+    has_same (Selection whole field) first violation (inr h) = inr (subst (λ o. SelectionHas globals o field (nodes_of first whole) (first + expression_size (Selection whole field)) violation) (worth_same whole) h)
+    has_same (Composite name values trailing) first violation (inl h) = inl (have_same values first violation h)
+    has_same (Composite name values trailing) first violation (inr h) = inr (literal_same (literal_struct globals one name) (expressions_in values) first (first + expression_size (Composite name values trailing)) violation h)
+    has_same (Unary operator operand) first violation (inl h) = inl (has_same operand first violation h)
+    has_same (Unary operator operand) first violation (inr h) = inr (subst (λ o. UnaryHas operator o (nodes_of first operand) (first + expression_size (Unary operator operand)) violation) (worth_same operand) h)
+    has_same (Binary operator l r) first violation (inl h) = inl (has_same l first violation h)
+    has_same (Binary operator l r) first violation (inr (inl h)) = inr (inl (has_same r (first + expression_size l) violation h))
+    has_same (Binary operator l r) first violation (inr (inr h)) =
+        inr (inr (subst (λ o. BinaryHas operator o (worth globals other r) (nodes_of first l) (nodes_of (first + expression_size l) r) (first + expression_size (Binary operator l r)) violation) (worth_same l)
+        (subst (λ o. BinaryHas operator (worth globals one l) o (nodes_of first l) (nodes_of (first + expression_size l) r) (first + expression_size (Binary operator l r)) violation) (worth_same r) h)))
+    has_same (Call function values trailing) first violation (inl (inl h)) = inl (inl (have_same values first violation h))
+    has_same (Call function values trailing) first violation (inl (inr h)) = inl (inr (callee_same (callee globals one function) (first) (expressions_in values) (first + expression_size (Call function values trailing)) violation h))
+    has_same (Call function values trailing) first violation (inr h) = inr h
+    has_same (Receive channel) first violation (inl h) = inl (has_same channel first violation h)
+    has_same (Receive channel) first violation (inr (inl h)) = inr (inl (subst (λ o. ChannelHas o (nodes_of first channel) violation) (worth_same channel) h))
+    has_same (Receive channel) first violation (inr (inr h)) = inr (inr (subst (λ o. ReceivedHas o (first + expression_size channel + 1) violation) (worth_same channel) h))
+    has_same (Make kind) first violation (inl h) = inl (subst (λ o. TypeHas o first violation) (type_same globals.types kind) h)
+    has_same (Make kind) first violation (inr h) = inr (subst (λ o. MadeHas o (first + expression_size (Make kind)) violation) (type_same globals.types kind) h)
+    has_same (MakeSized kind size) first violation (inl h) = inl (subst (λ o. TypeHas o first violation) (type_same globals.types kind) h)
+    has_same (MakeSized kind size) first violation (inr (inl h)) = inr (inl (has_same size (first + type_size kind) violation h))
+    has_same (MakeSized kind size) first violation (inr (inr (inl h))) = inr (inr (inl (subst (λ o. SizeHas o (nodes_of (first + type_size kind) size) violation) (worth_same size) h)))
+    has_same (MakeSized kind size) first violation (inr (inr (inr h))) = inr (inr (inr (subst (λ o. MadeHas o (first + expression_size (MakeSized kind size)) violation) (type_same globals.types kind) h)))
+    has_same (Length channel) first violation (inl h) = inl (has_same channel first violation h)
+    has_same (Length channel) first violation (inr h) = inr (subst (λ o. ChannelHas o (nodes_of first channel) violation) (worth_same channel) h)
+    has_same (Capacity channel) first violation (inl h) = inl (has_same channel first violation h)
+    has_same (Capacity channel) first violation (inr h) = inr (subst (λ o. ChannelHas o (nodes_of first channel) violation) (worth_same channel) h)
 
-    pub have_same : (es : Expressions) (first : ℕ) (flaw : Flaw) → ExpressionsHave globals one first es flaw → ExpressionsHave globals other first es flaw
-    have_same NoMore first flaw h = h
-    have_same (Behind e es) first flaw (inl h) = inl (has_same e first flaw h)
-    have_same (Behind e es) first flaw (inr h) = inr (have_same es (first + expression_size e) flaw h)
+    pub have_same : (es : Expressions) (first : ℕ) (violation : Violation) → ExpressionsHave globals one first es violation → ExpressionsHave globals other first es violation
+    have_same NoMore first violation h = h
+    have_same (Following e es) first violation (inl h) = inl (has_same e first violation h)
+    have_same (Following e es) first violation (inr h) = inr (have_same es (first + expression_size e) violation h)
 
-  pub test_same : (e : Expression) (first : ℕ) (flaw : Flaw) → TestHas globals one first e flaw → TestHas globals other first e flaw
-  test_same e first flaw (inl h) = inl (has_same e first flaw h)
-  test_same e first flaw (inr h) = inr (subst (λ o. ConditionHas o (nodes_of first e) flaw) (worth_same e) h)
+  pub test_same : (e : Expression) (first : ℕ) (violation : Violation) → TestHas globals one first e violation → TestHas globals other first e violation
+  test_same e first violation (inl h) = inl (has_same e first violation h)
+  test_same e first violation (inr h) = inr (subst (λ o. ConditionHas o (nodes_of first e) violation) (worth_same e) h)

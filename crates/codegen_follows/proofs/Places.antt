@@ -21,7 +21,7 @@ use Rattle.codegen_base.proofs.Fields.{Holds}
 use Rattle.codegen_base.proofs.Likeness.{kinds_long}
 use Rattle.codegen_base.proofs.Seen.{seen_one, seen, seen_lookup}
 use Rattle.codegen_base.proofs.Static.{AllKnown}
-use Rattle.codegen_base.proofs.Assigned.{IsSpot, behind_destination, behind_all, AreSpots}
+use Rattle.codegen_base.proofs.Assigned.{IsSpot, after_destination, following_all, AreSpots}
 use Rattle.codegen_base.proofs.Typing.{Free, broken}
 use Rattle.codegen_follows.proofs.Paths.{leads}
 use Rattle.codegen_follows.proofs.Stands.{View, scope_of, variables, Fine}
@@ -82,7 +82,7 @@ module _ {globals : Globals} {program : Compiled globals} (coded : Coded program
       let v = b.other in
       let found = sym (unblanked scope name no-blank) ∙ b.other_is in
       let has-kind : v.kind ≡ Some (known v.kind) = known_named (variables view) name v fine.placed.known found in
-      let path : Free (λ flaw. PathHas structs (Some (known v.kind)) place.fields (first + 1) flaw) = λ flaw x. free flaw (inr (inr (subst (λ o. PathHas structs o place.fields (first + 1) flaw) (sym (ap kind_found b.one_is ∙ b.kind_is ∙ has-kind)) x))) in
+      let path : Free (λ violation. PathHas structs (Some (known v.kind)) place.fields (first + 1) violation) = λ violation x. free violation (inr (inr (subst (λ o. PathHas structs o place.fields (first + 1) violation) (sym (ap kind_found b.one_is ∙ b.kind_is ∙ has-kind)) x))) in
       let lead = leads structs all program.types_known.fields place.fields (known v.kind) v.place (first + 1) (omega arith) path in
       let checked = leads structs all program.types_known.fields place.fields (known v.kind) b.one.place (first + 1) (omega arith) path in
       let zero : 0 + lead.from ≡ lead.from = omega arith in
@@ -123,15 +123,15 @@ module _ {globals : Globals} {program : Compiled globals} (coded : Coded program
         )
 
   -- an lvalue declares nothing
-  place_stays : (place : Place) → behind_destination structs (placed globals blocks place) scope ≡ scope
+  place_stays : (place : Place) → after_destination structs (placed globals blocks place) scope ≡ scope
   place_stays place = go (is_blank place.name) where
-    go : (b : Bool) → behind_destination structs (if b then Nowhere else Into place.name (place_slot globals blocks place)) scope ≡ scope
+    go : (b : Bool) → after_destination structs (if b then Nowhere else Into place.name (place_slot globals blocks place)) scope ≡ scope
     go true = refl
     go false = refl
 
-  pub places_stay : (places : List Place) → behind_all structs all (map (placed globals blocks) places) scope ≡ scope
+  pub places_stay : (places : List Place) → following_all structs all (map (placed globals blocks) places) scope ≡ scope
   places_stay [] = refl
-  places_stay (place ∷ places) = ap (behind_all structs all (map (placed globals blocks) places)) (place_stays place) ∙ places_stay places
+  places_stay (place ∷ places) = ap (following_all structs all (map (placed globals blocks) places)) (place_stays place) ∙ places_stay places
 
   abbrev pub AllSuit : List Place → List ValueType → List ValueType → Type 0
   AllSuit [] [] [] = Unit {0}
@@ -145,6 +145,6 @@ module _ {globals : Globals} {program : Compiled globals} (coded : Coded program
   places_are (place ∷ places) first [] others free suit = absurd suit
   places_are (place ∷ places) first (given ∷ types) [] free suit = absurd suit
   places_are (place ∷ places) first (given ∷ types) (taken ∷ others) free suit = (
-    place_is place first given taken (λ flaw x. free flaw (inl x)) suit.0,
-    subst (λ s. AreSpots structs all s (map (placed globals blocks) places) others (place_spots globals elements scope places types)) (sym (place_stays place)) (places_are places (first + 1) types others (λ flaw x. free flaw (inr x)) suit.1),
+    place_is place first given taken (λ violation x. free violation (inl x)) suit.0,
+    subst (λ s. AreSpots structs all s (map (placed globals blocks) places) others (place_spots globals elements scope places types)) (sym (place_stays place)) (places_are places (first + 1) types others (λ violation x. free violation (inr x)) suit.1),
   )

@@ -16,7 +16,7 @@ use Rattle.word.specs.Values as requests
 use Rattle.type_table.specs.Types.{IntType, BoolType, StructType, ChannelType}
 use Rattle.type_table.specs.Containment.{Structs}
 use Rattle.type_table.specs.Scopes.{Scope, Globals}
-use Rattle.typing_rules.specs.Flaws.{Nodes}
+use Rattle.typing_rules.specs.Violations.{Nodes}
 use Rattle.typing_rules.specs.Worths.{Worth, Typed, Constant, Nil, is_int, worth}
 use Rattle.typing_rules.specs.Expressions.{nodes_of, PrintedHas, default_type}
 use Rattle.typing_rules.specs.Simples.{PartsHave}
@@ -140,27 +140,27 @@ module _ {globals : Globals} {program : Compiled globals} {coded : Coded program
       stays context [] (Said [] rest stack) (place_at place ls stack) ([], place, record { many = refl; first = λ line. refl; rest = λ line. refl }, ap (λ (s : Words). place_at place ls s) (sym (append-nil stack)), on)
   texts_there (Text bytes ∷ parts) first rest place stack free makes on =
       follows_then context (texts globals blocks k parts) (λ more. ready (bytes ∷ more)) (Said parts rest stack) (Said (Text bytes ∷ parts) rest stack) (place_at place ls stack)
-      (texts_there parts (first + part_size (Text bytes)) rest place stack (λ flaw x. free flaw (inr x)) makes on)
+      (texts_there parts (first + part_size (Text bytes)) rest place stack (λ violation x. free violation (inr x)) makes on)
       (λ said d n. stays context (bytes ∷ said) (Said (Text bytes ∷ parts) rest stack) d (n.0, n.1, says_text bytes (table parts) said n.0 n.2, n.3, n.4))
   texts_there (ValuePart e ∷ parts) first rest place stack free makes on =
-      let w = worth_there globals view.checked program.types_known (variables_known view.checked scope fine.alike fine.placed.known) e first (λ flaw x. free flaw (inl (inl x))) in
-      let p = printable structs w.0 (nodes_of first e) (nodes_end first e) (λ flaw x. free flaw (inl (inr (subst (λ o. PrintedHas o (nodes_of first e) flaw) (sym w.1) x)))) in
+      let w = worth_there globals view.checked program.types_known (variables_known view.checked scope fine.alike fine.placed.known) e first (λ violation x. free violation (inl (inl x))) in
+      let p = printable structs w.0 (nodes_of first e) (nodes_end first e) (λ violation x. free violation (inl (inr (subst (λ o. PrintedHas o (nodes_of first e) violation) (sym w.1) x)))) in
       let here-is : worth globals scope e ≡ Some w.0 = sym (worth_alike view.checked scope fine.alike globals e) ∙ w.1 in
       let others = pushes_parts globals elements scope parts rest in
       let Goal = Said (ValuePart e ∷ parts) rest stack in
-      let behind : List ℕ → Worked (List (List ℕ)) = λ text. and_then (texts globals blocks k parts) (λ more. ready (text ∷ more)) in
+      let following : List ℕ → Worked (List (List ℕ)) = λ text. and_then (texts globals blocks k parts) (λ more. ready (text ∷ more)) in
       let T : List ℕ → CodeFrames → Type 0 = λ text d. (x : Word) × (to : ℕ) × (text ≡ text_of x) × (d ≡ place_at to ls (stack ++ x ∷ [])) × On others to in
       let O : Word → CodeFrames → Type 0 = λ word d. (to : ℕ) × (d ≡ place_at to ls (stack ++ word ∷ [])) × On others to in
-      follows_then context (part_text globals blocks k (ValuePart e)) behind T Goal (place_at place ls stack)
+      follows_then context (part_text globals blocks k (ValuePart e)) following T Goal (place_at place ls stack)
       (follows_then context (one globals blocks k e) (λ word. ready (text_of word)) O T (place_at place ls stack)
-      (value_goes point e first w.0 (known (default_type (Some w.0))) (λ words. ready (word_in words)) O others mid place stack (λ flaw x. free flaw (inl (inl x))) makes.0 w.1 p.fit
+      (value_goes point e first w.0 (known (default_type (Some w.0))) (λ words. ready (word_in words)) O others mid place stack (λ violation x. free violation (inl (inl x))) makes.0 w.1 p.fit
       (subst (λ o. On (pushes globals elements scope (known (default_type o)) e others) place) here-is on)
       (λ v like to on1. let x = p.one v like in
       subst (λ (y : Value). Follows context (ready (word_in y)) O (place_at to ls (stack ++ y))) (sym x.1) (stays context x.0 O (place_at to ls (stack ++ x.0 ∷ [])) (to, refl, on1))))
       (λ word d m. stays context (text_of word) T d (word, m.0, refl, m.1, m.2)))
-      (λ text d m. subst (λ (y : List ℕ). Follows context (behind y) Goal d) (sym m.2) (subst (λ y. Follows context (behind (text_of m.0)) Goal y) (sym m.3)
+      (λ text d m. subst (λ (y : List ℕ). Follows context (following y) Goal d) (sym m.2) (subst (λ y. Follows context (following (text_of m.0)) Goal y) (sym m.3)
       (follows_then context (texts globals blocks k parts) (λ more. ready (text_of m.0 ∷ more)) (Said parts rest (stack ++ m.0 ∷ [])) Goal (place_at m.1 ls (stack ++ m.0 ∷ []))
-      (texts_there parts (first + part_size (ValuePart e)) rest m.1 (stack ++ m.0 ∷ []) (λ flaw y. free flaw (inr y)) makes.1 m.4)
+      (texts_there parts (first + part_size (ValuePart e)) rest m.1 (stack ++ m.0 ∷ []) (λ violation y. free violation (inr y)) makes.1 m.4)
       (λ said e' n. stays context (text_of m.0 ∷ said) Goal e' (m.0 ∷ n.0, n.1, says_value (worth globals scope e) (table parts) said m.0 n.0 n.2, n.3 ∙ ap (λ (s : Words). place_at n.1 ls s) (append_assoc stack (m.0 ∷ []) n.0), n.4)))))
 
   pub print_goes : (line trailing : Bool) (parts : List Part) (first place : ℕ) → Free (PartsHave globals view.checked first parts) → PartsMake globals elements parts → slice_get code.prints view.site.prints ≡ Some (record { parts = table parts; line = line })

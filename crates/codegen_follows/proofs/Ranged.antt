@@ -21,7 +21,7 @@ use Rattle.codegen_base.proofs.Seen.{Like, seen_one, last_split, wide}
 use Rattle.codegen_follows.proofs.Stands.{Around, View, variables, Together, RangingAt, Sits, item_view, Doing, Does, Items, LeadsOn, scope_of}
 use Rattle.codegen_follows.proofs.Begun.{inner_opened, seen_opened}
 use Rattle.codegen_base.proofs.Running.{Compiled, Coded}
-use Rattle.codegen_follows.proofs.Simulated.{Simulated, Held, Rest, blocks_of, at, Works, Reaches, reaches_behind, works_behind, slides, standing, moves, Comes}
+use Rattle.codegen_follows.proofs.Simulated.{Simulated, Held, Rest, blocks_of, at, Works, Reaches, reaches_after, works_after, slides, standing, moves, Comes}
 use Rattle.meaning.specs.Worked.{Worked, ready, Asking, and_then}
 use Rattle.codegen_follows.proofs.Taken.{comes_of, assigned_comes}
 use Rattle.codegen_follows.proofs.Stored.{kept_goes}
@@ -43,7 +43,7 @@ use Rattle.bytecode.specs.Effects.{shape_kinds}
 module _ {globals : Globals} {program : Compiled globals} {coded : Coded program} (simulated : Simulated coded) where
   open program use {elements, code, wide as all}
   open coded use {function as f, number as g, there, result}
-  open simulated use {running, running.{context, context.{callers as ds}}, fine_behind, sitting}
+  open simulated use {running, running.{context, context.{callers as ds}}, fine_following, sitting}
 
   abbrev structs : Structs
   structs = globals.structs
@@ -113,13 +113,13 @@ module _ {globals : Globals} {program : Compiled globals} {coded : Coded program
     false_goes : (v : Value) → Like structs d.kind v → Works' (ready (Goes (frame (blocks ls view) k))) (place_at d.exit ls v)
     false_goes v like =
         let m = drops_goes running l.leave l.again (words_in structs d.kind) v [] ls Skip mid d.exit (sym (like_long structs d.kind v like)) d.ends in
-        slides simulated (frame (blocks ls view) k) (place_at d.exit ls v) (reaches_behind simulated (frame (blocks ls view) k) (place_at d.exit ls v) (place_at m.0 ls []) m.1 (lands_same simulated ls view next l m.0 mid k h same t.0 m.2 r))
+        slides simulated (frame (blocks ls view) k) (place_at d.exit ls v) (reaches_after simulated (frame (blocks ls view) k) (place_at d.exit ls v) (place_at m.0 ls []) m.1 (lands_same simulated ls view next l m.0 mid k h same t.0 m.2 r))
 
     item_goes : (to : List Destination) → Items coded inner item d.kind to d.next (d.check + 1) d.mid → (v : Value) → Like structs d.kind v
         → Works' (ready (comes_of simulated (blocks ls item) tail to (v ∷ (Truth true ∷ []) ∷ []))) (place_at (d.check + 1) ls v)
     item_goes [] (on, stay) v like =
         let m = drops_goes running inner.leave inner.again (words_in structs d.kind) v [] ls Skip d.mid (d.check + 1) (sym (like_long structs d.kind v like)) on in
-        slides simulated (frame (blocks ls item) tail) (place_at (d.check + 1) ls v) (reaches_behind simulated (frame (blocks ls item) tail) (place_at (d.check + 1) ls v) (place_at m.0 ls []) m.1
+        slides simulated (frame (blocks ls item) tail) (place_at (d.check + 1) ls v) (reaches_after simulated (frame (blocks ls item) tail) (place_at (d.check + 1) ls v) (place_at m.0 ls []) m.1
         (lands_same simulated ls item d.next inner m.0 d.mid tail held stay d.together.0 m.2 (d.mid, leads_self d.mid, tail_sits)))
     item_goes (first ∷ more) (other, zeros-are, assigning) v like =
         subst (λ (x : Words). Works' (ready (Moves (frame (all_stored structs (first ∷ more) (v ∷ (Truth true ∷ []) ∷ []) (blocks ls item)) tail))) (place_at (d.check + 1) ls x)) (append-nil (v ++ []) ∙ append-nil v)
@@ -133,8 +133,8 @@ module _ {globals : Globals} {program : Compiled globals} {coded : Coded program
     -- an item, and whether it was sent
     told_goes : (v : Value) → Like structs d.kind v → (b : Bool) (to : ℕ) → Leads f.instrs to (Some d.check) → Works' (ready (comes b v)) (place_at to ls (v ++ Truth b ∷ []))
     told_goes v like b to lead =
-        works_behind simulated (ready (comes b v)) (place_at to ls (v ++ Truth b ∷ [])) (place_at d.check ls (v ++ Truth b ∷ [])) (passes code g f there ds to d.check ls (v ++ Truth b ∷ []) lead)
-        (works_behind simulated (ready (comes b v)) (place_at d.check ls (v ++ Truth b ∷ [])) (place_at (cond b (d.check + 1) d.exit) ls v) (chooses code g f there ds d.check d.exit ls v b d.unless) (chosen_goes v like b))
+        works_after simulated (ready (comes b v)) (place_at to ls (v ++ Truth b ∷ [])) (place_at d.check ls (v ++ Truth b ∷ [])) (passes code g f there ds to d.check ls (v ++ Truth b ∷ []) lead)
+        (works_after simulated (ready (comes b v)) (place_at d.check ls (v ++ Truth b ∷ [])) (place_at (cond b (d.check + 1) d.exit) ls v) (chooses code g f there ds d.check d.exit ls v b d.unless) (chosen_goes v like b))
 
     abbrev zeros : List Value
     zeros = zero ∷ (Truth false ∷ []) ∷ []
@@ -168,7 +168,7 @@ module _ {globals : Globals} {program : Compiled globals} {coded : Coded program
         let q = requests.Receive c.0 in
         let go : List Value → Worked Course = λ got. ready (next_item globals (blocks ls view) k destinations zero body got) in
         subst (λ (x : Option ℕ). Works' (and_then (told zeros (Asking (requests.Receive x))) go) (place_at head ls [])) (sym (ap (λ o. channel_in (word_in (value_of o))) own ∙ ap (λ (x : Value). channel_in (word_in x)) c.1))
-        (works_behind simulated (and_then (told zeros (Asking q)) go) (place_at head ls []) (place_at (head + 1) ls (Chan c.0 ∷ [])) (subst (λ (x : Words). Slips (code_next code) (place_at head ls []) (place_at (head + 1) ls x)) loaded (loads code g f there ds head ls [] v.place 1 d.loads within))
+        (works_after simulated (and_then (told zeros (Asking q)) go) (place_at head ls []) (place_at (head + 1) ls (Chan c.0 ∷ [])) (subst (λ (x : Words). Slips (code_next code) (place_at head ls []) (place_at (head + 1) ls x)) loaded (loads code g f there ds head ls [] v.place 1 d.loads within))
         (follows_then context (told zeros (Asking q)) go (Lay pt zeros Skip (Some d.check) []) (Comes simulated) (place_at (head + 1) ls (Chan c.0 ∷ []))
         (told_lays pt zeros q (instrs.Receive d.shape) (Chan c.0 ∷ []) Skip (Some d.check) (head + 1) [] d.receives refl refl (receives code g f there ds (head + 1) ls [] d.shape c.0 d.receives) gives-are (running.calm q (place_at (head + 1) ls (Chan c.0 ∷ [])) tt) d.checks)
         (λ got e lay. subst (λ (x : List Value). Works' (go x) e) (sym lay.2) (subst (λ x. Works' (go (parted zeros lay.1)) x) (sym (lay.3 ∙ ap (λ (x : List Value). place_at lay.0 ls (all_words_of x)) lay.2)) (parted_goes lay.1 lay.0 lay.4)))))

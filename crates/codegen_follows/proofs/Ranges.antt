@@ -39,7 +39,7 @@ use Rattle.codegen_follows.proofs.Grown.{grown_statements}
 use Rattle.typing_rules.specs.Expressions.{ExpressionHas, ChannelHas, nodes_of, default_type}
 use Rattle.codegen_follows.proofs.Outers.{has_same, worth_same}
 use Rattle.codegen_base.proofs.Running.{Compiled, Coded}
-use Rattle.codegen_follows.proofs.Simulated.{Simulated, Held, at as at_place, Comes, Works, reaches_behind, slides, Position, here_blocks, On', standing}
+use Rattle.codegen_follows.proofs.Simulated.{Simulated, Held, at as at_place, Comes, Works, reaches_after, slides, Position, here_blocks, On', standing}
 use Rattle.meaning.specs.Worked.{Worked, ready, and_then}
 use Rattle.codegen_follows.proofs.Channels.{IsChannel, channel_there, channel_goes}
 use Rattle.codegen_follows.proofs.Follows.{lands, map_reached, end_sits, inner_same}
@@ -166,7 +166,7 @@ module _ {globals : Globals} {program : Compiled globals} {coded : Coded program
       → ((again m : Option ℕ) (p : ℕ) → IsOn coded (within_loop again) taken p m → Items coded (within_loop again) (item e) c.element destinations last p m)
       → ((again : Option ℕ) (p : ℕ) → IsOn coded (within_loop again) within p again → Doing coded (within_loop again) last (Block body) p again) → (head : ℕ)
       → IsOn coded l (Cycle (receives globals elements result view.site.layout e) (Seq taken within) Skip (drops (wide_item e) Skip)) head mid → RangingAt coded l (kept e) destinations (zero_words globals.structs (element_kind globals blocks e)) body head mid
-  loop_at e body c destinations taken within last u most items doing head (check, again, exit, (loads, behind), unless, (m, on, goes), turns, ends) =
+  loop_at e body c destinations taken within last u most items doing head (check, again, exit, (loads, following), unless, (m, on, goes), turns, ends) =
       let structs = globals.structs in
       let K = type_of globals elements scope e in
       let own-words : words_in structs K ≡ 1 = ap (words_in structs) c.own in
@@ -187,8 +187,8 @@ module _ {globals : Globals} {program : Compiled globals} {coded : Coded program
         again = again;
         exit = exit;
         loads = loads;
-        receives = behind.0;
-        checks = behind.1;
+        receives = following.0;
+        checks = following.1;
         unless = unless;
         checked = entered view.checked;
         next = last;
@@ -214,7 +214,7 @@ module _ {globals : Globals} {program : Compiled globals} {coded : Coded program
         breaks = true;
         continues = true;
         fine = fine_item coded view fine e;
-        good = λ flaw x. d.good flaw (inr x);
+        good = λ violation x. d.good violation (inr x);
         makes = d.makes.1;
         on = on;
         fits = record { tables = d.fits.tables; room = most };
@@ -252,7 +252,7 @@ module _ {globals : Globals} {program : Compiled globals} {coded : Coded program
       ap (λ (b : Blocks). frame b tail) (stored.seen_is ∙ ap (λ (b : Blocks). declare (holding structs blank K (Chan w ∷ [])) b) (seen_opened coded ls view)
       ∙ ap (λ kind. declare (holding structs blank kind (Chan w ∷ [])) (entered_blocks blocks)) (sym (ap (λ o. known (default_type o)) (same_worth (standing point) e)))) in
       subst (λ (a : Frame). Works' (ready (Goes a)) (place_at to ls (Chan w ∷ []))) asked-is
-      (slides simulated (frame (seen structs ms (variables v) v.begins) tail) (place_at to ls (Chan w ∷ [])) (reaches_behind simulated (frame (seen structs ms (variables v) v.begins) tail) (place_at to ls (Chan w ∷ [])) (place_at (to + 1) ms [])
+      (slides simulated (frame (seen structs ms (variables v) v.begins) tail) (place_at to ls (Chan w ∷ [])) (reaches_after simulated (frame (seen structs ms (variables v) v.begins) tail) (place_at to ls (Chan w ∷ [])) (place_at (to + 1) ms [])
       (stores_words code g f there ds to ls [] (Chan w ∷ []) scope.words 1 here-on.0 refl (omega (arith, most, counted, own-words)) full) (lands simulated ms v l (to + 1) o tail held here-on.1 sits))))
 
   -- a loop over a channel whose items go nowhere
@@ -260,8 +260,8 @@ module _ {globals : Globals} {program : Compiled globals} {coded : Coded program
   bare_range_goes e body place d same =
       let first = d.first + target_size NoTarget in
       let s = view.checked in
-      let free : Free (ExpressionHas globals s first e) = λ flaw x. d.good flaw (inl (inr (inl (inl (has_same globals s.variables s.outer (length s.variables) s.words s.words e first flaw x))))) in
-      let c = channel_there point e first free d.makes.0 (λ flaw x. d.good flaw (inl (inr (inl (inr (inl (subst (λ o. ChannelHas o (nodes_of first e) flaw) (worth_same globals s.variables s.outer (length s.variables) s.words s.words e) x))))))) in
+      let free : Free (ExpressionHas globals s first e) = λ violation x. d.good violation (inl (inr (inl (inl (has_same globals s.variables s.outer (length s.variables) s.words s.words e first violation x))))) in
+      let c = channel_there point e first free d.makes.0 (λ violation x. d.good violation (inl (inr (inl (inr (inl (subst (λ o. ChannelHas o (nodes_of first e) violation) (worth_same globals s.variables s.outer (length s.variables) s.words s.words e) x))))))) in
       let more = (grown_statements globals elements result (inside (item e).site) body).words in
       let most = d.fits.room in
       kept_goes e body [] first free d.makes.0 c (omega (arith, more, most)) place d.on.0 d.on.1

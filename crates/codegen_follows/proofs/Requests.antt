@@ -32,7 +32,7 @@ use Rattle.codegen_base.proofs.Typing.{Free}
 use Rattle.codegen_follows.proofs.Stands.{scope_of, variables, OneMakes}
 use Rattle.codegen_follows.proofs.Channels.{channel_there, channel_goes, asks_goes, emitted_own}
 use Rattle.codegen_base.proofs.Running.{Compiled, Coded}
-use Rattle.codegen_follows.proofs.Simulated.{Simulated, at, Comes, Works, works_behind, slides, Position, here_blocks, On', standing}
+use Rattle.codegen_follows.proofs.Simulated.{Simulated, at, Comes, Works, works_after, slides, Position, here_blocks, On', standing}
 use Rattle.meaning.specs.Worked.{Worked, ready, Asking}
 use Rattle.codegen_base.proofs.Sends.{send_goes as kernel_send}
 use Rattle.codegen_follows.proofs.Follows.{lands_same}
@@ -76,15 +76,15 @@ module _ {globals : Globals} {program : Compiled globals} {coded : Coded program
   pub close_goes : (e : Expression) (first : ℕ) (place : ℕ) → Free (MeasuredHas globals view.checked first e) → OneMakes globals elements e → On (pushes_own globals elements scope e (Do instrs.Close Skip)) place → variables next ≡ variables view
       → Works' (simple_work globals blocks k (Close e)) (place_at place ls [])
   close_goes e first place free makes on same =
-      let good : Free (ExpressionHas globals view.checked first e) = λ flaw x. free flaw (inl x) in
-      channel_goes point e first good makes (channel_there point e first good makes (λ flaw x. free flaw (inr x))) k (λ c. asks globals blocks k (requests.Close c)) (Comes simulated) (Do instrs.Close Skip) mid place [] on
+      let good : Free (ExpressionHas globals view.checked first e) = λ violation x. free violation (inl x) in
+      channel_goes point e first good makes (channel_there point e first good makes (λ violation x. free violation (inr x))) k (λ c. asks globals blocks k (requests.Close c)) (Comes simulated) (Do instrs.Close Skip) mid place [] on
       (λ w to on1. asks_alone (requests.Close w) instrs.Close (Chan w ∷ []) to on1 refl refl (closes code g f there ds to ls [] w on1.0) refl (running.calm (requests.Close w) (place_at to ls (Chan w ∷ [])) tt) same)
 
   pub receive_alone_goes : (e : Expression) (first place : ℕ) → Free (ReceiveHas globals view.checked first e) → OneMakes globals elements e → On (simple_plan globals elements view.site.layout view.site.prints (ReceiveAlone e)) place → variables next ≡ variables view
       → Works' (simple_work globals blocks k (ReceiveAlone e)) (place_at place ls [])
   receive_alone_goes e first place free makes on same =
-      let good : Free (ExpressionHas globals view.checked first e) = λ flaw x. free flaw (inl x) in
-      let c = channel_there point e first good makes (λ flaw x. free flaw (inr (inl x))) in
+      let good : Free (ExpressionHas globals view.checked first e) = λ violation x. free violation (inl x) in
+      let c = channel_there point e first good makes (λ violation x. free violation (inr (inl x))) in
       let kind = carried globals elements scope e in
       let n = length (kinds_of structs elements kind) in
       let shape = shape_of elements kind in
@@ -98,7 +98,7 @@ module _ {globals : Globals} {program : Compiled globals} {coded : Coded program
       (λ reply suits.
       let ws = all_words_of (parted zeros (reply_words reply)) in
       let long : n + 1 ≡ length ws = received_long own-kind (reply_words reply) (kinds_long structs elements kind ∙ ap (λ j. length (zero_words structs j)) c.carries) in
-      works_behind simulated (ready (Goes (frame blocks k))) (place_at (to + 1) ls ws) (place_at (to + 1 + 1) ls []) (discards code g f there ds (to + 1) ls [] ws (n + 1) on1.1.0 long) (goes_on same (to + 1 + 1) on1.1.1))) where
+      works_after simulated (ready (Goes (frame blocks k))) (place_at (to + 1) ls ws) (place_at (to + 1 + 1) ls []) (discards code g f there ds (to + 1) ls [] ws (n + 1) on1.1.0 long) (goes_on same (to + 1 + 1) on1.1.1))) where
         received_long : {n : ℕ} (own : ValueType) (ws : Words) → n ≡ length (zero_words structs own) → n + 1 ≡ length (all_words_of (parted (zero_words structs own ∷ (Truth false ∷ []) ∷ []) ws))
         received_long own ws is =
             let z = zero_words structs own in

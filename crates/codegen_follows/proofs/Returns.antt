@@ -45,7 +45,7 @@ module _ (globals : Globals) (elements : List Element) where
   returned_fits (Yields kind) v w end le positive is-known is free =
       let t = is-known kind refl in
       let same : kind ≡ Some (known kind) = t.1 ∙ ap (λ o. Some (known o)) (sym t.1) in
-      (fits w (known kind) v.nodes positive (λ flaw x. free flaw (subst (λ o. ValueHas o kind v.nodes flaw) (sym is) (subst (λ o. ValueHas (Some w) o v.nodes flaw) (sym same) x))), refl)
+      (fits w (known kind) v.nodes positive (λ violation x. free violation (subst (λ o. ValueHas o kind v.nodes violation) (sym is) (subst (λ o. ValueHas (Some w) o v.nodes violation) (sym same) x))), refl)
 
 module _ {globals : Globals} {program : Compiled globals} {coded : Coded program} {simulated : Simulated coded} (position : Position simulated) where
   open program use {elements, code, wide as all}
@@ -84,10 +84,10 @@ module _ {globals : Globals} {program : Compiled globals} {coded : Coded program
         result_long (Yields kind) v is = kinds_long structs elements (known kind) ∙ sym (like_length (zero_words structs (known kind)) v) ∙ ap length is
 
   pub return_goes : (returned : Returned) (first place : ℕ) → ReturnedMakes globals elements returned → Free (ReturnStatementHas globals result view.checked first returned) → On (return_plan globals elements result view.site.layout returned) place → Works' (statement_work globals blocks k (Return returned)) (place_at place ls [])
-  return_goes NoValue first place makes free on = gives_back [] place on (no_value globals elements result (first + (returned_size NoValue + 1)) (omega arith) (λ flaw x. free flaw (inr x)))
+  return_goes NoValue first place makes free on = gives_back [] place on (no_value globals elements result (first + (returned_size NoValue + 1)) (omega arith) (λ violation x. free violation (inr x)))
   return_goes (ReturnedValue e) first place makes free on =
-      let w = worth_there globals view.checked program.types_known (variables_known view.checked scope fine.alike fine.placed.known) e first (λ flaw x. free flaw (inl x)) in
+      let w = worth_there globals view.checked program.types_known (variables_known view.checked scope fine.alike fine.placed.known) e first (λ violation x. free violation (inl x)) in
       let known-result : (kind : Option ValueType) → result ≡ Yields kind → (t : ValueType) × (kind ≡ Some t) = λ kind is. program.types_known.results g kind (coded.result_is ∙ is) in
-      let fit = returned_fits globals elements result (record { worth = worth globals view.checked e; nodes = nodes_of first e }) w.0 (first + (returned_size (ReturnedValue e) + 1)) (omega arith) (nodes_end first e) known-result w.1 (λ flaw x. free flaw (inr x)) in
-      value_goes point e first w.0 (result_type globals elements result) (λ v. ready (GivesBack v)) (Comes simulated) Stop mid place [] (λ flaw x. free flaw (inl x)) makes w.1 fit.0 on
+      let fit = returned_fits globals elements result (record { worth = worth globals view.checked e; nodes = nodes_of first e }) w.0 (first + (returned_size (ReturnedValue e) + 1)) (omega arith) (nodes_end first e) known-result w.1 (λ violation x. free violation (inr x)) in
+      value_goes point e first w.0 (result_type globals elements result) (λ v. ready (GivesBack v)) (Comes simulated) Stop mid place [] (λ violation x. free violation (inl x)) makes w.1 fit.0 on
       (λ v like to on1. gives_back v to on1 (ap (λ z. words_like z v) fit.1 ∙ like))

@@ -14,7 +14,7 @@ use Rattle.type_table.specs.Types.{ValueType, IntType, BoolType, StructType, Cha
 use Rattle.type_table.specs.Containment.{Structs}
 use Rattle.type_table.specs.Zeros.{zero_words}
 use Rattle.type_table.specs.Scopes.{Scope, Globals}
-use Rattle.typing_rules.specs.Flaws.{Nodes}
+use Rattle.typing_rules.specs.Violations.{Nodes}
 use Rattle.typing_rules.specs.Worths.{Worth, Typed, Constant, Nil, is_int}
 use Rattle.typing_rules.specs.Expressions.{DefaultHas, ExpressionsHave, default_type, ExpressionHas}
 use Rattle.meaning.specs.Values.{Value, known, parted}
@@ -26,7 +26,7 @@ use Rattle.codegen_base.specs.Statements.{Spot, assigns, pushes_right, pushes_re
 use Rattle.plan.specs.Plan.{Plan, Skip, Do}
 use Rattle.plan.proofs.Words.{Words}
 use Rattle.plan.proofs.Steps.{receives}
-use Rattle.codegen_base.proofs.Assigned.{behind_all, AreSpots}
+use Rattle.codegen_base.proofs.Assigned.{following_all, AreSpots}
 use Rattle.codegen_base.proofs.Typing.{Free, Fits, broken, not_false}
 use Rattle.codegen_base.proofs.Sides.{IsPlain}
 use Rattle.codegen_follows.proofs.Stands.{scope_of, variables, OneMakes, ValuesMake}
@@ -101,8 +101,8 @@ module _ {globals : Globals} {program : Compiled globals} {coded : Coded program
   -- the destinations of a statement, with the spots of their code, which take values of these types
   pub record Targets (destinations : List Destination) (types : List ValueType) (spots : List Spot) : Type 0 where
     pub are : AreSpots structs all scope destinations types spots
-    pub fit : (behind_all structs all destinations scope).words ≤ length f.locals
-    pub variables_are : variables next ≡ (behind_all structs all destinations scope).variables
+    pub fit : (following_all structs all destinations scope).words ≤ length f.locals
+    pub variables_are : variables next ≡ (following_all structs all destinations scope).variables
 
   -- values on the stack are stored
   pub stored_go : (destinations : List Destination) (types : List ValueType) (spots : List Spot) (vs : List Value) (place : ℕ) → Targets destinations types spots → AreLike structs types vs → On (assigns spots Skip) place → Works' (stores globals blocks k destinations vs) (place_at place ls (all_words_of vs))
@@ -119,8 +119,8 @@ module _ {globals : Globals} {program : Compiled globals} {coded : Coded program
   pub both_go : (destinations : List Destination) (kept : List ValueType) (spots : List Spot) (e : Expression) (first place : ℕ) → map (zero_words structs) kept ≡ map (zero_words structs) (carried globals elements scope e ∷ BoolType ∷ []) → Targets destinations kept spots → Free (ExpressionHas globals view.checked first (Receive e)) → OneMakes globals elements e
       → On (pushes_received globals elements scope e (assigns spots Skip)) place → Works' (and_then (and_then (value globals blocks e) (received globals (element_kind globals blocks e))) (stores globals blocks k destinations)) (place_at place ls [])
   both_go destinations kept spots e first place zeros-are d free makes on =
-      let good : Free (ExpressionHas globals view.checked first e) = λ flaw x. free flaw (inl x) in
-      let c = channel_there point e first good makes (λ flaw x. free flaw (inr (inl x))) in
+      let good : Free (ExpressionHas globals view.checked first e) = λ violation x. free violation (inl x) in
+      let c = channel_there point e first good makes (λ violation x. free violation (inr (inl x))) in
       let own = c.element in
       let kind = carried globals elements scope e in
       let shape = shape_of elements kind in

@@ -16,7 +16,7 @@ use Rattle.meaning.specs.Source.{default_of, cases_of, chosen, statement_work}
 use Rattle.codegen_base.specs.Generated.{Site, Made, past, followed, ended, inside, with_way, select_table, pushes_clauses, comm_kinds, made_comm, made_all, made_select, made_ways, made_default, within_select}
 use Rattle.plan.specs.Plan.{Plan, Choose, starts}
 use Rattle.plan.proofs.Words.{Words}
-use Rattle.codegen_follows.proofs.Stands.{Around, scope_of, variables, IsOn, Fits, Doing, in_way, behind}
+use Rattle.codegen_follows.proofs.Stands.{Around, scope_of, variables, IsOn, Fits, Doing, in_way, following}
 use Rattle.codegen_follows.proofs.Grown.{grown_default}
 use Rattle.codegen_follows.proofs.Comms.{Beside}
 use Rattle.codegen_follows.proofs.Operands.{AllOffered, clauses_go, AllAt}
@@ -40,7 +40,7 @@ module _ {globals : Globals} {program : Compiled globals} (coded : Coded program
   way_keeps site comm body ks one None same more = same
   way_keeps site comm body ks one (Some m) same more = more ∙ same
 
-  ways_keep : (site : Site) (default : Site → Option Made) (clauses : Clauses) → ((behind : Site) → Keeps behind (default behind)) → Keeps site (made_ways globals elements result site default clauses)
+  ways_keep : (site : Site) (default : Site → Option Made) (clauses : Clauses) → ((following : Site) → Keeps following (default following)) → Keeps site (made_ways globals elements result site default clauses)
   ways_keep site default NoClause d = d site
   ways_keep site default (Clause None body more) d = ways_keep site default more d
   ways_keep site default (Clause (Some comm) body more) d =
@@ -112,9 +112,9 @@ module _ {globals : Globals} {program : Compiled globals} {coded : Coded program
   select_asked clauses place d cases ws to offered (asks, table, on) =
       let all_words : (scope_of view).words ≤ (scope_of view).words = omega arith in
       let laid = ways_laid point k mid (default_of globals blocks k clauses) (default_at_site clauses) clauses first_beside d.breaks d.continues d.first (to + 1)
-      (λ behind. grown_default globals elements result behind clauses)
-      (λ b p wider x. default_laid point k mid clauses b d.breaks d.continues view.checked.words d.first p wider (λ flaw y. d.good flaw (inl y)) d.makes x)
-      all_words (λ flaw y. d.good flaw (inl y)) d.makes (ways_on clauses (ways clauses) (to + 1) d.fits on) in
+      (λ following. grown_default globals elements result following clauses)
+      (λ b p wider x. default_laid point k mid clauses b d.breaks d.continues view.checked.words d.first p wider (λ violation y. d.good violation (inl y)) d.makes x)
+      all_words (λ violation y. d.good violation (inl y)) d.makes (ways_on clauses (ways clauses) (to + 1) d.fits on) in
       let places = starts (to + 1) (plan_of (ways clauses)) in
       let o = offered places laid.many in
       record {
@@ -129,10 +129,10 @@ module _ {globals : Globals} {program : Compiled globals} {coded : Coded program
         default_there = laid.is_there;
       }
 
-  pub select_goes : (clauses : Clauses) (place : ℕ) → Doing coded l view (Select clauses) place mid → variables next ≡ variables (behind coded view (Select clauses)) → Works' (statement_work globals blocks k (Select clauses)) (place_at place ls [])
+  pub select_goes : (clauses : Clauses) (place : ℕ) → Doing coded l view (Select clauses) place mid → variables next ≡ variables (following coded view (Select clauses)) → Works' (statement_work globals blocks k (Select clauses)) (place_at place ls [])
   select_goes clauses place d same =
       let kept = select_keeps coded view.site clauses (ways clauses) (ways_keep coded (within_select globals elements result view.site) (default_at_site clauses) clauses (default_keeps coded clauses)) in
       let go : List Case → Worked Course = λ cases. and_then (needs (Asking (requests.Select cases (is_some (default_of globals blocks k clauses))))) (λ given. ready (chosen globals blocks k clauses given)) in
       follows_then context (cases_of globals blocks k clauses) go (AllAt point k mid clauses (asking clauses) []) (Comes simulated) (place_at place ls [])
-      (clauses_go point k mid clauses d.breaks d.continues view.checked.words d.first (λ flaw x. d.good flaw (inl x)) d.makes (asking clauses) place [] (select_on clauses (ways clauses) place d.on))
+      (clauses_go point k mid clauses d.breaks d.continues view.checked.words d.first (λ violation x. d.good violation (inl x)) d.makes (asking clauses) place [] (select_on clauses (ways clauses) place d.on))
       (λ cases e m. subst (λ x. Works' (go cases) x) (sym m.3) (choose_goes position clauses cases m.1 m.0 (select_asked clauses place d cases m.0 m.1 m.2 m.4) (same ∙ kept)))

@@ -71,11 +71,11 @@ module _ {globals : Globals} {program : Compiled globals} (coded : Coded program
 
     go : (b : Bool) → is_blank place.name ≡ b → Free (GoesHas b v (place_type globals view.checked place))
         → Fits w (if b then kind else known (place_type globals (scope_of view) place)) × (zero_words globals.structs (if b then kind else known (place_type globals (scope_of view) place)) ≡ zero_words globals.structs (if b then kind else known (place_type globals view.checked place)))
-    go true blank goes = (default_fits w v.nodes positive (λ flaw x. goes flaw (subst (λ o. DefaultHas o v.nodes flaw) (sym is) x)), refl)
+    go true blank goes = (default_fits w v.nodes positive (λ violation x. goes violation (subst (λ o. DefaultHas o v.nodes violation) (sym is) x)), refl)
     go false blank goes =
         let r = reaches coded ls view fine place first blank free in
         let there : place_type globals (scope_of view) place ≡ Some r.kind = ap type_of_field r.selected_is in (
-          subst (λ o. Fits w (known o)) (sym there) (fits w r.kind v.nodes positive (λ flaw x. goes flaw (subst (λ o. ValueHas o (place_type globals view.checked place) v.nodes flaw) (sym is) (subst (λ o. ValueHas (Some w) o v.nodes flaw) (sym r.checked_is) x)))),
+          subst (λ o. Fits w (known o)) (sym there) (fits w r.kind v.nodes positive (λ violation x. goes violation (subst (λ o. ValueHas o (place_type globals view.checked place) v.nodes violation) (sym is) (subst (λ o. ValueHas (Some w) o v.nodes violation) (sym r.checked_is) x)))),
           ap (λ o. zero_words globals.structs (known o)) (there ∙ sym r.checked_is),
         )
 
@@ -85,11 +85,11 @@ module _ {globals : Globals} {program : Compiled globals} (coded : Coded program
   values_suit [] (e ∷ es) first second n many free good goes = absurd cc
   values_suit (place ∷ places) [] first second n many free good goes = absurd cc
   values_suit (place ∷ places) (e ∷ es) first second n many free good goes =
-      let w = worth_there globals view.checked program.types_known (variables_known view.checked (scope_of view) fine.alike fine.placed.known) e second (λ flaw x. good flaw (inl x)) in
-      let one = place_fits place first (record { worth = worth globals view.checked e; nodes = nodes_of second e }) w.0 (λ flaw x. free flaw (inl x)) w.1 (nodes_end second e) (λ flaw x. goes flaw (inl x)) in
+      let w = worth_there globals view.checked program.types_known (variables_known view.checked (scope_of view) fine.alike fine.placed.known) e second (λ violation x. good violation (inl x)) in
+      let one = place_fits place first (record { worth = worth globals view.checked e; nodes = nodes_of second e }) w.0 (λ violation x. free violation (inl x)) w.1 (nodes_end second e) (λ violation x. goes violation (inl x)) in
       let same : Some w.0 ≡ worth globals (scope_of view) e = sym w.1 ∙ worth_alike view.checked (scope_of view) fine.alike globals e in
       let left : suc (length es) ≡ suc (length places) = many in
-      let more = values_suit places es (first + 1) (second + expression_size e) (n + expression_size e) (omega (arith, left)) (λ flaw x. free flaw (inr x)) (λ flaw x. good flaw (inr x)) (λ flaw x. goes flaw (inr x)) in (
+      let more = values_suit places es (first + 1) (second + expression_size e) (n + expression_size e) (omega (arith, left)) (λ violation x. free violation (inr x)) (λ violation x. good violation (inr x)) (λ violation x. goes violation (inr x)) in (
         ((w.0, w.1, subst (λ o. Fits w.0 (takes place (known (default_type o)))) same one.0), more.0),
         (subst (λ o. Suit place (known (default_type o)) (takes place (known (default_type o)))) same one.1, more.1),
       )
@@ -101,9 +101,9 @@ module _ {globals : Globals} {program : Compiled globals} (coded : Coded program
   typed_suit (place ∷ places) [] kinds first typed many free goes = absurd cc
   typed_suit (place ∷ places) (v ∷ vs) [] first typed many free goes = absurd typed
   typed_suit (place ∷ places) (v ∷ vs) (kind ∷ kinds) first (is, positive, typed) many free goes =
-      let one = place_fits place first v (Typed kind) (λ flaw x. free flaw (inl x)) is positive (λ flaw x. goes flaw (inl x)) in
+      let one = place_fits place first v (Typed kind) (λ violation x. free violation (inl x)) is positive (λ violation x. goes violation (inl x)) in
       let left : suc (length vs) ≡ suc (length places) = many in
-      (assignable_zeros globals.structs kind (takes place kind) one.0 ∙ one.1, typed_suit places vs kinds (first + 1) typed (omega (arith, left)) (λ flaw x. free flaw (inr x)) (λ flaw x. goes flaw (inr x)))
+      (assignable_zeros globals.structs kind (takes place kind) one.0 ∙ one.1, typed_suit places vs kinds (first + 1) typed (omega (arith, left)) (λ violation x. free violation (inr x)) (λ violation x. goes violation (inr x)))
 
 module _ {globals : Globals} {program : Compiled globals} {coded : Coded program} {simulated : Simulated coded} (position : Position simulated) where
   open program use {elements, code, wide as all}
@@ -135,7 +135,7 @@ module _ {globals : Globals} {program : Compiled globals} {coded : Coded program
 
   pub both_typed : (e : Expression) (first : ℕ) → Free (ExpressionHas globals view.checked first (Receive e)) → OneMakes globals elements e → AreTyped (given globals view.checked (suc (suc zero)) first (Receive e ∷ [])) (carried globals elements scope e ∷ BoolType ∷ [])
   both_typed e first free makes =
-      let c = channel_there point e first (λ flaw x. free flaw (inl x)) makes (λ flaw x. free flaw (inr (inl x))) in
+      let c = channel_there point e first (λ violation x. free violation (inl x)) makes (λ violation x. free violation (inr (inl x))) in
       let w : worth globals view.checked (Receive e) ≡ Some (Typed (carried globals elements scope e)) = ap (λ o. option_map Typed (element_of o)) c.is ∙ ap (λ j. Some (Typed j)) (sym c.carries) in
       (w, nodes_end first (Receive e), (refl, nodes_end first (Receive e), tt))
 
@@ -146,23 +146,23 @@ module _ {globals : Globals} {program : Compiled globals} {coded : Coded program
       let end = first + simple_size (Assign places es) in
       let given-is = plain_given globals view.checked (length places) second es plain in
       let vs = given_values globals view.checked second es in
-      let assigned : Free (AssignedHave globals view.checked places vs end) = λ flaw x. free flaw (inr (inr (subst (λ (l : List Given). AssignedHave globals view.checked places l end flaw) (sym given-is) x))) in
-      let many = same_count (length vs) (length places) end (omega arith) (λ flaw x. assigned flaw (inl x)) in
+      let assigned : Free (AssignedHave globals view.checked places vs end) = λ violation x. free violation (inr (inr (subst (λ (l : List Given). AssignedHave globals view.checked places l end violation) (sym given-is) x))) in
+      let many = same_count (length vs) (length places) end (omega arith) (λ violation x. assigned violation (inl x)) in
       let types = given_types globals elements (given_values globals scope 0 es) in
       let types-are : right_types globals elements scope (length places) es ≡ types = ap (given_types globals elements) (plain_given globals scope (length places) 0 es plain) in
       let others = taken_types globals elements scope places types in
       let spots = place_spots globals elements scope places types in
-      let suit = values_suit coded ls view fine places es first second 0 (sym (given_long globals view.checked second es) ∙ many) (λ flaw x. free flaw (inl x)) (λ flaw x. free flaw (inr (inl x))) (λ flaw x. assigned flaw (inr x)) in
+      let suit = values_suit coded ls view fine places es first second 0 (sym (given_long globals view.checked second es) ∙ many) (λ violation x. free violation (inl x)) (λ violation x. free violation (inr (inl x))) (λ violation x. assigned violation (inr x)) in
       let stay = places_stay coded ls view fine places in
       let destinations = map (placed globals blocks) places in
       let count-is : length destinations ≡ length places = length-map places (placed globals blocks) in
       let on1 : On (pushes_right globals elements scope (length places) others es (assigns spots Skip)) place = subst (λ (ts : List ValueType). On (pushes_right globals elements scope (length places) (taken_types globals elements scope places ts) es (assigns (place_spots globals elements scope places ts) Skip)) place) types-are on in
       gives_plain position destinations others spots (length places) es second place count-is plain
       (record {
-        are = places_are coded ls view fine places first types others (λ flaw x. free flaw (inl x)) suit.1;
+        are = places_are coded ls view fine places first types others (λ violation x. free violation (inl x)) suit.1;
         fit = subst (λ (s : Scope). s.words ≤ length f.locals) (sym stay) most;
         variables_are = same ∙ ap (λ (s : Scope). s.variables) (sym stay);
-      }) (λ flaw x. free flaw (inr (inl x))) makes suit.0 on1
+      }) (λ violation x. free violation (inr (inl x))) makes suit.0 on1
 
   assign_both : (places : List Place) (e : Expression) (first place : ℕ) → length places ≡ suc (suc zero) → OneMakes globals elements e → Free (SimpleHas globals view.checked first (Assign places (Receive e ∷ []))) → On (simple_plan globals elements view.site.layout view.site.prints (Assign places (Receive e ∷ []))) place
       → variables next ≡ variables view → scope.words ≤ length f.locals → Works' (simple_work globals blocks k (Assign places (Receive e ∷ []))) (place_at place ls [])
@@ -170,12 +170,12 @@ module _ {globals : Globals} {program : Compiled globals} {coded : Coded program
       let es : List Expression = Receive e ∷ [] in
       let second = first + length places in
       let end = first + simple_size (Assign places es) in
-      let good : Free (ExpressionHas globals view.checked second (Receive e)) = λ flaw x. free flaw (inr (inl (inl x))) in
+      let good : Free (ExpressionHas globals view.checked second (Receive e)) = λ violation x. free violation (inr (inl (inl x))) in
       let vs = given globals view.checked (suc (suc zero)) second es in
-      let assigned : Free (AssignedHave globals view.checked places vs end) = λ flaw x. free flaw (inr (inr (subst (λ n. AssignedHave globals view.checked places (given globals view.checked n second es) end flaw) (sym two) x))) in
-      let many = same_count (length vs) (length places) end (omega arith) (λ flaw x. assigned flaw (inl x)) in
+      let assigned : Free (AssignedHave globals view.checked places vs end) = λ violation x. free violation (inr (inr (subst (λ n. AssignedHave globals view.checked places (given globals view.checked n second es) end violation) (sym two) x))) in
+      let many = same_count (length vs) (length places) end (omega arith) (λ violation x. assigned violation (inl x)) in
       let types : List ValueType = carried globals elements scope e ∷ BoolType ∷ [] in
-      let suit = typed_suit coded ls view fine places vs types first (both_typed e second good makes) many (λ flaw x. free flaw (inl x)) (λ flaw x. assigned flaw (inr x)) in
+      let suit = typed_suit coded ls view fine places vs types first (both_typed e second good makes) many (λ violation x. free violation (inl x)) (λ violation x. assigned violation (inr x)) in
       let stay = places_stay coded ls view fine places in
       let destinations = map (placed globals blocks) places in
       let spots = place_spots globals elements scope places types in
@@ -184,7 +184,7 @@ module _ {globals : Globals} {program : Compiled globals} {coded : Coded program
       subst (λ (ts : List ValueType). On (pushes_right globals elements scope (length places) (taken_types globals elements scope places ts) es (assigns (place_spots globals elements scope places ts) Skip)) place) types-are on in
       gives_both position destinations (taken_types globals elements scope places types) types spots (length places) e second place (length-map places (placed globals blocks)) two refl
       (record {
-        are = places_are coded ls view fine places first types types (λ flaw x. free flaw (inl x)) suit;
+        are = places_are coded ls view fine places first types types (λ violation x. free violation (inl x)) suit;
         fit = subst (λ (s : Scope). s.words ≤ length f.locals) (sym stay) most;
         variables_are = same ∙ ap (λ (s : Scope). s.variables) (sym stay);
       }) good makes on1

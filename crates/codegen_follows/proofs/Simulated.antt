@@ -10,13 +10,13 @@ use Rattle.meaning.specs.Tasks.{Task, Frame, frame, Course, Goes, Moves}
 use Rattle.plan.specs.Plan.{Plan}
 use Rattle.plan.proofs.Words.{Words}
 use Rattle.plan.proofs.Steps.{spots, slips_more}
-use Rattle.codegen_base.proofs.Gave.{Follows, stays, behind as follows_behind}
+use Rattle.codegen_base.proofs.Gave.{Follows, stays, following as follows_after}
 use Rattle.codegen_base.proofs.Near.{Lands}
 use Rattle.codegen_base.proofs.Seen.{seen}
 use Rattle.codegen_base.proofs.Static.{Holding}
 use Rattle.codegen_base.proofs.Running.{Compiled, Coded, Running, Standing}
 use Rattle.codegen_follows.proofs.Stands.{Around, View, scope_of, variables, Together, IsOn, LeadsOn, Fine, Sits}
-use Rattle.codegen_follows.proofs.Begun.{FineBehind}
+use Rattle.codegen_follows.proofs.Begun.{FineAfter}
 
 module _ {globals : Globals} {program : Compiled globals} (coded : Coded program) where
   -- the variables of a run
@@ -35,7 +35,7 @@ module _ {globals : Globals} {program : Compiled globals} (coded : Coded program
 -- a function that is simulated: at a pc where its code sits, the source and the code are near each other
 pub record Simulated {globals : Globals} {program : Compiled globals} (coded : Coded program) : Type 1 where
   pub running : Running coded
-  pub fine_behind : FineBehind coded
+  pub fine_following : FineAfter coded
   pub Sat : Frame → CodeFrames → Type 0
   -- what leads to such a state by silent steps alone is one
   pub back : (top : Frame) (c d : CodeFrames) → Slips (code_next program.code) c d → Sat top d → Sat top c
@@ -62,11 +62,11 @@ module _ {globals : Globals} {program : Compiled globals} {coded : Coded program
   abbrev pub Reaches : Frame → CodeFrames → Type 0
   Reaches top d = Comes (Goes top) d
 
-  pub reaches_behind : (top : Frame) (c d : CodeFrames) → Slips (code_next code) c d → Reaches top d → Reaches top c
-  reaches_behind top c d slips (e, more, sat, none) = (e, slips_more (code_next code) c d e slips more, sat, none)
+  pub reaches_after : (top : Frame) (c d : CodeFrames) → Slips (code_next code) c d → Reaches top d → Reaches top c
+  reaches_after top c d slips (e, more, sat, none) = (e, slips_more (code_next code) c d e slips more, sat, none)
 
-  pub works_behind : (work : Worked Course) (c d : CodeFrames) → Slips (code_next code) c d → Works work d → Works work c
-  works_behind work c d slips w = follows_behind context work Comes c d slips w
+  pub works_after : (work : Worked Course) (c d : CodeFrames) → Slips (code_next code) c d → Works work d → Works work c
+  works_after work c d slips w = follows_after context work Comes c d slips w
 
   -- a task without a cost
   pub slides : (top : Frame) (c : CodeFrames) → Reaches top c → Works (ready (Goes top)) c

@@ -21,7 +21,7 @@ use Rattle.codegen_base.proofs.Likeness.{like_long, AreLike, all_words_of}
 use Rattle.codegen_base.proofs.Fields.{AllWide, held_within}
 use Rattle.codegen_base.proofs.Stores.{spot_words, put_spot, put_forward, all_words, AreThere, singles_words, stored_forward}
 use Rattle.codegen_base.proofs.Storing.{stores_goes, all_goes}
-use Rattle.codegen_base.proofs.Assigned.{behind_destination, counted_words, placed_new, AreSpots, behind_all, spot_long, more_words}
+use Rattle.codegen_base.proofs.Assigned.{after_destination, counted_words, placed_new, AreSpots, following_all, spot_long, more_words}
 use Rattle.codegen_base.proofs.Running.{Compiled, Coded, Running}
 
 -- ---- the words of spots, and their locals
@@ -66,11 +66,11 @@ module _ (structs : Structs) (all : AllWide structs) where
   spots_words (d ∷ ds) (kind ∷ types) (spot ∷ spots) (v ∷ vs) scope are like =
       let one = spot_long structs all scope d kind spot are.0 in
       let long = like_long structs kind v like.0 in
-      let more = spots_words ds types spots vs (behind_destination structs d scope) are.1 like.1 in
+      let more = spots_words ds types spots vs (after_destination structs d scope) are.1 like.1 in
       omega (arith, one, long, more, length-append v (all_words_of vs))
 
   -- the locals of the spots are there
-  pub spots_there : (ds : List Destination) (types : List ValueType) (spots : List Spot) (scope : Scope) (ns : List ℕ) (many : ℕ) → IsPlaced structs scope ns → AreSpots structs all scope ds types spots → (behind_all structs all ds scope).words ≤ many → AreThere many spots
+  pub spots_there : (ds : List Destination) (types : List ValueType) (spots : List Spot) (scope : Scope) (ns : List ℕ) (many : ℕ) → IsPlaced structs scope ns → AreSpots structs all scope ds types spots → (following_all structs all ds scope).words ≤ many → AreThere many spots
   spots_there [] [] [] scope ns many p are room = tt
   spots_there [] [] (spot ∷ spots) scope ns many p are room = absurd are
   spots_there [] (kind ∷ types) spots scope ns many p are room = absurd are
@@ -78,7 +78,7 @@ module _ (structs : Structs) (all : AllWide structs) where
   spots_there (d ∷ ds) (kind ∷ types) [] scope ns many p are room = absurd are
   spots_there (Nowhere ∷ ds) (kind ∷ types) (spot ∷ spots) scope ns many p are room = subst (λ s. AreThere many (s ∷ spots)) (sym are.0) (spots_there ds types spots scope ns many p are.1 room)
   spots_there (New name k ∷ ds) (kind ∷ types) (spot ∷ spots) scope ns many p ((same, is), are) room =
-      let next = behind_destination structs (New name k) scope in
+      let next = after_destination structs (New name k) scope in
       let m = more_words structs all ds next in
       subst (λ s. AreThere many (s ∷ spots)) (sym is) (omega (arith, m, room, counted_words structs all k), spots_there ds types spots next ns many (placed_new structs all scope ns name k p) are room)
   spots_there (Into name at ∷ ds) (kind ∷ types) (spot ∷ spots) scope ns many p ((x, found, held, same, is), are) room =
@@ -93,7 +93,7 @@ module _ (structs : Structs) (all : AllWide structs) where
   stored_kept (d ∷ ds) [] spots vs others scope blocks are like = absurd are
   stored_kept (d ∷ ds) (kind ∷ types) [] vs others scope blocks are like = absurd are
   stored_kept (d ∷ ds) (kind ∷ types) (spot ∷ spots) [] others scope blocks are like = absurd like
-  stored_kept (d ∷ ds) (kind ∷ types) (spot ∷ spots) (v ∷ vs) others scope blocks are like = stored_kept ds types spots vs others (behind_destination structs d scope) (stored structs d v blocks) are.1 like.1
+  stored_kept (d ∷ ds) (kind ∷ types) (spot ∷ spots) (v ∷ vs) others scope blocks are like = stored_kept ds types spots vs others (after_destination structs d scope) (stored structs d v blocks) are.1 like.1
 
 -- ---- the code
 

@@ -26,7 +26,7 @@ use Rattle.codegen_base.proofs.Alike.{Alike}
 use Rattle.codegen_base.proofs.Known.{VariablesNoted}
 use Rattle.codegen_base.proofs.Static.{innermost_begins, IsPlaced}
 use Rattle.codegen_base.proofs.Typing.{Free}
-use Rattle.codegen_base.proofs.Assigned.{AreSpots, behind_all}
+use Rattle.codegen_base.proofs.Assigned.{AreSpots, following_all}
 use Rattle.codegen_base.proofs.Running.{Compiled, Coded}
 
 -- the pcs to which a break and a continue lead
@@ -103,12 +103,12 @@ module _ {globals : Globals} {program : Compiled globals} (coded : Coded program
   made_other view condition body otherwise = made_otherwise globals elements result view.site condition (ended view.site.layout (made_body view body)) otherwise
 
   -- after a statement
-  abbrev pub behind : View → Statement → View
-  behind view s = record { site = past view.site (made_here view s); begins = view.begins; checked = after globals view.checked s }
+  abbrev pub following : View → Statement → View
+  following view s = record { site = past view.site (made_here view s); begins = view.begins; checked = after globals view.checked s }
 
   -- after the first block of an if or a for
-  abbrev pub behind_body : View → Statements → View
-  behind_body view body = record {
+  abbrev pub after_body : View → Statements → View
+  after_body view body = record {
     site = past view.site (ended view.site.layout (made_body view body));
     begins = view.begins;
     checked = left view.checked (after_all globals (entered view.checked) body);
@@ -159,7 +159,7 @@ module _ {globals : Globals} {program : Compiled globals} (coded : Coded program
     pub fits : Fits view.site.prints (made_all globals elements result view.site body)
 
   abbrev pub post_made : View → Statements → Option Simple → Made
-  post_made view body post = made_post globals elements view.site.layout (behind_body view body).site post
+  post_made view body post = made_post globals elements view.site.layout (after_body view body).site post
 
   -- a loop with a condition and a post statement; a continue leads to `again`
   pub record Looping (l : Around) (view : View) (condition : Option Expression) (post : Option Simple) (body : Statements) (head : ℕ) (out : Option ℕ) : Type 0 where
@@ -169,13 +169,13 @@ module _ {globals : Globals} {program : Compiled globals} (coded : Coded program
     pub fine : Fine view
     pub test : IfSome condition (λ c. Free (TestHas globals view.checked first c))
     pub good : Free (StatementsHave (within true true) (entered view.checked) second body)
-    pub after_good : IfSome post (λ s. Free (SimpleHas globals (entered (behind_body view body).checked) third s))
+    pub after_good : IfSome post (λ s. Free (SimpleHas globals (entered (after_body view body).checked) third s))
     pub test_makes : IfSome condition (OneMakes globals elements)
     pub makes : AllMake globals elements body
     pub post_makes : IfSome post (SimpleMakes globals elements)
     pub on : IsOn l (loop (test_plan globals elements view.site.layout condition) (made_body view body).plan (post_made view body post).plan) head out
     pub fits : Fits view.site.prints (made_body view body)
-    pub post_fits : Fits (behind_body view body).site.prints (post_made view body post)
+    pub post_fits : Fits (after_body view body).site.prints (post_made view body post)
 
   -- a value that is returned is of the function's result
   abbrev pub IsResult : Value → Type 0
@@ -191,9 +191,9 @@ module _ {globals : Globals} {program : Compiled globals} (coded : Coded program
     pub spots : List Spot
     pub fine : Fine view
     pub spots_are : AreSpots globals.structs all (scope_of view) destinations types spots
-    pub room : (behind_all globals.structs all destinations (scope_of view)).words ≤ length f.locals
+    pub room : (following_all globals.structs all destinations (scope_of view)).words ≤ length f.locals
     pub on : IsOn l (drops dropped (assigns spots Skip)) place mid
-    pub variables_are : variables next ≡ (behind_all globals.structs all destinations (scope_of view)).variables
+    pub variables_are : variables next ≡ (following_all globals.structs all destinations (scope_of view)).variables
 
   -- ---- loops over a channel
 
@@ -262,7 +262,7 @@ module _ {globals : Globals} {program : Compiled globals} (coded : Coded program
 
   -- a task at pc `place`: its code leads to `mid`, where what is next has its variables
   abbrev pub Does : Around → View → Task → View → ℕ → Option ℕ → Type 0
-  Does l view (Do s) next place mid = Doing l view s place mid × (variables next ≡ variables (behind view s))
+  Does l view (Do s) next place mid = Doing l view s place mid × (variables next ≡ variables (following view s))
   Does l view (Decide condition body otherwise) next place mid = Deciding l view condition body otherwise place mid × (variables next ≡ variables view)
   Does l view (Head loop) next place mid = Loops l view loop place mid × (variables next ≡ variables view)
   Does l view (Turn loop) next place mid = (head : ℕ) × At f.instrs place (instrs.Loop head) × Loops l view loop head mid × (variables next ≡ variables view)

@@ -10,7 +10,7 @@ use Rattle.codegen_base.specs.Statements.{printed_part}
 use Rattle.plan.proofs.Words.{Words}
 use Rattle.codegen_base.proofs.Running.{Compiled, Coded}
 use Rattle.codegen_follows.proofs.Grown.{grown}
-use Rattle.codegen_follows.proofs.Stands.{Around, View, scope_of, variables, Together, behind, Doing}
+use Rattle.codegen_follows.proofs.Stands.{Around, View, scope_of, variables, Together, following, Doing}
 use Rattle.codegen_follows.proofs.Simulated.{Simulated, Held, Rest, blocks_of, at, Works, Position}
 use Rattle.codegen_follows.proofs.Follows.{empty_goes, block_goes, break_goes, continue_goes}
 use Rattle.codegen_follows.proofs.Branches.{if_goes}
@@ -66,10 +66,10 @@ module _ {globals : Globals} {program : Compiled globals} {coded : Coded program
       rest = r;
     }
 
-    alone_goes : (simple : Simple) (place : ℕ) → Doing coded l view (Alone simple) place mid → variables next ≡ variables (behind coded view (Alone simple))
+    alone_goes : (simple : Simple) (place : ℕ) → Doing coded l view (Alone simple) place mid → variables next ≡ variables (following coded view (Alone simple))
         → Works' (simple_work globals (blocks_of coded ls view) k simple) (at simulated place ls [])
     alone_goes (CallAlone function arguments) place d same = call_alone_goes (position_of (Alone (CallAlone function arguments)) place d) function arguments d.first place d.good d.makes d.on same
-    alone_goes (Close e) place d same = close_goes (position_of (Alone (Close e)) place d) e d.first place (λ flaw x. d.good flaw (inl x)) d.makes d.on same
+    alone_goes (Close e) place d same = close_goes (position_of (Alone (Close e)) place d) e d.first place (λ violation x. d.good violation (inl x)) d.makes d.on same
     alone_goes (Print line parts trailing) place d same =
         let table : PrintTable = record { parts = map (printed_part globals elements (scope_of view)) parts; line = line } in
         print_goes (position_of (Alone (Print line parts trailing)) place d) line trailing parts d.first place d.good d.makes (subst (λ n. slice_get code.prints n ≡ Some table) (plus_none view.site.prints) (d.fits.tables 0 table refl)) d.on same
@@ -81,7 +81,7 @@ module _ {globals : Globals} {program : Compiled globals} {coded : Coded program
     alone_goes (Define names right) place d same = define_goes (position_of (Alone (Define names right)) place d) names right d.first place d.makes d.good d.on (same, d.fits.room)
     alone_goes (Update to operator e) place d same = update_goes (position_of (Alone (Update to operator e)) place d) to operator e d.first place d.good d.makes d.on same d.fits.room
 
-    pub statement_goes : (s : Statement) (place : ℕ) → Doing coded l view s place mid → variables next ≡ variables (behind coded view s)
+    pub statement_goes : (s : Statement) (place : ℕ) → Doing coded l view s place mid → variables next ≡ variables (following coded view s)
         → Works' (statement_work globals (blocks_of coded ls view) k s) (at simulated place ls [])
     statement_goes Empty place d same = empty_goes simulated ls view next l place mid k h d same t.0 r
     statement_goes (Alone simple) place d same = alone_goes simple place d same

@@ -9,7 +9,7 @@ use Rattle.meaning.specs.Tasks.{Task, frame, Course, Moves, Frame}
 use Rattle.plan.proofs.Words.{Words}
 use Rattle.plan.proofs.Steps.{ticks, slips_more}
 use Rattle.codegen_base.proofs.Seen.{seen}
-use Rattle.codegen_base.proofs.Assigned.{behind_all, stores_forward}
+use Rattle.codegen_base.proofs.Assigned.{following_all, stores_forward}
 use Rattle.codegen_base.proofs.Stores.{put_forward}
 use Rattle.codegen_follows.proofs.Stands.{Around, View, scope_of, Sits, Assigning}
 use Rattle.codegen_follows.proofs.Follows.{lead_through, lands}
@@ -28,7 +28,7 @@ use Rattle.std.proofs.lemmas.List.{append-nil}
 module _ {globals : Globals} {program : Compiled globals} {coded : Coded program} (simulated : Simulated coded) where
   open program use {elements, code, wide as all}
   open coded use {function as f, number as g, there, result}
-  open simulated use {running, running.{context, context.{callers as ds}}, fine_behind, sitting}
+  open simulated use {running, running.{context, context.{callers as ds}}, fine_following, sitting}
 
   abbrev structs : Structs
   structs = globals.structs
@@ -67,7 +67,7 @@ module _ {globals : Globals} {program : Compiled globals} {coded : Coded program
       let held : H ms next = record { holding = subst (Holding structs ms) (sym x.variables_are) s.holding; full = s.many ∙ full } in
       let same : blocks ms next ≡ all_stored structs destinations (kept ++ others) (blocks ls view) =
       ap (λ (vs : List Variable). seen structs ms vs next.begins) x.variables_are
-      ∙ ap (seen structs ms (behind_all structs all destinations (scope_of view)).variables) begins
+      ∙ ap (seen structs ms (following_all structs all destinations (scope_of view)).variables) begins
       ∙ s.seen_is
       ∙ sym (stored_kept structs all destinations types x.spots kept others (scope_of view) (blocks ls view) x.spots_are like) in
       moves simulated (all_stored structs destinations (kept ++ others) (blocks ls view)) k (place_at place ls (ws ++ all_words_of others)) (place_at goes.0 ms []) (place_at to ms [])

@@ -15,7 +15,7 @@ use Rattle.codegen_base.proofs.Storing.{drops_goes}
 use Rattle.codegen_follows.proofs.Stands.{Around, View, Together, all_wide, Taking, Sits}
 use Rattle.codegen_follows.proofs.Follows.{lands_same}
 use Rattle.codegen_base.proofs.Running.{Compiled, Coded}
-use Rattle.codegen_follows.proofs.Simulated.{Simulated, Held, Rest, blocks_of, at, Works, Reaches, reaches_behind, slides}
+use Rattle.codegen_follows.proofs.Simulated.{Simulated, Held, Rest, blocks_of, at, Works, Reaches, reaches_after, slides}
 use Rattle.meaning.specs.Worked.{Worked, ready}
 use Rattle.codegen_follows.proofs.Stored.{stores_go}
 use Rattle.meaning.specs.Source.{assigned}
@@ -68,7 +68,7 @@ module _ (structs : Structs) where
 module _ {globals : Globals} {program : Compiled globals} {coded : Coded program} (simulated : Simulated coded) where
   open program use {elements, code, wide as all}
   open coded use {function as f, number as g, there, result}
-  open simulated use {running, running.{context, context.{callers as ds}}, fine_behind, sitting}
+  open simulated use {running, running.{context, context.{callers as ds}}, fine_following, sitting}
 
   abbrev structs : Structs
   structs = globals.structs
@@ -114,7 +114,7 @@ module _ {globals : Globals} {program : Compiled globals} {coded : Coded program
       → Works' (ready (comes_of (blocks ls view) k destinations vs)) (place_at place ls (all_words_of vs))
   taken_goes ls view next l types vs [] place mid k h like (on, same) t r =
       let m = drops_goes running l.leave l.again (all_wide coded types) (all_words_of vs) [] ls Skip mid place (wide_words types vs like) on in
-      slides simulated (frame (blocks ls view) k) (place_at place ls (all_words_of vs)) (reaches_behind simulated (frame (blocks ls view) k) (place_at place ls (all_words_of vs)) (place_at m.0 ls []) m.1
+      slides simulated (frame (blocks ls view) k) (place_at place ls (all_words_of vs)) (reaches_after simulated (frame (blocks ls view) k) (place_at place ls (all_words_of vs)) (place_at m.0 ls []) m.1
       (lands_same simulated ls view next l m.0 mid k h same t.0 m.2 r))
   taken_goes ls view next l types vs (first ∷ more) place mid k h like (kept, others, types-are, d) t r =
       let s = split structs kept others vs (recast_like structs types (kept ++ others) vs types-are like) in

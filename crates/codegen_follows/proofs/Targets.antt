@@ -117,7 +117,7 @@ module _ {globals : Globals} {program : Compiled globals} {coded : Coded program
   taken target e = takes globals elements result (entering (keeping globals elements e view.site.layout)) (carried globals elements scope e) target
 
   channel_free : (target : Target) (e : Expression) (body : Statements) (place : ℕ) (d : Ranged target e body place) → Free (ExpressionHas globals view.checked (d.first + target_size target) e)
-  channel_free target e body place d = let s = view.checked in λ flaw x. d.good flaw (inl (inr (inl (inl (has_same globals s.variables s.outer (length s.variables) s.words s.words e (d.first + target_size target) flaw x)))))
+  channel_free target e body place d = let s = view.checked in λ violation x. d.good violation (inl (inr (inl (inl (has_same globals s.variables s.outer (length s.variables) s.words s.words e (d.first + target_size target) violation x)))))
 
   outer_worth : (e : Expression) → worth globals view.checked e ≡ worth globals (entered view.checked) e
   outer_worth e = let s = view.checked in worth_same globals s.variables s.outer (length s.variables) s.words s.words e
@@ -125,7 +125,7 @@ module _ {globals : Globals} {program : Compiled globals} {coded : Coded program
   channel_is : (target : Target) (e : Expression) (body : Statements) (place : ℕ) → Ranged target e body place → Channel' e
   channel_is target e body place d =
       let first = d.first + target_size target in
-      channel_there point e first (channel_free target e body place d) d.makes.0 (λ flaw x. d.good flaw (inl (inr (inl (inr (inl (subst (λ o. ChannelHas o (nodes_of first e) flaw) (outer_worth e) x)))))))
+      channel_there point e first (channel_free target e body place d) d.makes.0 (λ violation x. d.good violation (inl (inr (inl (inr (inl (subst (λ o. ChannelHas o (nodes_of first e) violation) (outer_worth e) x)))))))
 
   -- the words of the item's block are there
   body_room : (target : Target) (e : Expression) (body : Statements) (place : ℕ) → Ranged target e body place → (scope_of (taken_view target e)).words ≤ length f.locals
@@ -146,7 +146,7 @@ module _ {globals : Globals} {program : Compiled globals} {coded : Coded program
       kept_goes position e body (goals target e) (d.first + target_size target) (channel_free target e body place d) d.makes.0 c enough place d.on.0 d.on.1
       (map_reached simulated d.on.0 _ (λ p. RangingAt coded l (kept e) (goals target e) zero body p mid)
       (λ p x. loop_at position e body c (goals target e) (taken target e) (made_all globals elements result (inside last.site) body).plan last u enough items
-      (λ again p on. record { first = _; breaks = true; continues = true; fine = fine_taken; good = λ flaw y. d.good flaw (inr y); makes = d.makes.1; on = on; fits = record { tables = d.fits.tables; room = d.fits.room } }) p x) d.on.2) same
+      (λ again p on. record { first = _; breaks = true; continues = true; fine = fine_taken; good = λ violation y. d.good violation (inr y); makes = d.makes.1; on = on; fits = record { tables = d.fits.tables; room = d.fits.room } }) p x) d.on.2) same
 
   -- ---- a variable of its own for each item
 
@@ -189,27 +189,27 @@ module _ {globals : Globals} {program : Compiled globals} {coded : Coded program
   new_items e name body place d c no-blank again m p on =
       let structs = globals.structs in
       let spot = Local (scope_of (item e)).words (words_in structs c.element) in
-      let behind = ap (λ (x : Layout). x.scope) (layout_is e name c no-blank) in
+      let following = ap (λ (x : Layout). x.scope) (layout_is e name c no-blank) in
       let most = body_room (DefineTarget name) e body place d in
       let assigning : Assigning coded (within_loop again) (item e) 0 (c.element ∷ []) (New name c.element ∷ []) (taken_view (DefineTarget name) e) p m = record {
         spots = spot ∷ [];
         fine = fine_here e;
         spots_are = ((refl, refl), tt);
-        room = subst (λ (s : Scope). s.words ≤ length f.locals) behind most;
+        room = subst (λ (s : Scope). s.words ≤ length f.locals) following most;
         on = subst (λ (x : Spot). IsOn coded (within_loop again) (assigns (x ∷ []) Skip) p m) (new_spot e name c no-blank) on;
-        variables_are = ap (λ (s : Scope). s.variables) behind;
+        variables_are = ap (λ (s : Scope). s.variables) following;
       } in
       subst (λ (ds : List Destination). Items coded (within_loop again) (item e) c.element ds (taken_view (DefineTarget name) e) p m) (sym (new_goal e name c no-blank)) (c.element, refl, assigning)
 
   pub define_range_goes : (name : List ℕ) (e : Expression) (body : Statements) (place : ℕ) → Ranged (DefineTarget name) e body place → variables next ≡ variables view → Works' (statement_work globals blocks k (For (Range (DefineTarget name) e) body)) (place_at place ls [])
   define_range_goes name e body place d same =
       let c = channel_is (DefineTarget name) e body place d in
-      let no-blank = single_named (entered view.checked) name _ (omega arith) (λ flaw x. d.good flaw (inl (inr (inr x)))) in
-      let behind : Layout.scope (taken_view (DefineTarget name) e).site.layout ≡ _ = ap (λ (x : Layout). x.scope) (layout_is e name c no-blank) in
+      let no-blank = single_named (entered view.checked) name _ (omega arith) (λ violation x. d.good violation (inl (inr (inr x)))) in
+      let following : Layout.scope (taken_view (DefineTarget name) e).site.layout ≡ _ = ap (λ (x : Layout). x.scope) (layout_is e name c no-blank) in
       let vs = variables (item e) in
       target_goes (DefineTarget name) e body place d c (fine_named e name c no-blank)
-      (refl, ap (λ (s : Scope). take (length vs) s.variables) behind ∙ take_front (length vs) vs _ (omega arith))
-      (subst (λ (s : Scope). (scope_of (kept e)).words ≤ s.words) (sym behind) (omega arith))
+      (refl, ap (λ (s : Scope). take (length vs) s.variables) following ∙ take_front (length vs) vs _ (omega arith))
+      (subst (λ (s : Scope). (scope_of (kept e)).words ≤ s.words) (sym following) (omega arith))
       (new_items e name body place d c no-blank) same
 
   -- ---- an lvalue that is assigned
@@ -250,12 +250,12 @@ module _ {globals : Globals} {program : Compiled globals} {coded : Coded program
       } in
       subst (λ (x : Destination). Items coded (within_loop again) (item e) c.element (x ∷ []) (taken_view (AssignTarget to) e) p m) (place_same e to) (c.element, refl, assigning) where
         place_free : Free (PlacesHave globals (entered view.checked) d.first (to ∷ []))
-        place_free flaw (inl x) = d.good flaw (inl (inl x))
-        place_free flaw (inr x) = absurd x
+        place_free violation (inl x) = d.good violation (inl (inl x))
+        place_free violation (inr x) = absurd x
 
         goes_free : Free (PlacesFail globals (entered view.checked) (to ∷ []) (item_given globals (entered view.checked) (d.first + 1) e ∷ []))
-        goes_free flaw (inl x) = d.good flaw (inl (inr (inr x)))
-        goes_free flaw (inr x) = absurd x
+        goes_free violation (inl x) = d.good violation (inl (inr (inr x)))
+        goes_free violation (inr x) = absurd x
 
   pub assign_range_goes : (to : Place) (e : Expression) (body : Statements) (place : ℕ) → Ranged (AssignTarget to) e body place → variables next ≡ variables view → Works' (statement_work globals blocks k (For (Range (AssignTarget to) e) body)) (place_at place ls [])
   assign_range_goes to e body place d same =

@@ -40,7 +40,7 @@ use Rattle.codegen_follows.proofs.Sets.{AreTyped, both_typed}
 use Rattle.codegen_follows.proofs.Names.{neither, AllNamesSuit, NameSuits, names_are, AreNew, new_names}
 use Rattle.codegen_follows.proofs.Untyped.{declared_there}
 use Rattle.codegen_base.proofs.Running.{Compiled, Coded}
-use Rattle.codegen_follows.proofs.Simulated.{Simulated, at, Works, works_behind, Position, here_blocks, On', standing}
+use Rattle.codegen_follows.proofs.Simulated.{Simulated, at, Works, works_after, Position, here_blocks, On', standing}
 use Rattle.meaning.specs.Worked.{Worked}
 use Rattle.meaning.specs.Expressions.{written_kind}
 use Rattle.codegen_follows.proofs.Rights.{gives_plain, gives_both, Targets, stored_go}
@@ -92,10 +92,10 @@ module _ {globals : Globals} {program : Compiled globals} (coded : Coded program
   each_fits [] (e ∷ es) kind first many good fail = absurd cc
   each_fits (name ∷ names) [] kind first many good fail = absurd cc
   each_fits (name ∷ names) (e ∷ es) kind first many good fail =
-      let w = worth_there globals view.checked program.types_known (variables_known view.checked (scope_of view) fine.alike fine.placed.known) e first (λ flaw x. good flaw (inl x)) in
-      let fit = fits w.0 kind (nodes_of first e) (nodes_end first e) (λ flaw x. fail flaw (inl (subst (λ o. ValueHas o (Some kind) (nodes_of first e) flaw) (sym w.1) x))) in
+      let w = worth_there globals view.checked program.types_known (variables_known view.checked (scope_of view) fine.alike fine.placed.known) e first (λ violation x. good violation (inl x)) in
+      let fit = fits w.0 kind (nodes_of first e) (nodes_end first e) (λ violation x. fail violation (inl (subst (λ o. ValueHas o (Some kind) (nodes_of first e) violation) (sym w.1) x))) in
       let left : suc (length es) ≡ suc (length names) = many in
-      ((w.0, w.1, fit), each_fits names es kind (first + expression_size e) (omega (arith, left)) (λ flaw x. good flaw (inr x)) (λ flaw x. fail flaw (inr x)))
+      ((w.0, w.1, fit), each_fits names es kind (first + expression_size e) (omega (arith, left)) (λ violation x. good violation (inr x)) (λ violation x. fail violation (inr x)))
 
   -- what an operation gives has the words of the type
   each_zeros : (names : List (List ℕ)) (vs : List Given) (kinds : List ValueType) (kind : ValueType) → AreTyped vs kinds → length vs ≡ length names → Free (AllFail (Some kind) (length names) vs) → map (zero_words globals.structs) (same names kind) ≡ map (zero_words globals.structs) kinds
@@ -106,9 +106,9 @@ module _ {globals : Globals} {program : Compiled globals} (coded : Coded program
   each_zeros (name ∷ names) (v ∷ vs) [] kind typed many fail = absurd typed
   each_zeros (name ∷ names) (v ∷ vs) (j ∷ kinds) kind (is, positive, typed) many fail =
       let zero = zero_words globals.structs in
-      let fit = fits (Typed j) kind v.nodes positive (λ flaw x. fail flaw (inl (subst (λ o. ValueHas o (Some kind) v.nodes flaw) (sym is) x))) in
+      let fit = fits (Typed j) kind v.nodes positive (λ violation x. fail violation (inl (subst (λ o. ValueHas o (Some kind) v.nodes violation) (sym is) x))) in
       let left : suc (length vs) ≡ suc (length names) = many in
-      ap (λ (x : Value). x ∷ map zero (same names kind)) (sym (assignable_zeros globals.structs j kind fit)) ∙ ap (λ (l : List Value). zero j ∷ l) (each_zeros names vs kinds kind typed (omega (arith, left)) (λ flaw x. fail flaw (inr x)))
+      ap (λ (x : Value). x ∷ map zero (same names kind)) (sym (assignable_zeros globals.structs j kind fit)) ∙ ap (λ (l : List Value). zero j ∷ l) (each_zeros names vs kinds kind typed (omega (arith, left)) (λ violation x. fail violation (inr x)))
 
   -- the type is written in any block alike
   pub record IsWritten (kind : TypeExpression) : Type 0 where
@@ -154,15 +154,15 @@ module _ {globals : Globals} {program : Compiled globals} {coded : Coded program
   laid kind = known (type_in globals.types scope kind)
 
   -- the variables that the code has after the names
-  abbrev pub BehindEach : List (List ℕ) → ValueType → Type 0
-  BehindEach names kind = (variables next ≡ (declaring_each globals elements kind names view.site.layout).scope.variables) × ((declaring_each globals elements kind names view.site.layout).scope.words ≤ length f.locals)
+  abbrev pub FollowingEach : List (List ℕ) → ValueType → Type 0
+  FollowingEach names kind = (variables next ≡ (declaring_each globals elements kind names view.site.layout).scope.variables) × ((declaring_each globals elements kind names view.site.layout).scope.words ≤ length f.locals)
 
-  each_targets : (names : List (List ℕ)) (kind : ValueType) → AreNew view.checked names → has_twice names ≡ false → BehindEach names kind → Targets position (all_defined globals blocks names (each names kind)) (each names kind) (name_spots globals elements view.site.layout names (each names kind))
+  each_targets : (names : List (List ℕ)) (kind : ValueType) → AreNew view.checked names → has_twice names ≡ false → FollowingEach names kind → Targets position (all_defined globals blocks names (each names kind)) (each names kind) (name_spots globals elements view.site.layout names (each names kind))
   each_targets names kind are-new single b =
       let suit = new_suit coded ls view fine names kind are-new in
       let are = names_are coded ls view fine names (each names kind) (each names kind) single suit.0 in
-      let behind = are.1 ∙ ap (λ (x : Layout). x.scope) (each_is coded ls view fine names kind view.site.layout) in
-      record { are = are.0; fit = subst (λ (s : Scope). s.words ≤ length f.locals) (sym behind) b.1; variables_are = b.0 ∙ ap (λ (s : Scope). s.variables) (sym behind) }
+      let following = are.1 ∙ ap (λ (x : Layout). x.scope) (each_is coded ls view fine names kind view.site.layout) in
+      record { are = are.0; fit = subst (λ (s : Scope). s.words ≤ length f.locals) (sym following) b.1; variables_are = b.0 ∙ ap (λ (s : Scope). s.variables) (sym following) }
 
   destinations_are : (names : List (List ℕ)) (kind : ValueType) → AreNew view.checked names → map (λ name. new globals blocks name kind) names ≡ all_defined globals blocks names (each names kind)
   destinations_are names kind are-new = new_each coded ls view fine names kind ∙ new_names coded ls view fine names (each names kind) are-new
@@ -171,19 +171,19 @@ module _ {globals : Globals} {program : Compiled globals} {coded : Coded program
   new_long names kind are-new = ap length (sym (destinations_are names kind are-new)) ∙ length-map names (λ name. new globals blocks name kind)
 
   pub typed_right_goes : (names : List (List ℕ)) (kind : TypeExpression) (right : List Expression) (first place : ℕ) → ValuesMake globals elements right → Free (TypedVariablesHave globals view.checked first names kind (Some right))
-      → On (variables_plan globals elements view.site.layout names (laid kind) (Some right)) place → BehindEach names (laid kind) → Works' (statement_work globals blocks k (VarTyped names kind (Some right))) (place_at place ls [])
-  typed_right_goes names kind right first place makes free on behind =
-      let w = written_there coded ls view fine kind first (λ flaw x. free flaw (inl x)) in
+      → On (variables_plan globals elements view.site.layout names (laid kind) (Some right)) place → FollowingEach names (laid kind) → Works' (statement_work globals blocks k (VarTyped names kind (Some right))) (place_at place ls [])
+  typed_right_goes names kind right first place makes free on following =
+      let w = written_there coded ls view fine kind first (λ violation x. free violation (inl x)) in
       let K = w.type in
       let is : laid kind ≡ K = ap known w.laid-out in
-      let d = declared_there view.checked names (first + type_size kind + if_any (sum_by expression_size) (Some right) + 1) (omega arith) (λ flaw x. free flaw (inr (inr x))) in
-      let targets = each_targets names K d.are_new d.single (subst (BehindEach names) is behind) in
+      let d = declared_there view.checked names (first + type_size kind + if_any (sum_by expression_size) (Some right) + 1) (omega arith) (λ violation x. free violation (inr (inr x))) in
+      let targets = each_targets names K d.are_new d.single (subst (FollowingEach names) is following) in
       let suit = new_suit coded ls view fine names K d.are_new in
       let on1 : On (pushes_right globals elements scope (length names) (each names K) right (assigns (name_spots globals elements view.site.layout names (each names K)) Skip)) place =
       subst (λ (ts : List ValueType). On (pushes_right globals elements scope (length names) ts right (assigns (name_spots globals elements view.site.layout names (each names K)) Skip)) place) suit.1
       (subst (λ j. On (variables_plan globals elements view.site.layout names j (Some right)) place) is on) in
       subst (λ (to : List Destination). Works' (gives globals blocks k to right) (place_at place ls [])) (sym (ap (λ j. map (λ name. new globals blocks name j) names) w.written ∙ destinations_are names K d.are_new))
-      (given_goes K right d.are_new targets makes (λ flaw x. free flaw (inr (inl (inl x)))) (λ flaw x. free flaw (inr (inl (inr (inl x))))) (λ flaw x. free flaw (inr (inl (inr (inr (subst (λ o. AllFail o (length names) (given globals view.checked (length names) (first + type_size kind) right) flaw) (sym w.checked) x)))))) on1) where
+      (given_goes K right d.are_new targets makes (λ violation x. free violation (inr (inl (inl x)))) (λ violation x. free violation (inr (inl (inr (inl x))))) (λ violation x. free violation (inr (inl (inr (inr (subst (λ o. AllFail o (length names) (given globals view.checked (length names) (first + type_size kind) right) violation) (sym w.checked) x)))))) on1) where
         second : ℕ
         second = first + type_size kind
 
@@ -204,9 +204,9 @@ module _ {globals : Globals} {program : Compiled globals} {coded : Coded program
           both e two is =
               let vs = given globals view.checked (suc (suc zero)) second (Receive e ∷ []) in
               let same : given globals view.checked (length names) second es ≡ vs = ap (given globals view.checked (length names) second) is ∙ ap (λ n. given globals view.checked n second (Receive e ∷ [])) two in
-              let good' : Free (ExpressionHas globals view.checked second (Receive e)) = λ flaw x. good flaw (subst (λ (l : List Expression). RightHas globals view.checked second l flaw) (sym is) (inl x)) in
+              let good' : Free (ExpressionHas globals view.checked second (Receive e)) = λ violation x. good violation (subst (λ (l : List Expression). RightHas globals view.checked second l violation) (sym is) (inl x)) in
               let makes' : ValuesMake globals elements (Receive e ∷ []) = subst (ValuesMake globals elements) is makes in
-              let zeros = each_zeros coded ls view fine names vs (carried globals elements scope e ∷ BoolType ∷ []) K (both_typed position e second good' makes'.0) (ap length (sym same) ∙ many) (λ flaw x. fail flaw (subst (λ (l : List Given). AllFail (Some K) (length names) l flaw) (sym same) x)) in
+              let zeros = each_zeros coded ls view fine names vs (carried globals elements scope e ∷ BoolType ∷ []) K (both_typed position e second good' makes'.0) (ap length (sym same) ∙ many) (λ violation x. fail violation (subst (λ (l : List Given). AllFail (Some K) (length names) l violation) (sym same) x)) in
               subst (Goal K) (sym is)
               (gives_both position (all_defined globals blocks names (each names K)) (each names K) (each names K) spots (length names) e second place (new_long names K are-new) two zeros targets good' makes'.0
               (subst (λ (l : List Expression). On (pushes_right globals elements scope (length names) (each names K) l (assigns spots Skip)) place) is on))
@@ -214,7 +214,7 @@ module _ {globals : Globals} {program : Compiled globals} {coded : Coded program
           go : IsBoth (length names) es ⊎ IsPlain (length names) es → Goal K es
           go (inr plain) =
               let same = plain_given globals view.checked (length names) second es plain in
-              let fit = each_fits coded ls view fine names es K second (sym (given_long globals view.checked second es) ∙ ap length (sym same) ∙ many) good (λ flaw x. fail flaw (subst (λ (l : List Given). AllFail (Some K) (length names) l flaw) (sym same) x)) in
+              let fit = each_fits coded ls view fine names es K second (sym (given_long globals view.checked second es) ∙ ap length (sym same) ∙ many) good (λ violation x. fail violation (subst (λ (l : List Given). AllFail (Some K) (length names) l violation) (sym same) x)) in
               gives_plain position (all_defined globals blocks names (each names K)) (each names K) spots (length names) es second place (new_long names K are-new) plain targets good makes fit on
           go (inl (e, two, is)) = both e two is
 
@@ -238,17 +238,17 @@ module _ {globals : Globals} {program : Compiled globals} {coded : Coded program
   zeros_alike (name ∷ names) kind = (zeros_like structs kind, zeros_alike names kind)
 
   pub typed_zeros_go : (names : List (List ℕ)) (kind : TypeExpression) (first place : ℕ) → Free (TypedVariablesHave globals view.checked first names kind None)
-      → On (variables_plan globals elements view.site.layout names (laid kind) None) place → BehindEach names (laid kind) → Works' (statement_work globals blocks k (VarTyped names kind None)) (place_at place ls [])
-  typed_zeros_go names kind first place free on behind =
-      let w = written_there coded ls view fine kind first (λ flaw x. free flaw (inl x)) in
+      → On (variables_plan globals elements view.site.layout names (laid kind) None) place → FollowingEach names (laid kind) → Works' (statement_work globals blocks k (VarTyped names kind None)) (place_at place ls [])
+  typed_zeros_go names kind first place free on following =
+      let w = written_there coded ls view fine kind first (λ violation x. free violation (inl x)) in
       let K = w.type in
       let is : laid kind ≡ K = ap known w.laid-out in
-      let d = declared_there view.checked names (first + type_size kind + if_any (sum_by expression_size) None + 1) (omega arith) (λ flaw x. free flaw (inr (inr x))) in
-      let targets = each_targets names K d.are_new d.single (subst (BehindEach names) is behind) in
+      let d = declared_there view.checked names (first + type_size kind + if_any (sum_by expression_size) None + 1) (omega arith) (λ violation x. free violation (inr (inr x))) in
+      let targets = each_targets names K d.are_new d.single (subst (FollowingEach names) is following) in
       let destinations = all_defined globals blocks names (each names K) in
       let spots = name_spots globals elements view.site.layout names (each names K) in
       let p = zeros_push names K (assigns spots Skip) place [] (subst (λ j. On (variables_plan globals elements view.site.layout names j None) place) is on) in
       subst (λ j. Works' (stores globals blocks k (map (λ name. new globals blocks name j) names) (zeros names j)) (place_at place ls [])) (sym w.written)
       (subst (λ (to : List Destination). Works' (stores globals blocks k to (zeros names K)) (place_at place ls [])) (sym (destinations_are names K d.are_new))
-      (works_behind simulated (stores globals blocks k destinations (zeros names K)) (place_at place ls []) (place_at p.0 ls (all_words_of (zeros names K))) p.1
+      (works_after simulated (stores globals blocks k destinations (zeros names K)) (place_at place ls []) (place_at p.0 ls (all_words_of (zeros names K))) p.1
       (stored_go position destinations (each names K) spots (zeros names K) p.0 targets (zeros_alike names K) p.2)))

@@ -21,7 +21,7 @@ use Rattle.plan.proofs.Words.{Words}
 use Rattle.codegen_base.proofs.Typing.{Free, broken}
 use Rattle.codegen_follows.proofs.Stands.{scope_of, ValuesMake}
 use Rattle.codegen_follows.proofs.Names.{neither, AreNew, new_names}
-use Rattle.codegen_follows.proofs.Defined.{names_go, Behind}
+use Rattle.codegen_follows.proofs.Defined.{names_go, Following}
 use Rattle.codegen_base.proofs.Running.{Compiled, Coded}
 use Rattle.codegen_follows.proofs.Simulated.{Simulated, at, Works, Position, here_blocks, On'}
 use Rattle.meaning.specs.Worked.{Worked}
@@ -65,10 +65,10 @@ module _ {globals : Globals} {program : Compiled globals} {coded : Coded program
   On plan place = On' point plan place mid
 
   pub untyped_goes : (names : List (List ℕ)) (right : List Expression) (first place : ℕ) → ValuesMake globals elements right → Free (UntypedVariablesHave globals view.checked first names right)
-      → On (defines globals elements view.site.layout names (right_types globals elements scope (length names) right) right) place → Behind position names (right_types globals elements scope (length names) right) → Works' (statement_work globals blocks k (VarUntyped names right)) (place_at place ls [])
-  untyped_goes names right first place makes free on behind =
+      → On (defines globals elements view.site.layout names (right_types globals elements scope (length names) right) right) place → Following position names (right_types globals elements scope (length names) right) → Works' (statement_work globals blocks k (VarUntyped names right)) (place_at place ls [])
+  untyped_goes names right first place makes free on following =
       let end = first + sum_by expression_size right + 1 in
-      let d = declared_there view.checked names end (omega arith) (λ flaw x. free flaw (inr (inr (inl x)))) in
+      let d = declared_there view.checked names end (omega arith) (λ violation x. free violation (inr (inr (inl x)))) in
       subst (λ (to : List Destination). Works' (gives globals blocks k to right) (place_at place ls [])) (sym (new_names coded ls view fine names (given_kinds globals blocks (length names) right) d.are_new))
       (names_go position names right first end place (omega arith) makes d.single
-      (λ flaw x. free flaw (inl x)) (λ flaw x. free flaw (inr (inl x))) (untyped_names view.checked names (given globals view.checked (length names) first right) end (omega arith) (λ flaw x. free flaw (inr x))) on behind)
+      (λ violation x. free violation (inl x)) (λ violation x. free violation (inr (inl x))) (untyped_names view.checked names (given globals view.checked (length names) first right) end (omega arith) (λ violation x. free violation (inr x))) on following)

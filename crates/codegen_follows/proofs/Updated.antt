@@ -16,9 +16,9 @@ use Rattle.type_table.specs.Types.{ValueType, IntType, BoolType, is_int_type, is
 use Rattle.type_table.specs.Containment.{Structs}
 use Rattle.type_table.specs.Scopes.{Scope, is_blank, Globals}
 use Rattle.type_table.specs.Zeros.{zero_words}
-use Rattle.typing_rules.specs.declared.flaw.Misuse.{Misuse}
-use Rattle.typing_rules.specs.declared.flaw.Misuse.TheVariants as misuses
-use Rattle.typing_rules.specs.Flaws.{Nodes}
+use Rattle.typing_rules.specs.declared.violation.Misuse.{Misuse}
+use Rattle.typing_rules.specs.declared.violation.Misuse.TheVariants as misuses
+use Rattle.typing_rules.specs.Violations.{Nodes}
 use Rattle.typing_rules.specs.Worths.{Worth, Typed, Constant, Nil, is_int, is_equality, is_logical, made_type, is_wrong_right, fit_operator, binary_worth, worth, type_of_field}
 use Rattle.typing_rules.specs.Expressions.{nodes_of, ValueHas, ExpressionHas, default_type}
 use Rattle.typing_rules.specs.Operations.{selected, place_type, ReadPlaceHas, PlaceHas, PlacesHave}
@@ -62,14 +62,14 @@ part_taken (suc n) zero ls le = absurd (omega (arith, le))
 part_taken (suc n) (suc w) [] le = refl
 part_taken (suc n) (suc w) (x ∷ ls) le = ap (λ (l : Words). x ∷ l) (part_taken n w ls (omega (arith, le)))
 
-part_behind : (from n w : ℕ) (ls : Words) → from + n ≤ w → take n (drop from (take w ls)) ≡ take n (drop from ls)
-part_behind zero n w ls le = part_taken n w ls (omega (arith, le))
-part_behind (suc from) n zero ls le = absurd (omega (arith, le))
-part_behind (suc from) n (suc w) [] le = refl
-part_behind (suc from) n (suc w) (x ∷ ls) le = part_behind from n w ls (omega (arith, le))
+part_after : (from n w : ℕ) (ls : Words) → from + n ≤ w → take n (drop from (take w ls)) ≡ take n (drop from ls)
+part_after zero n w ls le = part_taken n w ls (omega (arith, le))
+part_after (suc from) n zero ls le = absurd (omega (arith, le))
+part_after (suc from) n (suc w) [] le = refl
+part_after (suc from) n (suc w) (x ∷ ls) le = part_after from n w ls (omega (arith, le))
 
 part_part : (p w from n : ℕ) (ls : Words) → from + n ≤ w → part from n (part p w ls) ≡ part (p + from) n ls
-part_part p w from n ls le = part_behind from n w (drop p ls) le ∙ ap (take n) (drop-drop from p ls)
+part_part p w from n ls le = part_after from n w (drop p ls) le ∙ ap (take n) (drop-drop from p ls)
 
 -- ---- an operator to the right of a value that has a type makes one that has
 
@@ -176,8 +176,8 @@ module _ {globals : Globals} {program : Compiled globals} {coded : Coded program
         variables_are = same ∙ ap (λ (s : Scope). s.variables) (sym stay);
       }) (m.1, tt) t.0 r))) where
         only_one : (first : ℕ) (place : Place) → Free (PlaceHas globals view.checked first place) → Free (PlacesHave globals view.checked first (place ∷ []))
-        only_one first place free flaw (inl x) = free flaw x
-        only_one first place free flaw (inr x) = absurd x
+        only_one first place free violation (inl x) = free violation x
+        only_one first place free violation (inr x) = absurd x
 
   -- what is made fits the lvalue
   pub record IsUpdated (operator : BinaryOperator) (place : Place) (b : Worth) : Type 0 where
@@ -192,11 +192,11 @@ module _ {globals : Globals} {program : Compiled globals} {coded : Coded program
     go : (t : Bool) → is_blank place.name ≡ t → IsUpdated operator place b
     go true blank = let x = broken rules.Assigned (first + 1) (omega arith) in absurd (free x.0 (inr (blank, x.1)))
     go false no-blank =
-        let p = reaches coded ls view fine place first no-blank (λ flaw x. free flaw (inl x)) in
-        let good : Free (MadeHas (binary_worth operator (Typed p.kind) b) p.kind nodes end) = λ flaw x. update flaw (subst (λ o. UpdatedHas operator o (Some b) nodes end flaw) (sym p.checked_is) x) in
-        let w = made (binary_worth operator (Typed p.kind) b) nodes nodes end le le positive (λ flaw x. good flaw (inl x)) in
+        let p = reaches coded ls view fine place first no-blank (λ violation x. free violation (inl x)) in
+        let good : Free (MadeHas (binary_worth operator (Typed p.kind) b) p.kind nodes end) = λ violation x. update violation (subst (λ o. UpdatedHas operator o (Some b) nodes end violation) (sym p.checked_is) x) in
+        let w = made (binary_worth operator (Typed p.kind) b) nodes nodes end le le positive (λ violation x. good violation (inl x)) in
         let k = typed_result operator p.kind b w.0 w.1 in
-        let fit = fits (Typed k.0) p.kind nodes le (λ flaw x. good flaw (inr (subst (λ o. ValueHas o (Some p.kind) nodes flaw) (sym (ap result_ok w.1 ∙ ap Some k.1)) x))) in
+        let fit = fits (Typed k.0) p.kind nodes le (λ violation x. good violation (inr (subst (λ o. ValueHas o (Some p.kind) nodes violation) (sym (ap result_ok w.1 ∙ ap Some k.1)) x))) in
         record { no_blank = no-blank; reached = p; kind = k.0; made_is = w.1 ∙ ap Ok k.1; zeros = assignable_zeros globals.structs k.0 p.kind fit ∙ ap (λ o. zero_words globals.structs (known o)) (sym p.checked_is) }
 
   -- ---- the statements
@@ -219,26 +219,26 @@ module _ {globals : Globals} {program : Compiled globals} {coded : Coded program
 
   pub increment_goes : (place : Place) (first at' : ℕ) → Free (SimpleHas globals view.checked first (Increment place)) → On (simple_plan globals elements view.site.layout view.site.prints (Increment place)) at' → variables next ≡ variables view → scope.words ≤ length f.locals → Works' (simple_work globals blocks k (Increment place)) (place_at at' ls [])
   increment_goes place first at' free on same most =
-      let u = updated_there ops.Add place first (Constant (pos 1)) (record { first = first; end = first + 1 }) (first + 2) (omega arith) (omega arith) (λ flaw x. free flaw (inl x)) (λ flaw x. free flaw (inr x)) in
-      made_stored place first u.kind _ at' u.no_blank (λ flaw x. free flaw (inl (inl x))) u.zeros same most (stepped ops.Add place u (assigns (spot place ∷ []) Skip) mid at' [] on)
+      let u = updated_there ops.Add place first (Constant (pos 1)) (record { first = first; end = first + 1 }) (first + 2) (omega arith) (omega arith) (λ violation x. free violation (inl x)) (λ violation x. free violation (inr x)) in
+      made_stored place first u.kind _ at' u.no_blank (λ violation x. free violation (inl (inl x))) u.zeros same most (stepped ops.Add place u (assigns (spot place ∷ []) Skip) mid at' [] on)
 
   pub decrement_goes : (place : Place) (first at' : ℕ) → Free (SimpleHas globals view.checked first (Decrement place)) → On (simple_plan globals elements view.site.layout view.site.prints (Decrement place)) at' → variables next ≡ variables view → scope.words ≤ length f.locals → Works' (simple_work globals blocks k (Decrement place)) (place_at at' ls [])
   decrement_goes place first at' free on same most =
-      let add = updated_there ops.Add place first (Constant (pos 1)) (record { first = first; end = first + 1 }) (first + 2) (omega arith) (omega arith) (λ flaw x. free flaw (inl x)) (λ flaw x. free flaw (inr x)) in
+      let add = updated_there ops.Add place first (Constant (pos 1)) (record { first = first; end = first + 1 }) (first + 2) (omega arith) (omega arith) (λ violation x. free violation (inl x)) (λ violation x. free violation (inr x)) in
       let int = right_operand ops.Add add.reached.kind (pos 1) add.kind add.made_is in
       let u : IsUpdated ops.Subtract place (Constant (pos 1)) = record { no_blank = add.no_blank; reached = add.reached; kind = add.kind; made_is = ap (λ j. binary_worth ops.Subtract (Typed j) (Constant (pos 1))) int.int ∙ ap (λ j. Ok (Typed j)) int.gives; zeros = add.zeros } in
-      made_stored place first u.kind _ at' u.no_blank (λ flaw x. free flaw (inl (inl x))) u.zeros same most (stepped ops.Subtract place u (assigns (spot place ∷ []) Skip) mid at' [] on)
+      made_stored place first u.kind _ at' u.no_blank (λ violation x. free violation (inl (inl x))) u.zeros same most (stepped ops.Subtract place u (assigns (spot place ∷ []) Skip) mid at' [] on)
 
   pub update_goes : (place : Place) (operator : BinaryOperator) (e : Expression) (first at' : ℕ) → Free (SimpleHas globals view.checked first (Update place operator e)) → OneMakes globals elements e → On (simple_plan globals elements view.site.layout view.site.prints (Update place operator e)) at' → variables next ≡ variables view → scope.words ≤ length f.locals → Works' (simple_work globals blocks k (Update place operator e)) (place_at at' ls [])
   update_goes place operator e first at' free makes on same most =
-      let good : Free (ExpressionHas globals view.checked (first + 1) e) = λ flaw x. free flaw (inr (inl x)) in
+      let good : Free (ExpressionHas globals view.checked (first + 1) e) = λ violation x. free violation (inr (inl x)) in
       let w = worth_there globals view.checked program.types_known (variables_known view.checked scope fine.alike fine.placed.known) e (first + 1) good in
-      let u = updated_there operator place first w.0 (nodes_of (first + 1) e) (first + 1 + expression_size e + 1) (nodes_end (first + 1) e) (omega arith) (λ flaw x. free flaw (inl x))
-      (λ flaw x. free flaw (inr (inr (subst (λ o. UpdatedHas operator (place_type globals view.checked place) o (nodes_of (first + 1) e) (first + 1 + expression_size e + 1) flaw) (sym w.1) x)))) in
+      let u = updated_there operator place first w.0 (nodes_of (first + 1) e) (first + 1 + expression_size e + 1) (nodes_end (first + 1) e) (omega arith) (λ violation x. free violation (inl x))
+      (λ violation x. free violation (inr (inr (subst (λ o. UpdatedHas operator (place_type globals view.checked place) o (nodes_of (first + 1) e) (first + 1 + expression_size e + 1) violation) (sym w.1) x)))) in
       let here-worth : worth globals scope e ≡ Some w.0 = sym (worth_alike view.checked scope fine.alike globals e) ∙ w.1 in
       let own : place_type globals scope place ≡ Some u.reached.kind = ap type_of_field u.reached.selected_is in
       let rest = assigns (spot place ∷ []) Skip in
-      made_stored place first u.kind _ at' u.no_blank (λ flaw x. free flaw (inl (inl x))) u.zeros same most
+      made_stored place first u.kind _ at' u.no_blank (λ violation x. free violation (inl (inl x))) u.zeros same most
       (typed_goes (standing point) operator (ready (value_at globals blocks k place)) (loads_place place) u.reached.kind e w.0 u.kind here-worth u.made_is
       (λ rest out at' stack on. place_value place u.reached rest out at' stack on)
       (λ t et. emits_goes (standing point) e (first + 1) good makes t (here-worth ∙ ap Some et)) rest mid at' []

@@ -87,10 +87,10 @@ module _ {globals : Globals} {program : Compiled globals} {coded : Coded program
   pub test_goes : {B : Type 0} (e : Expression) (first : ℕ) (k : List Task) (go : Word → Worked B) (L : B → CodeFrames → Type 0) (rest : Plan) (out : Option ℕ) (place : ℕ) → Free (TestHas globals checked_scope first e) → OneMakes globals elements e → On' point (pushes globals elements scope BoolType e rest) place out
       → ((b : Bool) (to : ℕ) → On' point rest to out → Follows context (go (Truth b)) L (at simulated to ls (Truth b ∷ []))) → Follows context (and_then (one globals here k e) go) L (at simulated place ls [])
   test_goes e first k go L rest out place free makes on then' =
-      let w = worth_there globals checked_scope program.types_known (variables_known checked_scope scope point.fine.alike point.fine.placed.known) e first (λ flaw h. free flaw (inl h)) in
-      let is-bool = condition_fits e first w.0 (λ flaw h. free flaw (inr (subst (λ o. ConditionHas o (nodes_of first e) flaw) (sym w.1) h))) in
+      let w = worth_there globals checked_scope program.types_known (variables_known checked_scope scope point.fine.alike point.fine.placed.known) e first (λ violation h. free violation (inl h)) in
+      let is-bool = condition_fits e first w.0 (λ violation h. free violation (inr (subst (λ o. ConditionHas o (nodes_of first e) violation) (sym w.1) h))) in
       follows_then context (one globals here k e) go M L (at simulated place ls [])
-      (value_goes e first (Typed BoolType) BoolType (λ words. ready (word_in words)) M rest out place [] (λ flaw h. free flaw (inl h)) makes (w.1 ∙ ap Some is-bool) refl on
+      (value_goes e first (Typed BoolType) BoolType (λ words. ready (word_in words)) M rest out place [] (λ violation h. free violation (inl h)) makes (w.1 ∙ ap Some is-bool) refl on
       (λ v like to on1. let b = is_bool globals.structs v like in
       subst (λ (x : Value). Follows context (ready (word_in x)) M (at simulated to ls x)) (sym b.1) (stays context (Truth b.0) M (at simulated to ls (Truth b.0 ∷ [])) (b.0, to, refl, refl, on1))))
       (λ w d m. subst (λ x. Follows context (go x) L d) (sym m.2) (subst (λ x. Follows context (go (Truth m.0)) L x) (sym m.3) (then' m.0 m.1 m.4))) where

@@ -113,8 +113,8 @@ module _ {globals : Globals} {program : Compiled globals} {coded : Coded program
     abbrev types_of : Comm → List ValueType
     types_of comm = received_types point k b wider comm
 
-    abbrev behind_comm : Comm → View
-    behind_comm comm = comm_view point k b wider comm
+    abbrev after_comm : Comm → View
+    after_comm comm = comm_view point k b wider comm
 
     abbrev site : Site
     site = (beside view b).site
@@ -139,22 +139,22 @@ module _ {globals : Globals} {program : Compiled globals} {coded : Coded program
         → Free (StatementsHave (within coded true continues) (after_any globals (entered (beside view b).checked) (Some (comm_simple comm))) (first + comm_size comm) body) → SimpleMakes globals elements (comm_simple comm) → AllMake globals elements body
         → OnIn (made_clause comm body).plan place → Fits' b.prints (made_clause comm body) → Way' (types_of comm) (comm_destinations globals blocks k comm) body place
     clause_way comm body continues first place c good body_good comm-makes makes on fits =
-        let inner = made_all globals elements result (behind_comm comm).site body in
-        let grown = (grown_statements globals elements result (behind_comm comm).site body).words in
+        let inner = made_all globals elements result (after_comm comm).site body in
+        let grown = (grown_statements globals elements result (after_comm comm).site body).words in
         let most = fits.room in
         let fine_comm = comm_fine point k b wider comm first good comm-makes in
         record {
           outer = beside view b;
           begins_are = refl;
           same = refl;
-          next = behind_comm comm;
+          next = after_comm comm;
           together = comm_together point k b wider comm;
           fine = fine_comm;
           mid = on.0;
           taking = comm_taking point k b wider (in_way l mid) comm first place on.0 c good (omega (arith, grown, most)) on.1;
           live = map_live on.0 on.2;
         } where
-          map_live : (o : Option ℕ) → IfSome o (λ p. OnIn (made_all globals elements result (behind_comm comm).site body).plan p) → IfSome o (λ p. Live coded (behind_comm comm) (in_way l mid) body p mid)
+          map_live : (o : Option ℕ) → IfSome o (λ p. OnIn (made_all globals elements result (after_comm comm).site body).plan p) → IfSome o (λ p. Live coded (after_comm comm) (in_way l mid) body p mid)
           map_live None x = tt
           map_live (Some p) x = record {
             first = first + comm_size comm;
@@ -164,7 +164,7 @@ module _ {globals : Globals} {program : Compiled globals} {coded : Coded program
             good = body_good;
             makes = makes;
             on = x;
-            fits = record { tables = prints_back code b.prints [] (made_all globals elements result (behind_comm comm).site body).prints fits.tables; room = fits.room };
+            fits = record { tables = prints_back code b.prints [] (made_all globals elements result (after_comm comm).site body).prints fits.tables; room = fits.room };
           }
 
     default_way : (body : Statements) (continues : Bool) (first place : ℕ) → Free (StatementsHave (within coded true continues) (entered (beside view b).checked) first body) → AllMake globals elements body
@@ -195,10 +195,10 @@ module _ {globals : Globals} {program : Compiled globals} {coded : Coded program
   default_laid NoClause b breaks continues n first place wider free makes h = record { way = tt; is_there = refl }
   default_laid (Clause (Some comm) body more) b breaks continues n first place wider free makes h =
       let inner = after_all globals (after_any globals (entered (beside view (record b { checked = n })).checked) (Some (comm_simple comm))) body in
-      let rest = default_laid more b breaks continues inner.words (first + comm_size comm + statements_size body + 1) place wider (λ flaw x. free flaw (inr (inr x))) makes.2 h in
+      let rest = default_laid more b breaks continues inner.words (first + comm_size comm + statements_size body + 1) place wider (λ violation x. free violation (inr (inr x))) makes.2 h in
       record { way = rest.way; is_there = rest.is_there }
   default_laid (Clause None body more) b breaks continues n first place wider free makes h = record {
-    way = default_way (record b { checked = n }) wider body continues (first + if_any comm_size None) place (λ flaw x. free flaw (inr (inl x))) makes.1 h.0 (record { tables = h.1.tables; room = h.1.room });
+    way = default_way (record b { checked = n }) wider body continues (first + if_any comm_size None) place (λ violation x. free violation (inr (inl x))) makes.1 h.0 (record { tables = h.1.tables; room = h.1.room });
     is_there = refl;
   }
 
@@ -242,13 +242,13 @@ module _ {globals : Globals} {program : Compiled globals} {coded : Coded program
   abbrev Default' : Option Statements → (Site → Option Made) → Type 0
   Default' body default = (b : Beside) (place : ℕ) → (scope_of view).words ≤ b.words → IfSome (default (beside view b).site) (Laying b.prints place) → HasDefault (default (beside view b).site) body place
 
-  pub ways_laid : (body : Option Statements) (default : Site → Option Made) (clauses : Clauses) (b : Beside) (breaks continues : Bool) (first place : ℕ) → ((behind : Site) → IfSome (default behind) (λ m. Grown behind.layout m.layout)) → Default' body default → (scope_of view).words ≤ b.words
+  pub ways_laid : (body : Option Statements) (default : Site → Option Made) (clauses : Clauses) (b : Beside) (breaks continues : Bool) (first place : ℕ) → ((following : Site) → IfSome (default following) (λ m. Grown following.layout m.layout)) → Default' body default → (scope_of view).words ≤ b.words
       → Free (ClausesHave (within coded breaks continues) (beside view b).checked first clauses) → ClausesMake globals elements clauses → IfSome (made_ways globals elements result (beside view b).site default clauses) (Laying b.prints place)
       → Laid body clauses (made_ways globals elements result (beside view b).site default clauses) place
   ways_laid body default NoClause b breaks continues first place grows d wider free makes h = let x = d b place wider h in record { many = omega arith; ways = tt; default = x.way; is_there = x.is_there }
   ways_laid body default (Clause None statements more) b breaks continues first place grows d wider free makes h =
       let inner = after_all globals (entered (beside view b).checked) statements in
-      let rest = ways_laid body default more (record b { checked = inner.words }) breaks continues (first + if_any comm_size None + statements_size statements + 1) place grows d wider (λ flaw x. free flaw (inr (inr x))) makes.2 h in
+      let rest = ways_laid body default more (record b { checked = inner.words }) breaks continues (first + if_any comm_size None + statements_size statements + 1) place grows d wider (λ violation x. free violation (inr (inr x))) makes.2 h in
       record { many = rest.many; ways = rest.ways; default = rest.default; is_there = rest.is_there }
   ways_laid body default (Clause (Some comm) statements more) b breaks continues first place grows d wider free makes h =
       let site = (beside view b).site in
@@ -259,8 +259,8 @@ module _ {globals : Globals} {program : Compiled globals} {coded : Coded program
       let others = made_ways globals elements result (past site one) default more in
       let p = parts ks one others b.prints place (grown_ways globals elements result (past site one) default more grows) h in
       let next : Beside = record { words = one.layout.scope.words; locals = one.layout.locals; prints = b.prints + length one.prints; selects = b.selects + table_count one.plan; checked = inner.words } in
-      let c = (comm_waited point k mid comm first b.checked (λ flaw x. free flaw (inl x)) makes.0).channel in
+      let c = (comm_waited point k mid comm first b.checked (λ violation x. free violation (inl x)) makes.0).channel in
       let a = (grown_comm globals elements result comm (inside site).layout).words in
       let e = (grown_statements globals elements result (past (inside site) waits) statements).words in
-      let rest = ways_laid body default more next breaks continues (first + comm_size comm + statements_size statements + 1) (place + size one.plan + jump_size one.plan) grows d (omega (arith, wider, a, e)) (λ flaw x. free flaw (inr (inr x))) makes.2 p.others in
-      laid_more body comm statements more (types_of b wider comm) ks one others place c (comm_zeros_are b wider comm c) (clause_way b wider comm statements continues first place c (λ flaw x. free flaw (inl x)) (λ flaw x. free flaw (inr (inl x))) makes.0 makes.1 p.on p.fits) rest
+      let rest = ways_laid body default more next breaks continues (first + comm_size comm + statements_size statements + 1) (place + size one.plan + jump_size one.plan) grows d (omega (arith, wider, a, e)) (λ violation x. free violation (inr (inr x))) makes.2 p.others in
+      laid_more body comm statements more (types_of b wider comm) ks one others place c (comm_zeros_are b wider comm c) (clause_way b wider comm statements continues first place c (λ violation x. free violation (inl x)) (λ violation x. free violation (inr (inl x))) makes.0 makes.1 p.on p.fits) rest

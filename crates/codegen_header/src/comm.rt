@@ -7,7 +7,7 @@ ghost use Rattle.type_table.specs.Types.{BoolType};
 ghost use Rattle.type_table.specs.Scopes.{Yield};
 ghost use Rattle.type_table.specs.Views.{kind_of};
 ghost use Rattle.type_table.specs.Visible.{Keeps};
-ghost use Rattle.codegen_base.specs.Generated.{behind_comm, comm_plan, one_or_two, unless_two};
+ghost use Rattle.codegen_base.specs.Generated.{after_comm, comm_plan, one_or_two, unless_two};
 ghost use Rattle.codegen_base.specs.Layouts.{declaring_all};
 ghost use Rattle.codegen_base.specs.Statements.{assigns, name_spots, place_spots};
 ghost use Rattle.plan.specs.Plan.{Skip};
@@ -73,7 +73,7 @@ fn emit_define<'a>(
     code: &mut Vec<Instr>,
 ) -> Result<(), AllocError>
     ensures emitted { (yields : Yield) → OnOk result (Appends code.old.items code.new.items (comm_plan (globals_of context.now) (elements_of context.now) yields (layout_in context.now layout.old) (CommDefine (name_of item.now) (option_map name_of sent.now) (expression_of channel.now)))) }
-    ensures after { (yields : Yield) → OnOk result (layout_in context.now layout.new ≡ behind_comm (globals_of context.now) (elements_of context.now) yields (CommDefine (name_of item.now) (option_map name_of sent.now) (expression_of channel.now)) (layout_in context.now layout.old)) }
+    ensures after { (yields : Yield) → OnOk result (layout_in context.now layout.new ≡ after_comm (globals_of context.now) (elements_of context.now) yields (CommDefine (name_of item.now) (option_map name_of sent.now) (expression_of channel.now)) (layout_in context.now layout.old)) }
     ensures kept { OnOk result (Keeps layout.old.visible layout.new.visible) }
 {
     let kind = carried(context.table, &layout.visible, channel);
@@ -145,7 +145,7 @@ pub fn take_comm<'a>(
     code: &mut Vec<Instr>,
 ) -> Result<(), AllocError>
     ensures emitted { (yields : Yield) → OnOk result (Appends code.old.items code.new.items (comm_plan (globals_of context.now) (elements_of context.now) yields (layout_in context.now layout.old) (comm_of comm.now))) }
-    ensures after { (yields : Yield) → OnOk result (layout_in context.now layout.new ≡ behind_comm (globals_of context.now) (elements_of context.now) yields (comm_of comm.now) (layout_in context.now layout.old)) }
+    ensures after { (yields : Yield) → OnOk result (layout_in context.now layout.new ≡ after_comm (globals_of context.now) (elements_of context.now) yields (comm_of comm.now) (layout_in context.now layout.old)) }
     ensures kept { OnOk result (Keeps layout.old.visible layout.new.visible) }
 {
     match comm {

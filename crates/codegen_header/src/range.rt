@@ -9,7 +9,7 @@ ghost use Rattle.type_table.specs.Views.{kind_of};
 ghost use Rattle.type_table.specs.Visible.{Keeps};
 ghost use Rattle.meaning.specs.Variables.{blank};
 ghost use Rattle.codegen_base.specs.Generated.{keeps, receives, takes};
-ghost use Rattle.codegen_base.specs.Layouts.{Layout as OneLayout, behind_target, carried, declaring, declaring_new, type_of};
+ghost use Rattle.codegen_base.specs.Layouts.{Layout as OneLayout, following_target, carried, declaring, declaring_new, type_of};
 ghost use Rattle.codegen_base.specs.Pushes.{drops};
 ghost use Rattle.codegen_base.specs.Statements.{stores, width};
 ghost use Rattle.plan.specs.Plan.{Do, Skip};
@@ -165,7 +165,7 @@ pub fn take_item<'a>(
     code: &mut Vec<Instr>,
 ) -> Result<(), AllocError>
     ensures emitted { (yields : Yield) → OnOk result (Appends code.old.items code.new.items (takes (globals_of context.now) (elements_of context.now) yields (layout_in context.now layout.old) (kind_of (types_in context.now) kind.entry) (target_of target.now))) }
-    ensures after { OnOk result (layout_in context.now layout.new ≡ behind_target (globals_of context.now) (elements_of context.now) (kind_of (types_in context.now) kind.entry) (target_of target.now) (layout_in context.now layout.old)) }
+    ensures after { OnOk result (layout_in context.now layout.new ≡ following_target (globals_of context.now) (elements_of context.now) (kind_of (types_in context.now) kind.entry) (target_of target.now) (layout_in context.now layout.old)) }
     ensures kept { OnOk result (Keeps layout.old.visible layout.new.visible) }
 {
     match target {

@@ -5,7 +5,7 @@ use Rattle.std.proofs.lemmas.Option.{same_Some}
 use Rattle.syntax.specs.Tree.{Place}
 use Rattle.type_table.specs.declared.layout.Selected.{Selected as InTable}
 use Rattle.type_table.specs.Types.{ValueType, IntType}
-use Rattle.type_table.specs.Containment.{Structs, Selected, behind, field_of}
+use Rattle.type_table.specs.Containment.{Structs, Selected, following, field_of}
 use Rattle.type_table.specs.Scopes.{Globals, Scope, is_blank, variable_named}
 use Rattle.type_table.specs.Views.{kind_of}
 use Rattle.type_table.specs.declared.visible.Entry.{Entry}
@@ -47,14 +47,14 @@ module _ (types : List (List ℕ)) where
   field_followed structs whole at part name place seen found is =
       let kinds : whole.kind ≡ Some (kind_of types at.kind) = sym (ap (λ (s : Selected). s.kind) seen) in
       let places : at.place ≡ min whole.place (2 ^ 64 - 1) = ap (λ (s : Selected). s.place) seen in
-      let led : followed structs (Some whole) (name ∷ []) ≡ Some (behind whole.place (selected_of types part)) = ap (λ o. option_map (behind whole.place) (option_and_then (λ kind. field_of structs kind name) o)) kinds ∙ ap (option_map (behind whole.place)) (sym found) in
+      let led : followed structs (Some whole) (name ∷ []) ≡ Some (following whole.place (selected_of types part)) = ap (λ o. option_map (following whole.place) (option_and_then (λ kind. field_of structs kind name) o)) kinds ∙ ap (option_map (following whole.place)) (sym found) in
       let sum : place ≡ min (whole.place + part.place) (2 ^ 64 - 1) = is ∙ ap (λ n. min (n + part.place) (2 ^ 64 - 1)) places ∙ min_sum whole.place part.place (2 ^ 64 - 1) in
       ap (λ n. Some (record { place = n; kind = Some (kind_of types part.kind) })) sum ∙ sym (ap (option_map capped) led)
 
   pub no_field_followed : (structs : Structs) (whole : Selected) (at : InTable) (name : List ℕ) → selected_of types at ≡ capped whole → None ≡ field_of structs (kind_of types at.kind) name → option_map (selected_of types) None ≡ option_map capped (followed structs (Some whole) (name ∷ []))
   no_field_followed structs whole at name seen none =
       let kinds : whole.kind ≡ Some (kind_of types at.kind) = sym (ap (λ (s : Selected). s.kind) seen) in
-      sym (ap (λ o. option_map capped (option_map (behind whole.place) (option_and_then (λ kind. field_of structs kind name) o))) kinds ∙ ap (λ o. option_map capped (option_map (behind whole.place) o)) (sym none))
+      sym (ap (λ o. option_map capped (option_map (following whole.place) (option_and_then (λ kind. field_of structs kind name) o))) kinds ∙ ap (λ o. option_map capped (option_map (following whole.place) o)) (sym none))
 
   -- a part with fields denotes what its first field with the others denotes
   pub followed_on : (structs : Structs) (whole : Option Selected) (at : InTable) (name : List ℕ) (names : List (List ℕ)) (next last : Option InTable) → option_map (selected_of types) (Some at) ≡ option_map capped whole

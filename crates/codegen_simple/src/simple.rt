@@ -9,7 +9,7 @@ ghost use Rattle.type_table.specs.Visible.{Keeps};
 ghost use Rattle.meaning.specs.Expressions.{number_of};
 ghost use Rattle.typing_rules.specs.Calls.{result_of};
 ghost use Rattle.codegen_base.specs.Elements.{shape_of};
-ghost use Rattle.codegen_base.specs.Layouts.{behind_simple, carried, declaring_all};
+ghost use Rattle.codegen_base.specs.Layouts.{following_simple, carried, declaring_all};
 ghost use Rattle.codegen_base.specs.Pushes.{drops, pushes, pushes_own};
 ghost use Rattle.codegen_base.specs.Statements.{defines, pushes_arguments, pushes_parts, pushes_received, result_words, right_types, sets, simple_plan, width};
 ghost use Rattle.plan.specs.Plan.{Do, Skip};
@@ -200,7 +200,7 @@ pub fn emit_simple<'a>(
     code: &mut Vec<Instr>,
 ) -> Result<(), AllocError>
     ensures emitted { OnOk result (Appends code.old.items code.new.items (simple_plan (globals_of context.now) (elements_of context.now) (layout_in context.now layout.old) number (simple_of simple.now))) }
-    ensures after { OnOk result (layout_in context.now layout.new ≡ behind_simple (globals_of context.now) (elements_of context.now) (simple_of simple.now) (layout_in context.now layout.old)) }
+    ensures after { OnOk result (layout_in context.now layout.new ≡ following_simple (globals_of context.now) (elements_of context.now) (simple_of simple.now) (layout_in context.now layout.old)) }
     ensures kept { OnOk result (Keeps layout.old.visible layout.new.visible) }
 {
     let visible = &layout.visible;

@@ -6,7 +6,7 @@ use diagnostic_typing::push_near;
 use diagnostic_words::words::Words;
 use go_text::{Fault, Place, Rule};
 use std::alloc::Global;
-use typing_rules::flaw::Flaw;
+use typing_rules::violation::Violation;
 
 /// Appends `hint: ` and what to write instead, with a newline, if that is known.
 pub(crate) fn push_hint(alloc: Global, said: &mut Words, text: &str, fault: &Fault) {
@@ -15,14 +15,14 @@ pub(crate) fn push_hint(alloc: Global, said: &mut Words, text: &str, fault: &Fau
         said.text(hint);
         said.text("\n");
     } else if let Fault::Typing { rule, node, .. } = *fault {
-        push_meant(alloc, said, text, Flaw::Broken(rule, node));
+        push_meant(alloc, said, text, Violation::Broken(rule, node));
     }
 }
 
 /// Appends the hint that another name could be meant, if one is known.
-fn push_meant(alloc: Global, said: &mut Words, text: &str, flaw: Flaw) {
+fn push_meant(alloc: Global, said: &mut Words, text: &str, violation: Violation) {
     let mut near = Words::new(alloc);
-    push_near(alloc, &mut near, text, flaw);
+    push_near(alloc, &mut near, text, violation);
     if near.is_empty() {
         return;
     }

@@ -18,7 +18,7 @@ use diagnostic_words::excerpt::push_excerpt;
 use diagnostic_words::words::Words;
 use go_text::{Fault, Memory, Place, Position};
 use std::alloc::{AllocError, Global};
-use typing_rules::flaw::Flaw;
+use typing_rules::violation::Violation;
 
 /// What is wrong with a program: `FILE:LINE:COLUMN: SENTENCE` if the fault has a location, else `FILE: SENTENCE`. After it, if
 /// there is a location, come its line of the program and a line with marks under it, and if one is known a line `hint: ..` with
@@ -79,14 +79,14 @@ fn said_of(alloc: Global, text: &str, fault: &Fault) -> Result<Vec<u8>, Memory> 
 }
 
 /// The violation that a program is refused for, if it is one at a node of its tree.
-fn flaw_of(fault: &Fault) -> Option<Flaw> {
+fn violation_of(fault: &Fault) -> Option<Violation> {
     match *fault {
-        Fault::Typing { rule, node, .. } => Some(Flaw::Broken(rule, node)),
+        Fault::Typing { rule, node, .. } => Some(Violation::Broken(rule, node)),
         Fault::Limit {
             kind,
             node: Some(node),
             ..
-        } => Some(Flaw::Exceeded(kind, node)),
+        } => Some(Violation::Exceeded(kind, node)),
         _ => None,
     }
 }
@@ -94,10 +94,10 @@ fn flaw_of(fault: &Fault) -> Option<Flaw> {
 /// The explanations of what else is wrong with a program than `fault`, and how many more there are.
 fn others_of(alloc: Global, path: &str, text: &str, fault: &Fault) -> Result<Vec<u8>, Memory> {
     let mut printed = Vec::new(alloc);
-    let Some(flaw) = flaw_of(fault) else {
+    let Some(violation) = violation_of(fault) else {
         return Ok(printed);
     };
-    let found = others(alloc, text, flaw)?;
+    let found = others(alloc, text, violation)?;
     for other in found.kept.as_slice() {
         let one = explanation(alloc, path, other.text.as_str(), &other.fault)?;
         printed.extend_from_slice(one.as_slice())?;

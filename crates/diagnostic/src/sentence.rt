@@ -3,12 +3,12 @@
 use crate::declaration::push_within;
 use crate::phrase::{phrase_of_limit, phrase_of_rule};
 use diagnostic_syntax::{piece_at, shortened};
-use diagnostic_typing::push_flaw;
+use diagnostic_typing::push_violation;
 use diagnostic_words::excerpt::push_shown;
 use diagnostic_words::words::Words;
 use go_text::{Fault, LimitKind, Place, Rule};
 use std::alloc::Global;
-use typing_rules::flaw::Flaw;
+use typing_rules::violation::Violation;
 
 /// Writes what is wrong to `said`, which is empty.
 pub(crate) fn push_sentence(alloc: Global, said: &mut Words, text: &str, fault: &Fault) {
@@ -42,7 +42,7 @@ fn plain(fault: &Fault) -> &'static str {
 
 /// Writes how a typing rule is violated at this node of the tree to `said`, which is empty.
 fn push_rule(alloc: Global, said: &mut Words, text: &str, rule: Rule, node: u32, place: Place) {
-    push_flaw(alloc, said, text, Flaw::Broken(rule, node));
+    push_violation(alloc, said, text, Violation::Broken(rule, node));
     if said.is_empty() {
         push_phrase(said, phrase_of_rule(rule), piece_at(text, place));
     }
@@ -78,7 +78,7 @@ fn push_limit(
                 " has more than 64 entries",
             );
         }
-        (_, Some(node)) => push_flaw(alloc, said, text, Flaw::Exceeded(kind, node)),
+        (_, Some(node)) => push_violation(alloc, said, text, Violation::Exceeded(kind, node)),
         _ => {}
     }
     if said.is_empty() {

@@ -45,7 +45,7 @@ impl<'a> Scene<'a> {
         match function_head(alloc, table.types(), 0, function) {
             Ok(head) => self.pass_body(alloc, table, &head, function.body.as_slice()),
             Err(Refusal::Memory) => self.is_cut = true,
-            Err(Refusal::Flawed(_)) => {}
+            Err(Refusal::Violated(_)) => {}
         }
     }
 

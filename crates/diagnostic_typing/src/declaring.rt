@@ -10,7 +10,7 @@ use go_text::Rule;
 use std::alloc::Global;
 use syntax::{DeclaredNode, FunctionNode, Name, NodeId, StatementNode, StructNode, TopNode};
 use type_table::scope::{is_blank, is_reserved};
-use typing_rules::flaw::Flaw;
+use typing_rules::violation::Violation;
 
 /// Whether this is the name of a function of a file.
 fn is_function(tops: &[TopNode], name: &[u8]) -> bool {
@@ -217,10 +217,16 @@ fn push_broken(
 }
 
 /// Reports what is wrong with a unit, if that does not depend on what is visible there.
-fn push_in_found(alloc: Global, said: &mut Words, text: &Text<'_>, found: &Found<'_>, flaw: Flaw) {
-    match flaw {
-        Flaw::Broken(rule, node) => push_broken(alloc, said, text, found, rule, node),
-        Flaw::Exceeded(kind, _) => push_exceeded(said, &found.unit, kind),
+fn push_in_found(
+    alloc: Global,
+    said: &mut Words,
+    text: &Text<'_>,
+    found: &Found<'_>,
+    violation: Violation,
+) {
+    match violation {
+        Violation::Broken(rule, node) => push_broken(alloc, said, text, found, rule, node),
+        Violation::Exceeded(kind, _) => push_exceeded(said, &found.unit, kind),
     }
 }
 
@@ -230,12 +236,12 @@ pub(crate) fn push_in_unit(
     said: &mut Words,
     text: &Text<'_>,
     walk: &Walk<'_>,
-    flaw: Flaw,
+    violation: Violation,
 ) {
-    if let Flaw::Broken(Rule::Main, _) = flaw {
+    if let Violation::Broken(Rule::Main, _) = violation {
         return push_main(said, text.tops());
     }
     if let Some(found) = walk.found.first() {
-        push_in_found(alloc, said, text, found, flaw);
+        push_in_found(alloc, said, text, found, violation);
     }
 }

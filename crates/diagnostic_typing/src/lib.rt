@@ -15,4 +15,4 @@ mod typing;
 
 pub use reading::fault_of;
 pub use several::{Other, OtherList, others};
-pub use typing::{push_flaw, push_near};
+pub use typing::{push_near, push_violation};

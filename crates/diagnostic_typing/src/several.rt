@@ -17,7 +17,7 @@ use std::alloc::Global;
 use syntax::{FunctionNode, NodeId, StatementNode, StructNode, TopNode};
 use type_table::scope::{Visible, declare};
 use type_table::table::TypeTable;
-use typing_rules::flaw::Flaw;
+use typing_rules::violation::Violation;
 
 /// How many violations are kept.
 const MOST_KEPT: usize = 9;
@@ -53,13 +53,13 @@ impl OtherList {
         alloc: Global,
         text: &str,
         read: &ReadText,
-        flaw: Flaw,
+        violation: Violation,
     ) -> Result<(), Memory> {
         if self.kept.len() >= MOST_KEPT {
             self.more = self.more.saturating_add(1);
             return Ok(());
         }
-        let fault = read.fault(flaw);
+        let fault = read.fault(violation);
         let text = format!(in alloc; "{text}")?;
         self.kept.push(Other { fault, text })?;
         Ok(())
@@ -72,19 +72,19 @@ impl OtherList {
         text: &str,
         read: &ReadText,
         table: &TypeTable<'_>,
-        first: Flaw,
+        first: Violation,
     ) -> Result<(), Memory> {
-        let mut flaws = Vec::new(alloc);
-        push_flaws(
+        let mut violations = Vec::new(alloc);
+        push_violations(
             alloc,
             table,
             read.tree.file().tops.as_slice(),
             0,
-            &mut flaws,
+            &mut violations,
         )?;
-        for &flaw in flaws.as_slice() {
-            if node_of(flaw) != node_of(first) {
-                self.put(alloc, text, read, flaw)?;
+        for &violation in violations.as_slice() {
+            if node_of(violation) != node_of(first) {
+                self.put(alloc, text, read, violation)?;
             }
         }
         Ok(())
@@ -111,11 +111,11 @@ impl ReadText {
     }
 
     /// The fault that a program with this violation is refused with.
-    fn fault(&self, flaw: Flaw) -> Fault {
-        let place = self.place(node_of(flaw));
-        match flaw {
-            Flaw::Broken(rule, node) => Fault::Typing { rule, node, place },
-            Flaw::Exceeded(kind, node) => Fault::Limit {
+    fn fault(&self, violation: Violation) -> Fault {
+        let place = self.place(node_of(violation));
+        match violation {
+            Violation::Broken(rule, node) => Fault::Typing { rule, node, place },
+            Violation::Exceeded(kind, node) => Fault::Limit {
                 kind,
                 node: Some(node),
                 place,
@@ -125,12 +125,12 @@ impl ReadText {
 }
 
 /// The first violation of the statements of a function after its head, if there is one.
-fn flaw_after<'a>(
+fn violation_after<'a>(
     alloc: Global,
     table: &TypeTable<'a>,
     head: &Head<'a>,
     body: &'a [StatementNode],
-) -> Result<Option<Flaw>, Memory>
+) -> Result<Option<Violation>, Memory>
     requires small { head.now.end + statements_size (body_of body.now) < 2 ^ 32 }
 {
     let mut visible = Visible::new(alloc);
@@ -145,77 +145,77 @@ fn flaw_after<'a>(
     let end = match statements(alloc, table, inside, &mut visible, head.end, body) {
         Ok(end) => end,
         Err(Refusal::Memory) => return Err(Memory),
-        Err(Refusal::Flawed(flaw)) => return Ok(Some(flaw)),
+        Err(Refusal::Violated(violation)) => return Ok(Some(violation)),
     };
     let own = end.saturating_add(1);
     if visible.words > MOST_WORDS {
-        return Ok(Some(Flaw::Exceeded(LimitKind::FunctionWords, own)));
+        return Ok(Some(Violation::Exceeded(LimitKind::FunctionWords, own)));
     }
     if head.result.is_some() && !last_terminates(body) {
-        return Ok(Some(Flaw::Broken(Rule::Terminating, own)));
+        return Ok(Some(Violation::Broken(Rule::Terminating, own)));
     }
     Ok(None)
 }
 
 /// The first violation of the body of a function, if there is one. Its nodes are counted from those of the function on.
-fn flaw_of<'a>(
+fn violation_of<'a>(
     alloc: Global,
     table: &TypeTable<'a>,
     function: &'a FunctionNode,
-) -> Result<Option<Flaw>, Memory>
+) -> Result<Option<Violation>, Memory>
     requires small { function_size (function_of function.now) < 2 ^ 32 }
 {
     match function_head(alloc, table.types(), 0, function) {
-        Ok(head) => flaw_after(alloc, table, &head, function.body.as_slice()),
+        Ok(head) => violation_after(alloc, table, &head, function.body.as_slice()),
         Err(Refusal::Memory) => Err(Memory),
-        Err(Refusal::Flawed(_)) => Ok(None),
+        Err(Refusal::Violated(_)) => Ok(None),
     }
 }
 
 /// A violation whose nodes are counted from `first` on.
-fn moved(flaw: Flaw, first: NodeId) -> Flaw {
-    match flaw {
-        Flaw::Broken(rule, node) => Flaw::Broken(rule, first.saturating_add(node)),
-        Flaw::Exceeded(kind, node) => Flaw::Exceeded(kind, first.saturating_add(node)),
+fn moved(violation: Violation, first: NodeId) -> Violation {
+    match violation {
+        Violation::Broken(rule, node) => Violation::Broken(rule, first.saturating_add(node)),
+        Violation::Exceeded(kind, node) => Violation::Exceeded(kind, first.saturating_add(node)),
     }
 }
 
 /// Puts the first violation of the body of a declaration, if it is a function, whose nodes have numbers from `first` on, at the
-/// end of `flaws`.
-fn push_flaw_of<'a>(
+/// end of `violations`.
+fn push_violation_of<'a>(
     alloc: Global,
     table: &TypeTable<'a>,
     top: &'a TopNode,
     first: NodeId,
-    flaws: &mut Vec<Flaw>,
+    violations: &mut Vec<Violation>,
 ) -> Result<(), Memory>
     requires small { top_size (top_of top.now) < 2 ^ 32 }
 {
     let TopNode::Function(function) = top else {
         return Ok(());
     };
-    if let Some(flaw) = flaw_of(alloc, table, function)? {
-        flaws.push(moved(flaw, first))?;
+    if let Some(violation) = violation_of(alloc, table, function)? {
+        violations.push(moved(violation, first))?;
     }
     Ok(())
 }
 
 /// Puts the first violation of the body of each function of these declarations, whose nodes have numbers from `first` on, at the
-/// end of `flaws`.
-fn push_flaws<'a>(
+/// end of `violations`.
+fn push_violations<'a>(
     alloc: Global,
     table: &TypeTable<'a>,
     tops: &'a [TopNode],
     first: NodeId,
-    flaws: &mut Vec<Flaw>,
+    violations: &mut Vec<Violation>,
 ) -> Result<(), Memory>
     requires small { sum_by top_size (map top_of tops.now) < 2 ^ 32 }
 {
     let Some((top, rest)) = tops.split_first() else {
         return Ok(());
     };
-    push_flaw_of(alloc, table, top, first, flaws)?;
-    push_flaws(alloc, table, rest, top_end(alloc, first, top), flaws)
+    push_violation_of(alloc, table, top, first, violations)?;
+    push_violations(alloc, table, rest, top_end(alloc, first, top), violations)
 }
 
 /// A declaration, and its own node.
@@ -272,29 +272,29 @@ fn without(
     alloc: Global,
     text: &str,
     read: &ReadText,
-    flaw: Flaw,
+    violation: Violation,
 ) -> Result<Option<String>, Memory> {
     let tops = read.tree.file().tops.as_slice();
-    let Some(found) = declaration_at(alloc, tops, node_of(flaw)) else {
+    let Some(found) = declaration_at(alloc, tops, node_of(violation)) else {
         return Ok(None);
     };
     let rest = blanked(alloc, text, read.span(found.node))?;
-    match (found.top, flaw) {
-        (TopNode::Struct(_), Flaw::Broken(Rule::Declared, node)) if node == found.node => {
+    match (found.top, violation) {
+        (TopNode::Struct(_), Violation::Broken(Rule::Declared, node)) if node == found.node => {
             Ok(Some(rest))
         }
-        (_, Flaw::Exceeded(LimitKind::Declarations, _)) => Ok(None),
+        (_, Violation::Exceeded(LimitKind::Declarations, _)) => Ok(None),
         (TopNode::Struct(one), _) => Ok(Some(with_type(alloc, rest, one)?)),
         (TopNode::Function(_), _) => Ok(Some(rest)),
     }
 }
 
 /// The first violation of the declarations of a text, if there is one.
-fn declared_flaw(alloc: Global, read: &ReadText) -> Result<Option<Flaw>, Memory> {
+fn declared_violation(alloc: Global, read: &ReadText) -> Result<Option<Violation>, Memory> {
     match table_of(alloc, read.tree.file().tops.as_slice()) {
         Ok(_) => Ok(None),
         Err(Refusal::Memory) => Err(Memory),
-        Err(Refusal::Flawed(flaw)) => Ok(Some(flaw)),
+        Err(Refusal::Violated(violation)) => Ok(Some(violation)),
     }
 }
 
@@ -306,13 +306,13 @@ fn declared_others(alloc: Global, text: &str, others: &mut OtherList) -> Result<
         let Some(read) = read(alloc, current.as_str())? else {
             return Ok(());
         };
-        let Some(flaw) = declared_flaw(alloc, &read)? else {
+        let Some(violation) = declared_violation(alloc, &read)? else {
             return Ok(());
         };
         if round > 0 {
-            others.put(alloc, current.as_str(), &read, flaw)?;
+            others.put(alloc, current.as_str(), &read, violation)?;
         }
-        let Some(rest) = without(alloc, current.as_str(), &read, flaw)? else {
+        let Some(rest) = without(alloc, current.as_str(), &read, violation)? else {
             return Ok(());
         };
         current = rest;
@@ -325,7 +325,7 @@ fn declared_others(alloc: Global, text: &str, others: &mut OtherList) -> Result<
 /// the bodies of its functions. Each is looked at by itself, so that none follows from another one.
 ///
 /// Errors: a request for memory was refused.
-pub fn others(alloc: Global, text: &str, first: Flaw) -> Result<OtherList, Memory> {
+pub fn others(alloc: Global, text: &str, first: Violation) -> Result<OtherList, Memory> {
     let mut others = OtherList {
         kept: Vec::new(alloc),
         more: 0,
@@ -337,7 +337,7 @@ pub fn others(alloc: Global, text: &str, first: Flaw) -> Result<OtherList, Memor
     match table_of(alloc, read.tree.file().tops.as_slice()) {
         Ok(table) => others.put_bodies(alloc, text, &read, &table, first)?,
         Err(Refusal::Memory) => return Err(Memory),
-        Err(Refusal::Flawed(_)) => declared_others(alloc, text, &mut others)?,
+        Err(Refusal::Violated(_)) => declared_others(alloc, text, &mut others)?,
     }
     Ok(others)
 }

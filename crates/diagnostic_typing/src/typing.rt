@@ -26,7 +26,7 @@ use go_text::{LimitKind, Memory, Rule};
 use std::alloc::Global;
 use syntax::{FileNode, NodeId, TopNode};
 use type_table::table::TypeTable;
-use typing_rules::flaw::Flaw;
+use typing_rules::violation::Violation;
 
 /// Reports a condition that is no bool.
 fn push_condition(said: &mut Words, at: &Setting<'_, '_>) {
@@ -83,30 +83,30 @@ enum Aim {
 /// A violation, and what is to be printed of it.
 #[derive(Clone, Copy)]
 struct Query {
-    flaw: Flaw,
+    violation: Violation,
     aim: Aim,
 }
 
 impl Query {
     /// The node of the violation.
     fn node(&self) -> NodeId {
-        node_of(self.flaw)
+        node_of(self.violation)
     }
 }
 
 /// Appends how a rule is violated, or a limit exceeded, if that is known.
-fn push_at(said: &mut Words, flaw: Flaw, at: &Setting<'_, '_>) {
-    match flaw {
-        Flaw::Broken(rule, _) => push_rule(said, rule, at),
-        Flaw::Exceeded(LimitKind::ConstantSize, _) => push_size(said, at),
-        Flaw::Exceeded(_, _) => {}
+fn push_at(said: &mut Words, violation: Violation, at: &Setting<'_, '_>) {
+    match violation {
+        Violation::Broken(rule, _) => push_rule(said, rule, at),
+        Violation::Exceeded(LimitKind::ConstantSize, _) => push_size(said, at),
+        Violation::Exceeded(_, _) => {}
     }
 }
 
 /// The node of a violation.
-pub(crate) fn node_of(flaw: Flaw) -> NodeId {
-    match flaw {
-        Flaw::Broken(_, node) | Flaw::Exceeded(_, node) => node,
+pub(crate) fn node_of(violation: Violation) -> NodeId {
+    match violation {
+        Violation::Broken(_, node) | Violation::Exceeded(_, node) => node,
     }
 }
 
@@ -136,10 +136,10 @@ fn push_in_scene(
         parts: &parts,
         node: query.node(),
     };
-    match (query.aim, query.flaw) {
-        (Aim::Sentence, flaw) => push_at(said, flaw, &at),
-        (Aim::NearName, Flaw::Broken(rule, _)) => push_near_in(said, &at, file.tops, rule),
-        (Aim::NearName, Flaw::Exceeded(_, _)) => {}
+    match (query.aim, query.violation) {
+        (Aim::Sentence, violation) => push_at(said, violation, &at),
+        (Aim::NearName, Violation::Broken(rule, _)) => push_near_in(said, &at, file.tops, rule),
+        (Aim::NearName, Violation::Exceeded(_, _)) => {}
     }
 }
 
@@ -171,15 +171,15 @@ fn push_in_file(alloc: Global, said: &mut Words, file: &FileNode, walk: &Walk<'_
     match table_of(alloc, file.tops.as_slice()) {
         Ok(table) => push_in_functions(alloc, said, &table, file, walk, query),
         Err(Refusal::Memory) => said.refuse(),
-        Err(Refusal::Flawed(_)) => {}
+        Err(Refusal::Violated(_)) => {}
     }
 }
 
 /// Appends what is to be printed of a violation that does not depend on what is visible.
 fn push_in_units(alloc: Global, said: &mut Words, text: &Text<'_>, walk: &Walk<'_>, query: Query) {
-    match (query.aim, query.flaw) {
-        (Aim::Sentence, flaw) => push_in_unit(alloc, said, text, walk, flaw),
-        (Aim::NearName, Flaw::Broken(Rule::Visible, node)) => {
+    match (query.aim, query.violation) {
+        (Aim::Sentence, violation) => push_in_unit(alloc, said, text, walk, violation),
+        (Aim::NearName, Violation::Broken(Rule::Visible, node)) => {
             if let Some(found) = walk.found.first() {
                 push_near_declared(said, text.tops(), found, node);
             }
@@ -212,13 +212,13 @@ fn push_query(alloc: Global, said: &mut Words, text: &str, query: Query) {
 }
 
 /// Writes what is wrong with the tree of a text to `said`, which is empty: nothing if only the rule or the limit is known.
-pub fn push_flaw(alloc: Global, said: &mut Words, text: &str, flaw: Flaw) {
+pub fn push_violation(alloc: Global, said: &mut Words, text: &str, violation: Violation) {
     let aim = Aim::Sentence;
-    push_query(alloc, said, text, Query { flaw, aim });
+    push_query(alloc, said, text, Query { violation, aim });
 }
 
 /// Writes the name that could be meant by one that is not visible to `said`, which is empty: nothing if there is none.
-pub fn push_near(alloc: Global, said: &mut Words, text: &str, flaw: Flaw) {
+pub fn push_near(alloc: Global, said: &mut Words, text: &str, violation: Violation) {
     let aim = Aim::NearName;
-    push_query(alloc, said, text, Query { flaw, aim });
+    push_query(alloc, said, text, Query { violation, aim });
 }

@@ -152,8 +152,8 @@ fn push_no_function(said: &mut Words, at: &Setting<'_, '_>, name: &Name) {
     match at.variable(name.bytes.as_slice()) {
         Some(entry) => push_variable(said, at, name, entry.kind),
         None => {
-            let behind = ": it is not a function (there are no conversions)";
-            said.around("cannot call ", name, behind);
+            let following = ": it is not a function (there are no conversions)";
+            said.around("cannot call ", name, following);
         }
     }
 }

@@ -67,10 +67,10 @@ impl Words {
     }
 
     /// Appends a name between two texts.
-    pub fn around(&mut self, before: &str, name: &Name, behind: &str) {
+    pub fn around(&mut self, before: &str, name: &Name, following: &str) {
         self.text(before);
         self.name(name);
-        self.text(behind);
+        self.text(following);
     }
 
     /// Appends a number.
@@ -148,10 +148,10 @@ pub fn push_expression(said: &mut Words, expression: &ExpressionNode) {
 
 /// Appends an expression between two texts.
 #[cycle(expression)]
-fn push_between(said: &mut Words, before: &str, expression: &ExpressionNode, behind: &str) {
+fn push_between(said: &mut Words, before: &str, expression: &ExpressionNode, following: &str) {
     said.text(before);
     push_expression(said, expression);
-    said.text(behind);
+    said.text(following);
 }
 
 /// Appends a field of an expression.
@@ -193,10 +193,10 @@ pub fn push_call(said: &mut Words, function: &Name, arguments: &[ExpressionNode]
 }
 
 /// Appends a `make` of this type, up to the text after the type.
-fn push_make(said: &mut Words, written: &TypeNode, behind: &str) {
+fn push_make(said: &mut Words, written: &TypeNode, following: &str) {
     said.text("make(");
     push_written(said, written);
-    said.text(behind);
+    said.text(following);
 }
 
 /// Appends an lvalue.

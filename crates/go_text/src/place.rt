@@ -39,7 +39,7 @@ impl From<Span> for Place {
 }
 
 /// The position after these bytes, which begin a source.
-pub(crate) fn position_behind(bytes: &[u8]) -> Position
+pub(crate) fn position_following(bytes: &[u8]) -> Position
     requires { length bytes.now ≤ 1048576 }
     ensures { result ≡ position_after 1 1 bytes.now }
 {

@@ -2,7 +2,7 @@
 ghost use Rattle.std.specs.Prelude.{◌≡◌, ◌≤◌, ◌<◌, ◌⊎◌, ◌↔◌, length, IfOk, IfErr, IsErrOf, slice_range, IsUtf8, IsCharBoundary, string_len, vec_len};
 
 use crate::fault::Fault;
-use crate::place::{Position, Span, position_behind};
+use crate::place::{Position, Span, position_following};
 
 /// The maximum length of a source, in bytes.
 pub const MAX_LENGTH: usize = 1_048_576;
@@ -68,6 +68,6 @@ impl Source {
     {
         let bytes = self.text.as_bytes();
         let end = bytes.len().min(offset as usize);
-        position_behind(&bytes[..end])
+        position_following(&bytes[..end])
     }
 }

@@ -106,16 +106,16 @@ pub record IsTreeOf (text : List ℕ) (tree : Tree) : Type 0 where
   pub clauses : most_clauses (tree_of tree) ≤ 64
 
 -- why the source has no reading: the first of these that holds
-pub data Flaw (text : List ℕ) (fault : Fault) : Type 0 where
-  IsLong : MAX_LENGTH < length text → fault ≡ faults.TooLong → Flaw text fault
-  IsNoText : length text ≤ MAX_LENGTH → ¬ (IsUtf8 text) → fault ≡ faults.NotUtf8 → Flaw text fault
+pub data FaultOf (text : List ℕ) (fault : Fault) : Type 0 where
+  IsLong : MAX_LENGTH < length text → fault ≡ faults.TooLong → FaultOf text fault
+  IsNoText : length text ≤ MAX_LENGTH → ¬ (IsUtf8 text) → fault ≡ faults.NotUtf8 → FaultOf text fault
   -- no token begins at the fault's location
-  HasFault : length text ≤ MAX_LENGTH → IsUtf8 text → tokens_of text ≡ Err fault → Flaw text fault
+  HasFault : length text ≤ MAX_LENGTH → IsUtf8 text → tokens_of text ≡ Err fault → FaultOf text fault
   -- no file spells its tokens
-  IsUnread : length text ≤ MAX_LENGTH → IsUtf8 text → (tokens : List Token) → tokens_of text ≡ Ok tokens → IsUnspelt (lexemes text tokens) fault → Flaw text fault
+  IsUnread : length text ≤ MAX_LENGTH → IsUtf8 text → (tokens : List Token) → tokens_of text ≡ Ok tokens → IsUnspelt (lexemes text tokens) fault → FaultOf text fault
   -- a rule is violated or a limit exceeded at a node of its tree
-  IsWrong : length text ≤ MAX_LENGTH → IsUtf8 text → (tree : Tree) → IsTreeOf text tree → Tells tree fault → Flaw text fault
+  IsWrong : length text ≤ MAX_LENGTH → IsUtf8 text → (tree : Tree) → IsTreeOf text tree → Tells tree fault → FaultOf text fault
 
 -- the fault says why the source has no reading, with line and column
 abbrev pub IsWhy : List ℕ → Fault → Type 0
-IsWhy text told = (fault : Fault) × Flaw text fault × (told ≡ located_in text fault)
+IsWhy text told = (fault : Fault) × FaultOf text fault × (told ≡ located_in text fault)

@@ -33,31 +33,31 @@ module _ (keys : List (Option Key)) (heap : List Entry) (places : List ℕ) (x :
 
   -- the slots but the one at index 0, which are at the indices after it
   module _ (slot : ℕ) (first : (entry_at heap 0).slot ≡ slot) where
-    behind : (s : ℕ) (k : Key) → s ≢ slot → slice_index_or keys s None ≡ Some k → (0 < slice_index places s) × (slice_index places s < length heap) × (key_at heap (slice_index places s) ≡ k)
-    behind s k ne h =
+    following : (s : ℕ) (k : Key) → s ≢ slot → slice_index_or keys s None ≡ Some k → (0 < slice_index places s) × (slice_index places s < length heap) × (key_at heap (slice_index places s) ≡ k)
+    following s k ne h =
         let p = x.place s k h in
         let apart : slice_index places s ≢ 0 = λ z. ne (ap (λ (n : Entry). n.slot) (sym p.1 ∙ ap (entry_at heap) z) ∙ first) in
         (omega arith, p.0, ap (λ (n : Entry). n.key) p.1)
 
-    pub none_behind : (o : Option Key) → IfNone o (length heap ≤ 1) → IfNone o ((s : ℕ) → s ≢ slot → slice_index_or keys s None ≡ None)
-    none_behind (Some k) h = tt
-    none_behind None h = λ s ne. elim (some_or_none (slice_index_or keys s None)) [
+    pub none_following : (o : Option Key) → IfNone o (length heap ≤ 1) → IfNone o ((s : ℕ) → s ≢ slot → slice_index_or keys s None ≡ None)
+    none_following (Some k) h = tt
+    none_following None h = λ s ne. elim (some_or_none (slice_index_or keys s None)) [
       | inl e ↦ e
-      | inr e ↦ let b = behind s e.0 ne e.1 in absurd (omega (arith, b.0, b.1, h))
+      | inr e ↦ let b = following s e.0 ne e.1 in absurd (omega (arith, b.0, b.1, h))
     ]
 
-    pub one_behind : (o : Option Key) → IfSome o (λ (k : Key). (i : ℕ) × (0 < i) × (i < length heap) × (key_at heap i ≡ k)) → IfSome o (λ (k : Key). (s : ℕ) × (s ≢ slot) × (slice_index_or keys s None ≡ Some k))
-    one_behind None h = tt
-    one_behind (Some k) h =
+    pub one_following : (o : Option Key) → IfSome o (λ (k : Key). (i : ℕ) × (0 < i) × (i < length heap) × (key_at heap i ≡ k)) → IfSome o (λ (k : Key). (s : ℕ) × (s ≢ slot) × (slice_index_or keys s None ≡ Some k))
+    one_following None h = tt
+    one_following (Some k) h =
         let there = x.entry h.0 h.2 in
         let root = x.entry 0 (omega (arith, h.2)) in
         let apart : (entry_at heap h.0).slot ≢ slot = λ e. absurd (omega (arith, h.1, sym there.1 ∙ ap (slice_index places) (e ∙ sym first) ∙ root.1)) in
         ((entry_at heap h.0).slot, apart, there.0 ∙ ap Some h.3)
 
-    pub least_behind : (o : Option Key) → IfSome o (λ (k : Key). (i : ℕ) → 0 < i → i < length heap → is_before (key_at heap i) k ≡ false)
+    pub least_after : (o : Option Key) → IfSome o (λ (k : Key). (i : ℕ) → 0 < i → i < length heap → is_before (key_at heap i) k ≡ false)
         → IfSome o (λ (k : Key). (s : ℕ) (m : Key) → s ≢ slot → slice_index_or keys s None ≡ Some m → is_before m k ≡ false)
-    least_behind None h = tt
-    least_behind (Some k) h = λ s m ne e. let b = behind s m ne e in subst (λ (j : Key). is_before j k ≡ false) b.2 (h (slice_index places s) b.0 b.1)
+    least_after None h = tt
+    least_after (Some k) h = λ s m ne e. let b = following s m ne e in subst (λ (j : Key). is_before j k ≡ false) b.2 (h (slice_index places s) b.0 b.1)
 
   -- one slot more, which is free
   grown_key : (s : ℕ) → slice_index_or (keys ++ None ∷ []) s None ≡ slice_index_or keys s None

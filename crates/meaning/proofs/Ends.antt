@@ -128,19 +128,19 @@ then_leads : {A : Type 0} (work : Worked A) (f : A → Worked Course) (n : ℕ) 
 then_leads work f n each = record { light = λ given. light_from (work given) f n each }
 
 module _ (globals : Globals) (blocks : Blocks) (rest : List Task) where
-  abbrev behind : ℕ
-  behind = tasks_weight rest
+  abbrev following : ℕ
+  following = tasks_weight rest
 
-  goes : (tasks : List Task) (n : ℕ) → tasks_weight tasks + behind < n → Leads n (go_on globals blocks rest tasks)
+  goes : (tasks : List Task) (n : ℕ) → tasks_weight tasks + following < n → Leads n (go_on globals blocks rest tasks)
   goes tasks n less = let e : tasks_weight (tasks ++ rest) < n = omega (arith, append_weight tasks rest, less) in record { light = λ given. e }
 
-  enters_leads : (tasks : List Task) (n : ℕ) → 1 + tasks_weight tasks + behind < n → Leads n (enters_block globals blocks rest tasks)
+  enters_leads : (tasks : List Task) (n : ℕ) → 1 + tasks_weight tasks + following < n → Leads n (enters_block globals blocks rest tasks)
   enters_leads tasks n less = let e : tasks_weight (tasks ++ EndBlock ∷ rest) < n = omega (arith, append_weight tasks (EndBlock ∷ rest), less) in record { light = λ given. e }
 
-  leaves_leads : (tasks : List Task) (n : ℕ) → tasks_weight tasks + behind < n → Leads n (leaves_block globals blocks rest tasks)
+  leaves_leads : (tasks : List Task) (n : ℕ) → tasks_weight tasks + following < n → Leads n (leaves_block globals blocks rest tasks)
   leaves_leads tasks n less = let e : tasks_weight (tasks ++ rest) < n = omega (arith, append_weight tasks rest, less) in record { light = λ given. e }
 
-  does_leads : (need : Need) (n : ℕ) → behind < n → Leads n (does globals blocks rest need)
+  does_leads : (need : Need) (n : ℕ) → following < n → Leads n (does globals blocks rest need)
   does_leads need n less = then_leads _ _ n (λ given. goes [] n (omega (arith, less)))
 
   gives_leads : (destinations : List Destination) (right : List Expression) (n : ℕ) → Leads n (gives globals blocks rest destinations right)
@@ -150,10 +150,10 @@ module _ (globals : Globals) (blocks : Blocks) (rest : List Task) where
   updates_leads place operator operand n =
       then_leads (binary operator (ready (value_at globals blocks rest place)) operand) (λ v. stores globals blocks rest (placed globals blocks place ∷ []) (v ∷ [])) n (λ v. record { light = λ given. tt })
 
-  send_leads : (c : Option ℕ) (item : Worked Value) (n : ℕ) → behind < n → Leads n (and_then item (λ words. asks globals blocks rest (requests.Send c words)))
+  send_leads : (c : Option ℕ) (item : Worked Value) (n : ℕ) → following < n → Leads n (and_then item (λ words. asks globals blocks rest (requests.Send c words)))
   send_leads c item n less = then_leads item (λ words. asks globals blocks rest (requests.Send c words)) n (λ words. does_leads (Asking (requests.Send c words)) n less)
 
-  simple_leads : (simple : Simple) (n : ℕ) → behind < n → Leads n (simple_work globals blocks rest simple)
+  simple_leads : (simple : Simple) (n : ℕ) → following < n → Leads n (simple_work globals blocks rest simple)
   simple_leads (CallAlone function arguments) n less = then_leads _ _ n (λ all. does_leads _ n less)
   simple_leads (Close from) n less = then_leads _ _ n (λ c. does_leads _ n less)
   simple_leads (Print line parts trailing) n less = then_leads _ _ n (λ all. does_leads _ n less)
@@ -165,20 +165,20 @@ module _ (globals : Globals) (blocks : Blocks) (rest : List Task) where
   simple_leads (Define names right) n less = gives_leads _ right n
   simple_leads (Update place operator operand) n less = updates_leads place operator (value globals blocks operand) n
 
-  otherwise_leads : (otherwise : Otherwise) (n : ℕ) → 1 + otherwise_weight otherwise + behind < n → Leads n (otherwise_work globals blocks rest otherwise)
+  otherwise_leads : (otherwise : Otherwise) (n : ℕ) → 1 + otherwise_weight otherwise + following < n → Leads n (otherwise_work globals blocks rest otherwise)
   otherwise_leads NoElse n less = goes [] n (omega (arith, less))
   otherwise_leads (ElseBlock body) n less = enters_leads (all_of body) n (omega (arith, body_is body, less))
   otherwise_leads (ElseIf branch) n less = goes (Do (If branch) ∷ []) n (omega (arith, less))
 
-  decides_leads : (body : Statements) (otherwise : Otherwise) (n : ℕ) (b : Bool) → 1 + body_weight body + otherwise_weight otherwise + behind < n
+  decides_leads : (body : Statements) (otherwise : Otherwise) (n : ℕ) (b : Bool) → 1 + body_weight body + otherwise_weight otherwise + following < n
       → Leads n (if b then enters_block globals blocks rest (all_of body) else otherwise_work globals blocks rest otherwise)
   decides_leads body otherwise n true less = enters_leads (all_of body) n (omega (arith, body_is body, less))
   decides_leads body otherwise n false less = otherwise_leads otherwise n (omega (arith, less))
 
-  body_leads : (loop : Loop) (body : Statements) (n : ℕ) → body_weight body + loop_weight loop + behind < n → Leads n (body_work globals blocks rest loop body)
+  body_leads : (loop : Loop) (body : Statements) (n : ℕ) → body_weight body + loop_weight loop + following < n → Leads n (body_work globals blocks rest loop body)
   body_leads loop body n less = let e : tasks_weight (all_of body ++ Again loop ∷ rest) < n = omega (arith, append_weight (all_of body) (Again loop ∷ rest), body_is body, less) in record { light = λ given. e }
 
-  tested_leads : (loop : Loop) (body : Statements) (n : ℕ) (b : Bool) → body_weight body + loop_weight loop + behind < n
+  tested_leads : (loop : Loop) (body : Statements) (n : ℕ) (b : Bool) → body_weight body + loop_weight loop + following < n
       → Leads n (if b then body_work globals blocks rest loop body else go_on globals blocks rest [])
   tested_leads loop body n true less = body_leads loop body n less
   tested_leads loop body n false less = goes [] n (omega (arith, less))
@@ -188,7 +188,7 @@ module _ (globals : Globals) (blocks : Blocks) (rest : List Task) where
   assigned_light [] all tasks n less = less
   assigned_light (first ∷ more) all tasks n less = tt
 
-  item_light : (destinations : List Destination) (z : Value) (body : Statements) (got : List Value) (n : ℕ) → 4 + body_weight body + behind < n → Lighter n (next_item globals blocks rest destinations z body got)
+  item_light : (destinations : List Destination) (z : Value) (body : Statements) (got : List Value) (n : ℕ) → 4 + body_weight body + following < n → Lighter n (next_item globals blocks rest destinations z body got)
   item_light destinations z body [] n less = omega (arith, less)
   item_light destinations z body (item ∷ []) n less = omega (arith, less)
   item_light destinations z body (item ∷ ([] ∷ more)) n less = omega (arith, less)
@@ -198,21 +198,21 @@ module _ (globals : Globals) (blocks : Blocks) (rest : List Task) where
   item_light destinations z body (item ∷ ((Int i ∷ ok) ∷ more)) n less = omega (arith, less)
   item_light destinations z body (item ∷ ((Chan c ∷ ok) ∷ more)) n less = omega (arith, less)
 
-  head_leads : (loop : Loop) (n : ℕ) → head_weight loop + behind ≤ n → Leads n (head_work globals blocks rest loop)
+  head_leads : (loop : Loop) (n : ℕ) → head_weight loop + following ≤ n → Leads n (head_work globals blocks rest loop)
   head_leads (Repeating None post body) n less = body_leads (Repeating None post body) body n (omega (arith, less))
   head_leads (Repeating (Some condition) post body) n less = then_leads _ _ n (λ word. tested_leads (Repeating (Some condition) post body) body n (truth_in word) (omega (arith, less)))
   head_leads (Ranging destinations z body) n less = then_leads (told (z ∷ (Truth false ∷ []) ∷ []) (Asking (requests.Receive (kept globals blocks rest)))) (λ got. ready (next_item globals blocks rest destinations z body got)) n (λ got. record { light = λ given. item_light destinations z body got n (omega (arith, less)) })
 
-  again_leads : (loop : Loop) (n : ℕ) → loop_weight loop + behind ≤ n → Leads n (again_work globals blocks rest loop)
+  again_leads : (loop : Loop) (n : ℕ) → loop_weight loop + following ≤ n → Leads n (again_work globals blocks rest loop)
   again_leads (Repeating condition None body) n less = leaves_leads (Turn (Repeating condition None body) ∷ []) n (omega (arith, less))
   again_leads (Repeating condition (Some post) body) n less = record { light = λ given. omega (arith, less) }
   again_leads (Ranging destinations z body) n less = leaves_leads (Turn (Ranging destinations z body) ∷ []) n (omega (arith, less))
 
-  ranges_leads : (destinations : List Destination) (kind : ValueType) (body : Statements) (from : Expression) (c : Option ℕ) (n : ℕ) → 20 + body_weight body + behind ≤ n
+  ranges_leads : (destinations : List Destination) (kind : ValueType) (body : Statements) (from : Expression) (c : Option ℕ) (n : ℕ) → 20 + body_weight body + following ≤ n
       → Leads n (ranges globals blocks rest destinations kind body from c)
   ranges_leads destinations kind body from c n less = record { light = λ given. omega (arith, less) }
 
-  for_leads : (head : ForHead) (body : Statements) (n : ℕ) → 20 + body_weight body + behind ≤ n → Leads n (for_work globals blocks rest head body)
+  for_leads : (head : ForHead) (body : Statements) (n : ℕ) → 20 + body_weight body + following ≤ n → Leads n (for_work globals blocks rest head body)
   for_leads Forever body n less = goes (Head (Repeating None None body) ∷ []) n (omega (arith, less))
   for_leads (While condition) body n less = goes (Head (Repeating (Some condition) None body) ∷ []) n (omega (arith, less))
   for_leads (ForClauses None condition None) body n less = enters_leads (Head (Repeating condition None body) ∷ []) n (omega (arith, less))
@@ -221,7 +221,7 @@ module _ (globals : Globals) (blocks : Blocks) (rest : List Task) where
   for_leads (ForClauses (Some first) condition (Some post)) body n less = enters_leads (Do (Alone first) ∷ (Head (Repeating condition (Some post) body) ∷ [])) n (omega (arith, less))
   for_leads (Range target from) body n less = then_leads _ _ n (λ c. ranges_leads _ _ body from c n less)
 
-  branch_leads : (branch : Branch) (n : ℕ) → branch_weight branch + behind < n → Leads n (branch_work globals blocks rest branch)
+  branch_leads : (branch : Branch) (n : ℕ) → branch_weight branch + following < n → Leads n (branch_work globals blocks rest branch)
   branch_leads (Conditional Bare condition body otherwise) n less = enters_leads (Decide condition body otherwise ∷ []) n (omega (arith, less))
   branch_leads (Conditional Semicolon condition body otherwise) n less = enters_leads (Decide condition body otherwise ∷ []) n (omega (arith, less))
   branch_leads (Conditional (First simple) condition body otherwise) n less = enters_leads (Do (Alone simple) ∷ (Decide condition body otherwise ∷ [])) n (omega (arith, less))
@@ -232,22 +232,22 @@ module _ (globals : Globals) (blocks : Blocks) (rest : List Task) where
 
   -- ---- selects
 
-  way_light : (body : Statements) (n : ℕ) → 1 + body_weight body + behind < n → tasks_weight (all_of body ++ EndSelect ∷ rest) < n
+  way_light : (body : Statements) (n : ℕ) → 1 + body_weight body + following < n → tasks_weight (all_of body ++ EndSelect ∷ rest) < n
   way_light body n less = omega (arith, append_weight (all_of body) (EndSelect ∷ rest), body_is body, less)
 
-  clause_light : (clauses : Clauses) (k : ℕ) (got : List Word) (n : ℕ) → 1 + clauses_weight clauses + behind < n → Lighter n (at_clause globals blocks rest clauses k got)
+  clause_light : (clauses : Clauses) (k : ℕ) (got : List Word) (n : ℕ) → 1 + clauses_weight clauses + following < n → Lighter n (at_clause globals blocks rest clauses k got)
   clause_light NoClause k got n less = omega (arith, less)
   clause_light (Clause None body more) k got n less = clause_light more k got n (omega (arith, less))
   clause_light (Clause (Some comm) body more) zero got n less = omega (arith, less)
   clause_light (Clause (Some comm) body more) (suc zero) got n less = assigned_light _ _ (all_of body ++ EndSelect ∷ rest) n (way_light body n (omega (arith, less)))
   clause_light (Clause (Some comm) body more) (suc (suc k)) got n less = clause_light more (suc k) got n (omega (arith, less))
 
-  default_light : (clauses : Clauses) (n : ℕ) → 1 + clauses_weight clauses + behind < n → Lighter n (at_default globals blocks rest (default_of globals blocks rest clauses))
+  default_light : (clauses : Clauses) (n : ℕ) → 1 + clauses_weight clauses + following < n → Lighter n (at_default globals blocks rest (default_of globals blocks rest clauses))
   default_light NoClause n less = omega (arith, less)
   default_light (Clause None body more) n less = way_light body n (omega (arith, less))
   default_light (Clause (Some comm) body more) n less = default_light more n (omega (arith, less))
 
-  chosen_light : (clauses : Clauses) (given : Given) (n : ℕ) → 1 + clauses_weight clauses + behind < n → Lighter n (chosen globals blocks rest clauses given)
+  chosen_light : (clauses : Clauses) (given : Given) (n : ℕ) → 1 + clauses_weight clauses + following < n → Lighter n (chosen globals blocks rest clauses given)
   chosen_light clauses (Told (Chose k got)) n less = clause_light clauses k (reply_words (Chose k got)) n less
   chosen_light clauses (Told Nothing) n less = default_light clauses n less
   chosen_light clauses (Told (Answer w)) n less = default_light clauses n less
@@ -256,7 +256,7 @@ module _ (globals : Globals) (blocks : Blocks) (rest : List Task) where
   chosen_light clauses (Told Closed) n less = default_light clauses n less
   chosen_light clauses (Yielded v) n less = default_light clauses n less
 
-  statement_leads : (statement : Statement) (n : ℕ) → statement_weight statement + behind ≤ n → Leads n (statement_work globals blocks rest statement)
+  statement_leads : (statement : Statement) (n : ℕ) → statement_weight statement + following ≤ n → Leads n (statement_work globals blocks rest statement)
   statement_leads Empty n less = goes [] n (omega (arith, less))
   statement_leads (Alone simple) n less = simple_leads simple n (omega (arith, less))
   statement_leads (VarTyped names kind None) n less = record { light = λ given. tt }
@@ -273,7 +273,7 @@ module _ (globals : Globals) (blocks : Blocks) (rest : List Task) where
   statement_leads Break n less = record { light = λ given. omega (arith, broken_weight blocks rest, less) }
   statement_leads Continue n less = record { light = λ given. omega (arith, continued_weight blocks rest, less) }
 
-  task_leads : (task : Task) (n : ℕ) → task_weight task + behind ≤ n → Leads n (task_work globals blocks rest task)
+  task_leads : (task : Task) (n : ℕ) → task_weight task + following ≤ n → Leads n (task_work globals blocks rest task)
   task_leads (Do statement) n less = statement_leads statement n less
   task_leads EndBlock n less = leaves_leads [] n (omega (arith, less))
   task_leads (Decide condition body otherwise) n less = then_leads _ _ n (λ word. decides_leads body otherwise n (truth_in word) (omega (arith, less)))

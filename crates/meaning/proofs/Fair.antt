@@ -6,7 +6,7 @@ use Rattle.syntax.specs.declared.node.UnaryOperator.{UnaryOperator}
 use Rattle.syntax.specs.declared.node.UnaryOperator.TheVariants as signs
 use Rattle.syntax.specs.declared.node.BinaryOperator.{BinaryOperator}
 use Rattle.syntax.specs.declared.node.BinaryOperator.TheVariants as symbols
-use Rattle.syntax.specs.Tree.{TypeExpression, Expression, Integer, Named, Parenthesized, Selection, Composite, Unary, Binary, Call, Receive, Make, MakeSized, Length, Capacity, Expressions, NoMore, Behind}
+use Rattle.syntax.specs.Tree.{TypeExpression, Expression, Integer, Named, Parenthesized, Selection, Composite, Unary, Binary, Call, Receive, Make, MakeSized, Length, Capacity, Expressions, NoMore, Following}
 use Rattle.word.specs.declared.value.Word.{Word}
 use Rattle.word.specs.declared.value.Word.TheVariants.{Int, Bool as Truth, Chan}
 use Rattle.word.specs.Apply.{Valued, value as applied}
@@ -199,7 +199,7 @@ module _ (globals : Globals) (blocks : Blocks) where
     value_fair (Parenthesized inner) = value_fair inner
     value_fair (Selection of field) = then_fair _ (λ words. ready_fair (selected globals blocks (type_of globals blocks of) field words)) (value globals blocks of) (value_fair of)
     value_fair (Composite name NoMore trailing) = ready_fair _
-    value_fair (Composite name (Behind first rest) trailing) = fields_fair (Behind first rest)
+    value_fair (Composite name (Following first rest) trailing) = fields_fair (Following first rest)
     value_fair (Unary operator operand) = exactly_fair _ _ (then_fair (λ a. before operator (word_in a)) (λ a. before_fair operator (word_in a)) (value globals blocks operand) (value_fair operand))
     value_fair (Binary operator left right) = exactly_fair _ _ (compared_fair operator _ _ _ (binary_fair operator (value globals blocks left) (value globals blocks right) (value_fair left) (value_fair right)))
     value_fair (Call function all trailing) = then_fair (called globals (number_of globals function)) (λ vs. called_fair (number_of globals function) vs) (values globals blocks all) (values_fair all)
@@ -211,8 +211,8 @@ module _ (globals : Globals) (blocks : Blocks) where
 
     fields_fair : (es : Expressions) → IsFair (fields globals blocks es)
     fields_fair NoMore = ready_fair []
-    fields_fair (Behind first rest) = then_fair _ (λ a. then_fair _ (λ b. ready_fair (a ++ b)) (fields globals blocks rest) (fields_fair rest)) (value globals blocks first) (value_fair first)
+    fields_fair (Following first rest) = then_fair _ (λ a. then_fair _ (λ b. ready_fair (a ++ b)) (fields globals blocks rest) (fields_fair rest)) (value globals blocks first) (value_fair first)
 
     pub values_fair : (es : Expressions) → IsFair (values globals blocks es)
     values_fair NoMore = ready_fair []
-    values_fair (Behind first rest) = then_fair _ (λ a. then_fair _ (λ more. ready_fair (a ∷ more)) (values globals blocks rest) (values_fair rest)) (value globals blocks first) (value_fair first)
+    values_fair (Following first rest) = then_fair _ (λ a. then_fair _ (λ more. ready_fair (a ∷ more)) (values globals blocks rest) (values_fair rest)) (value globals blocks first) (value_fair first)

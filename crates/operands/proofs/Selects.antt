@@ -45,14 +45,14 @@ pub one_more : (code : Code) (made : List Case) (clauses : List Clause) (words s
 one_more code made clauses words some i index d y all h e is inv =
     let n = length (clause_kinds code (get_or clauses i d)) in
     let rest = drop index words in
-    let behind : drop n rest ≡ drop (index + length some) words =
+    let following : drop n rest ≡ drop (index + length some) words =
     drop_taken n rest ∙ ap (λ (xs : List Word). drop (length xs) rest) (sym e) ∙ drop-drop (length some) index words in
     let o = cases_of code (drop (i + 1) clauses) (drop (index + length some) words) in
     let step : cases_of code (drop i clauses) rest ≡ also (Some y) o =
     at_clause code clauses rest i d h
     ∙ ap (λ (ws : List Word). also (case_of (get_or clauses i d) ws) (cases_of code (drop (suc i) clauses) (drop n rest))) (sym e)
     ∙ ap (λ x. also x (cases_of code (drop (suc i) clauses) (drop n rest))) is
-    ∙ ap (λ (ws : List Word). also (Some y) (cases_of code (drop (suc i) clauses) ws)) behind
+    ∙ ap (λ (ws : List Word). also (Some y) (cases_of code (drop (suc i) clauses) ws)) following
     ∙ ap (λ (m : ℕ). also (Some y) (cases_of code (drop m clauses) (drop (index + length some) words))) (sym (add-one i)) in
     sym (prefixed_one made y o) ∙ ap (prefixed made) (sym step) ∙ inv
 

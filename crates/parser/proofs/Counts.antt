@@ -4,11 +4,11 @@ use Rattle.std.proofs.lemmas.List.Sums.{sum_by-cons}
 use Rattle.scanner.specs.declared.kind.TokenKind.{TokenKind}
 use Rattle.scanner.specs.declared.kind.TokenKind.TheVariants as kinds
 use Rattle.syntax.specs.declared.node.Direction.TheVariants as directions
-use Rattle.syntax.specs.Tree.{TypeExpression, NamedType, ParenthesizedType, Channel, Expression, Integer, Named, Parenthesized, Selection, Composite, Unary, Binary, Call, Receive, Make, MakeSized, Length, Capacity, Expressions, NoMore, Behind, expressions, Arguments, Place, Part, Value, Text, Simple, CallAlone, Close, Print, ReceiveAlone, Send, Increment, Decrement, Assign, Define, Update, IfHead, Bare, Semicolon, First, Target, NoTarget, DefineTarget, AssignTarget, ForHead, Forever, While, ForClauses, Range, Comm, CommSend, CommReceive, CommDefine, CommAssign, Returned, NoValue, ReturnedValue, Statement, Empty, Alone, VarTyped, VarUntyped, Block, If, For, Select, Go, Return, Break, Continue, Statements, NoStatement, Then, Otherwise, Branch, Conditional, NoElse, ElseBlock, ElseIf, Clauses, NoClause, Clause, statements_in, Declared, Top, StructTop, FunctionTop, File}
+use Rattle.syntax.specs.Tree.{TypeExpression, NamedType, ParenthesizedType, Channel, Expression, Integer, Named, Parenthesized, Selection, Composite, Unary, Binary, Call, Receive, Make, MakeSized, Length, Capacity, Expressions, NoMore, Following, expressions, Arguments, Place, Part, Value, Text, Simple, CallAlone, Close, Print, ReceiveAlone, Send, Increment, Decrement, Assign, Define, Update, IfHead, Bare, Semicolon, First, Target, NoTarget, DefineTarget, AssignTarget, ForHead, Forever, While, ForClauses, Range, Comm, CommSend, CommReceive, CommDefine, CommAssign, Returned, NoValue, ReturnedValue, Statement, Empty, Alone, VarTyped, VarUntyped, Block, If, For, Select, Go, Return, Break, Continue, Statements, NoStatement, Then, Otherwise, Branch, Conditional, NoElse, ElseBlock, ElseIf, Clauses, NoClause, Clause, statements_in, Declared, Top, StructTop, FunctionTop, File}
 use Rattle.syntax.specs.Measures.{if_any}
 use Rattle.spans.specs.Words.{type_count, trailing_count, expression_count, values_count, arguments_count, right_count, place_count, part_count, part_step, place_step, simple_count, if_head_count, target_count, for_head_count, second_count, second_name_count, comm_count, returned_count, initial_count, start_count, statement_count, body_count, branch_count, otherwise_count, clauses_count, group_count, group_step, groups_count, block_count, top_count, top_step, file_count}
 use Rattle.parser_base.specs.Lexemes.{Lexeme, Name, Mark}
-use Rattle.parser_base.specs.Spelling.{behind, separated, joined, closing, before, AreAll, AreSome, binary_kind, expression_words, expressions_words, more_words as more_values, type_words}
+use Rattle.parser_base.specs.Spelling.{following, separated, joined, closing, before, AreAll, AreSome, binary_kind, expression_words, expressions_words, more_words as more_values, type_words}
 use Rattle.parser_simple.specs.Spelling.{name_words, IsName, place_words, IsPlace, arguments_words, right_words, part_words, simple_words, update_kind, IsSimple}
 use Rattle.parser_header.specs.Spelling.{if_head_words, IsIfHead, optional, IsAny, target_words, for_head_words, IsForHead, second_name_words, second_place_words, comm_words}
 use Rattle.parser_statement.specs.Spelling.{returned_words, initial_words, clause_start, statement_words, body_words, more_words, branch_words, otherwise_words, clauses_words, IsStatement, IsBody, AreStatements, IsBranch, IsOtherwise, AreClauses}
@@ -22,22 +22,22 @@ closing_counts separator close false rest = omega arith
 
 -- each of these and the mark before it
 separated_counts : {A : Type 0} (step : A → ℕ) (each : A → List Lexeme → List Lexeme) (separator : TokenKind) (xs : List A) (rest : List Lexeme) → ((x : A) (ws : List Lexeme) → length (each x ws) + 1 ≡ step x + length ws)
-    → length (separated each (behind separator) xs rest) ≡ sum_by step xs + length rest
+    → length (separated each (following separator) xs rest) ≡ sum_by step xs + length rest
 separated_counts step each separator [] rest one = omega arith
 separated_counts step each separator (x ∷ xs) rest one =
-    omega (arith, one x (separated each (behind separator) xs rest), separated_counts step each separator xs rest one, sum_by-cons step x xs)
+    omega (arith, one x (separated each (following separator) xs rest), separated_counts step each separator xs rest one, sum_by-cons step x xs)
 
 joined_counts : {A : Type 0} (step : A → ℕ) (each : A → List Lexeme → List Lexeme) (separator : TokenKind) (xs : List A) (rest : List Lexeme) → ((x : A) → 1 ≤ step x) → ((x : A) (ws : List Lexeme) → length (each x ws) + 1 ≡ step x + length ws)
-    → length (joined each (behind separator) xs rest) ≡ (sum_by step xs - 1) + length rest
+    → length (joined each (following separator) xs rest) ≡ (sum_by step xs - 1) + length rest
 joined_counts step each separator [] rest some one = omega arith
 joined_counts step each separator (x ∷ xs) rest some one =
-    omega (arith, some x, one x (separated each (behind separator) xs rest), separated_counts step each separator xs rest one, sum_by-cons step x xs)
+    omega (arith, some x, one x (separated each (following separator) xs rest), separated_counts step each separator xs rest one, sum_by-cons step x xs)
 
-separated_names : (separator : TokenKind) (ns : List (List ℕ)) (rest : List Lexeme) → length (separated name_words (behind separator) ns rest) ≡ length ns * 2 + length rest
+separated_names : (separator : TokenKind) (ns : List (List ℕ)) (rest : List Lexeme) → length (separated name_words (following separator) ns rest) ≡ length ns * 2 + length rest
 separated_names separator [] rest = omega arith
 separated_names separator (n ∷ ns) rest = omega (arith, separated_names separator ns rest)
 
-joined_names : (separator : TokenKind) (ns : List (List ℕ)) (rest : List Lexeme) → length (joined name_words (behind separator) ns rest) ≡ (length ns * 2 - 1) + length rest
+joined_names : (separator : TokenKind) (ns : List (List ℕ)) (rest : List Lexeme) → length (joined name_words (following separator) ns rest) ≡ (length ns * 2 - 1) + length rest
 joined_names separator [] rest = omega arith
 joined_names separator (n ∷ ns) rest = omega (arith, separated_names separator ns rest)
 
@@ -84,11 +84,11 @@ mutual
 
   values_counts : (es : Expressions) → length (expressions_words es) ≡ values_count es - 1
   values_counts NoMore = omega arith
-  values_counts (Behind first rest) = omega (arith, expression_counts first, more_values_counts rest, length-append (expression_words first) (more_values rest))
+  values_counts (Following first rest) = omega (arith, expression_counts first, more_values_counts rest, length-append (expression_words first) (more_values rest))
 
   more_values_counts : (es : Expressions) → length (more_values es) ≡ values_count es
   more_values_counts NoMore = omega arith
-  more_values_counts (Behind first rest) = omega (arith, expression_counts first, more_values_counts rest, length-append (expression_words first) (more_values rest))
+  more_values_counts (Following first rest) = omega (arith, expression_counts first, more_values_counts rest, length-append (expression_words first) (more_values rest))
 
 value_counts : (e : Expression) (rest : List Lexeme) → length (before e rest) ≡ expression_count e + length rest
 value_counts e rest = omega (arith, expression_counts e, length-append (expression_words e) rest)
@@ -101,7 +101,7 @@ value_steps : (es : List Expression) → values_count (expressions es) ≡ sum_b
 value_steps [] = omega arith
 value_steps (e ∷ es) = omega (arith, value_steps es, sum_by-cons value_step e es)
 
-list_counts : (separator : TokenKind) (es : List Expression) (rest : List Lexeme) → length (joined before (behind separator) es rest) ≡ (values_count (expressions es) - 1) + length rest
+list_counts : (separator : TokenKind) (es : List Expression) (rest : List Lexeme) → length (joined before (following separator) es rest) ≡ (values_count (expressions es) - 1) + length rest
 list_counts separator es rest = omega (arith, value_steps es, joined_counts value_step before separator es rest (λ x. omega arith) (λ e ws. omega (arith, value_counts e ws)))
 
 -- ---- simple statements
@@ -117,7 +117,7 @@ right_counts es rest = list_counts kinds.Comma es rest
 place_counts : (p : Place) (rest : List Lexeme) → length (place_words p rest) ≡ place_count p + length rest
 place_counts p rest = omega (arith, separated_names kinds.Period p.fields rest)
 
-places_counts : (ps : List Place) (rest : List Lexeme) → length (joined place_words (behind kinds.Comma) ps rest) ≡ (sum_by place_step ps - 1) + length rest
+places_counts : (ps : List Place) (rest : List Lexeme) → length (joined place_words (following kinds.Comma) ps rest) ≡ (sum_by place_step ps - 1) + length rest
 places_counts ps rest = joined_counts place_step place_words kinds.Comma ps rest (λ x. omega arith) (λ p ws. omega (arith, place_counts p ws))
 
 some_places : (P : Place → Type 0) (ps : List Place) → AreSome P ps → 1 ≤ sum_by place_step ps
@@ -165,11 +165,11 @@ for_head_counts : (h : ForHead) (rest : List Lexeme) → IsForHead h → length 
 for_head_counts Forever rest is = omega arith
 for_head_counts (While e) rest is = value_counts e rest
 for_head_counts (ForClauses first condition post) rest is =
-    let behind_condition = Mark kinds.Semicolon ∷ optional simple_words post rest in
+    let after_condition = Mark kinds.Semicolon ∷ optional simple_words post rest in
     omega (
       arith,
-      optional_counts _ simple_count simple_words first (Mark kinds.Semicolon ∷ optional before condition behind_condition) is.0 (simple_counts false true),
-      optional_counts _ expression_count before condition behind_condition is.1 (λ e ws _. value_counts e ws),
+      optional_counts _ simple_count simple_words first (Mark kinds.Semicolon ∷ optional before condition after_condition) is.0 (simple_counts false true),
+      optional_counts _ expression_count before condition after_condition is.1 (λ e ws _. value_counts e ws),
       optional_counts _ simple_count simple_words post rest is.2 (simple_counts false false),
     )
 for_head_counts (Range t c) rest is = omega (arith, target_counts t (Mark kinds.Range ∷ before c rest), value_counts c rest)
@@ -245,8 +245,8 @@ mutual
   clauses_counts : (all : Clauses) (rest : List Lexeme) → AreClauses all → length (clauses_words all rest) ≡ clauses_count all + length rest
   clauses_counts NoClause rest is = omega arith
   clauses_counts (Clause c body others) rest is =
-      let behind_clause = clauses_words others rest in
-      omega (arith, start_counts c (body_words body behind_clause), body_counts body behind_clause is.1, clauses_counts others rest is.2)
+      let following_clause = clauses_words others rest in
+      omega (arith, start_counts c (body_words body following_clause), body_counts body following_clause is.1, clauses_counts others rest is.2)
 
 -- ---- declarations
 
@@ -254,7 +254,7 @@ group_counts : (d : Declared) (rest : List Lexeme) → length (declared_words d 
 group_counts d rest = omega (arith, joined_names kinds.Comma d.names (type_words d.type_expression ++ rest), type_before d.type_expression rest)
 
 groups_counts : (separator close : TokenKind) (ds : List Declared) (trailing : Bool) (rest : List Lexeme)
-    → length (joined declared_words (behind separator) ds (closing separator close trailing rest)) ≡ groups_count ds trailing + 1 + length rest
+    → length (joined declared_words (following separator) ds (closing separator close trailing rest)) ≡ groups_count ds trailing + 1 + length rest
 groups_counts separator close ds trailing rest =
     omega (arith, joined_counts group_step declared_words separator ds (closing separator close trailing rest) (λ x. omega arith) (λ d ws. omega (arith, group_counts d ws)), closing_counts separator close trailing rest)
 
@@ -262,16 +262,16 @@ result_counts : (t : Option TypeExpression) (rest : List Lexeme) → length (res
 result_counts None rest = omega arith
 result_counts (Some t) rest = type_before t rest
 
-more_statements : (ss : Statements) (rest : List Lexeme) → AreAll IsStatement (statements_in ss) → length (separated statement_words (behind kinds.Semicolon) (statements_in ss) rest) ≡ body_count ss + length rest
+more_statements : (ss : Statements) (rest : List Lexeme) → AreAll IsStatement (statements_in ss) → length (separated statement_words (following kinds.Semicolon) (statements_in ss) rest) ≡ body_count ss + length rest
 more_statements NoStatement rest are = omega arith
 more_statements (Then s ss) rest are =
-    omega (arith, statement_counts s (separated statement_words (behind kinds.Semicolon) (statements_in ss) rest) are.0, more_statements ss rest are.1)
+    omega (arith, statement_counts s (separated statement_words (following kinds.Semicolon) (statements_in ss) rest) are.0, more_statements ss rest are.1)
 
 block_counts : (body : Statements) (rest : List Lexeme) → AreSome IsStatement (statements_in body) → length (block_words (statements_in body) rest) ≡ block_count body + length rest
 block_counts NoStatement rest are = absurd are
 block_counts (Then s ss) rest are =
     let close = Mark kinds.RightBrace ∷ rest in
-    omega (arith, statement_counts s (separated statement_words (behind kinds.Semicolon) (statements_in ss) close) are.0, more_statements ss close are.1)
+    omega (arith, statement_counts s (separated statement_words (following kinds.Semicolon) (statements_in ss) close) are.0, more_statements ss close are.1)
 
 top_counts : (t : Top) (rest : List Lexeme) → IsTop t → length (top_words t rest) ≡ top_count t + length rest
 top_counts (StructTop s) rest is = omega (arith, groups_counts kinds.Semicolon kinds.RightBrace s.fields s.trailing rest)

@@ -6,7 +6,7 @@ use Rattle.syntax.specs.Measures.{Listing, Entries as EntriesLimit, SelectClause
 use Rattle.parser_base.specs.declared.list.Next.{Next}
 use Rattle.parser_base.specs.declared.list.Next.TheVariants.{More, End}
 use Rattle.parser_base.specs.Lexemes.{Lexeme, Name, Mark}
-use Rattle.parser_base.specs.Spelling.{behind, separated, joined, AreAll, AreSome}
+use Rattle.parser_base.specs.Spelling.{following, separated, joined, AreAll, AreSome}
 use Rattle.parser_base.specs.Reading.{Refusal, Syntax, TooDeep, TooMany, Reading, ◌>>=◌, expect, expect_name, listed}
 use Rattle.parser_base.proofs.Marks.{bind_ok, ok_is, expect_is, expect_name_is}
 use Rattle.parser_base.proofs.ListLaws.{AreFew, ReadBack, Found as OneFound, High as OneHigh, Many as OneMany, Found as AllFound, High as AllHigh, Many as AllMany, Full, Entries, all_again, IsReadAgain, Separates, listed_again, ReadsSoundly, listed_sound, ends_with, goes_on_with, all_of}
@@ -17,16 +17,16 @@ use Rattle.parser.proofs.TopLaws.{top_again, top_sound}
 
 -- ---- declarations
 
-abbrev listed_tops : (room most : ℕ) → Entries Top
-listed_tops room most = record {
-  one = top most room;
+abbrev listed_tops : (depth_left most : ℕ) → Entries Top
+listed_tops depth_left most = record {
+  one = top most depth_left;
   next = top_next;
   each = top_words;
-  separator = behind kinds.Semicolon;
+  separator = following kinds.Semicolon;
   ending = λ trailing rest. Mark kinds.Semicolon ∷ [];
   height = top_height;
   longest = top_longest;
-  room = suc (suc room);
+  depth_left = suc (suc depth_left);
   most = most;
   IsOne = IsTop;
 }
@@ -46,8 +46,8 @@ end_again : top_next (Mark kinds.Semicolon ∷ []) ≡ Ok (End false, [])
 unfolding top_next expect
 end_again = refl
 
-tops_separate : (room most : ℕ) → Separates (listed_tops room most) Anything false []
-tops_separate room most = record {
+tops_separate : (depth_left most : ℕ) → Separates (listed_tops depth_left most) Anything false []
+tops_separate depth_left most = record {
   separator = λ t words one. tt;
   more = λ t words one. more_again t words;
   ending = tt;
@@ -55,50 +55,50 @@ tops_separate room most = record {
 }
 
 -- declarations with a semicolon after each are those with one between each two, and one after them
-tops_joined : (t : Top) (ts : List Top) → tops_words (t ∷ ts) ≡ joined top_words (behind kinds.Semicolon) (t ∷ ts) (Mark kinds.Semicolon ∷ [])
+tops_joined : (t : Top) (ts : List Top) → tops_words (t ∷ ts) ≡ joined top_words (following kinds.Semicolon) (t ∷ ts) (Mark kinds.Semicolon ∷ [])
 tops_joined t [] = refl
 tops_joined t (next ∷ ts) = ap (λ (x : List Lexeme). top_words t (Mark kinds.Semicolon ∷ x)) (tops_joined next ts)
 
 -- ---- what is spelt is read
 
-begun_tops : (most room : ℕ) (t : Top) (rest : List Lexeme) → tops most room (top_words t rest) ≡ listed (top most room) top_next Syntax (length (top_words t rest)) (top_words t rest)
+begun_tops : (most depth_left : ℕ) (t : Top) (rest : List Lexeme) → tops most depth_left (top_words t rest) ≡ listed (top most depth_left) top_next Syntax (length (top_words t rest)) (top_words t rest)
 unfolding tops
-begun_tops most room (StructTop s) rest = refl
-begun_tops most room (FunctionTop f) rest = refl
+begun_tops most depth_left (StructTop s) rest = refl
+begun_tops most depth_left (FunctionTop f) rest = refl
 
-abbrev TopsOutcome : (room most : ℕ) → Reading (List Top × Bool) → List Top → Type 0
-TopsOutcome room most read ts = ReadBack read (ts, false) [] (highest top_height ts) (suc (suc room)) (λ listing. highest (top_longest listing) ts) most
+abbrev TopsOutcome : (depth_left most : ℕ) → Reading (List Top × Bool) → List Top → Type 0
+TopsOutcome depth_left most read ts = ReadBack read (ts, false) [] (highest top_height ts) (suc (suc depth_left)) (λ listing. highest (top_longest listing) ts) most
 
-some_again : (room most : ℕ) (t : Top) (ts : List Top) → AreAll IsTop (t ∷ ts) → TopsOutcome room most (tops most room (joined top_words (behind kinds.Semicolon) (t ∷ ts) (Mark kinds.Semicolon ∷ []))) (t ∷ ts)
-some_again room most t ts all =
+some_again : (depth_left most : ℕ) (t : Top) (ts : List Top) → AreAll IsTop (t ∷ ts) → TopsOutcome depth_left most (tops most depth_left (joined top_words (following kinds.Semicolon) (t ∷ ts) (Mark kinds.Semicolon ∷ []))) (t ∷ ts)
+some_again depth_left most t ts all =
     let ending = Mark kinds.Semicolon ∷ [] in
-    let behind' = separated top_words (behind kinds.Semicolon) ts ending in
-    let turns = length (top_words t behind') in
-    let enough : length (t ∷ ts) ≤ turns = omega (arith, tops_longer ts ending all.1, top_longer t behind' all.0) in
-    let again : (x : Top) → IsTop x → IsReadAgain (listed_tops room most) Anything x = λ x is rest ends. top_again most room x rest is in
-    let each = all_again IsTop (IsReadAgain (listed_tops room most) Anything) again (t ∷ ts) all in
-    rw (begun_tops most room t behind')
-    (elim (listed_again (listed_tops room most) Anything false [] Syntax (tops_separate room most) ts turns t all each) [
+    let following' = separated top_words (following kinds.Semicolon) ts ending in
+    let turns = length (top_words t following') in
+    let enough : length (t ∷ ts) ≤ turns = omega (arith, tops_longer ts ending all.1, top_longer t following' all.0) in
+    let again : (x : Top) → IsTop x → IsReadAgain (listed_tops depth_left most) Anything x = λ x is rest ends. top_again most depth_left x rest is in
+    let each = all_again IsTop (IsReadAgain (listed_tops depth_left most) Anything) again (t ∷ ts) all in
+    rw (begun_tops most depth_left t following')
+    (elim (listed_again (listed_tops depth_left most) Anything false [] Syntax (tops_separate depth_left most) ts turns t all each) [
       | AllFound low few count e ↦ OneFound low few e
       | AllHigh high e ↦ OneHigh high e
       | AllMany listing many e ↦ OneMany listing many e
       | Full count e ↦ absurd (omega arith)
     ])
 
-tops_again : (room most : ℕ) (ts : List Top) → AreAll IsTop ts → TopsOutcome room most (tops most room (tops_words ts)) ts
+tops_again : (depth_left most : ℕ) (ts : List Top) → AreAll IsTop ts → TopsOutcome depth_left most (tops most depth_left (tops_words ts)) ts
 unfolding tops
-tops_again room most [] all = OneFound (omega arith) (λ listing. omega arith) refl
-tops_again room most (t ∷ ts) all = rw (tops_joined t ts) (some_again room most t ts all)
+tops_again depth_left most [] all = OneFound (omega arith) (λ listing. omega arith) refl
+tops_again depth_left most (t ∷ ts) all = rw (tops_joined t ts) (some_again depth_left most t ts all)
 
-pub data FileOutcome (read : Result File Refusal) (f : File) (room most : ℕ) : Type 0 where
-  Found : height f ≤ room + 3 → AreFew (λ listing. longest listing f) most → read ≡ Ok f → FileOutcome read f room most
-  High : room + 3 < height f → read ≡ Err TooDeep → FileOutcome read f room most
-  Many : (listing : Listing) → most < longest listing f → read ≡ Err (TooMany listing) → FileOutcome read f room most
+pub data FileOutcome (read : Result File Refusal) (f : File) (depth_left most : ℕ) : Type 0 where
+  Found : height f ≤ depth_left + 3 → AreFew (λ listing. longest listing f) most → read ≡ Ok f → FileOutcome read f depth_left most
+  High : depth_left + 3 < height f → read ≡ Err TooDeep → FileOutcome read f depth_left most
+  Many : (listing : Listing) → most < longest listing f → read ≡ Err (TooMany listing) → FileOutcome read f depth_left most
 
-pub file_again : (room most : ℕ) (f : File) → AreAll IsTop f.tops → FileOutcome (file most room (words f)) f room most
+pub file_again : (depth_left most : ℕ) (f : File) → AreAll IsTop f.tops → FileOutcome (file most depth_left (words f)) f depth_left most
 unfolding file expect expect_name
-file_again room most f is =
-    elim (tops_again room most f.tops is) [
+file_again depth_left most f is =
+    elim (tops_again depth_left most f.tops is) [
       | OneFound low few e ↦ Found (omega (arith, low)) few (rw e refl)
       | OneHigh high e ↦ High (omega (arith, high)) (rw e refl)
       | OneMany listing many e ↦ Many listing many (rw e refl)
@@ -120,59 +120,59 @@ next_is ws next e =
     let a = bind_ok (expect kinds.Semicolon ws) (λ rest. Ok (more_tops rest)) next e in
     (a.0, expect_is kinds.Semicolon ws a.0 a.1, ok_is (more_tops a.0) next a.2)
 
-tops_soundly : (room most : ℕ) → ReadsSoundly (listed_tops room most)
-tops_soundly room most = record {
-  one = λ ws t rest e. let s = top_sound most room ws t rest e in record { parts = s.parts; is = s.is; low = s.low; few = s.few };
+tops_soundly : (depth_left most : ℕ) → ReadsSoundly (listed_tops depth_left most)
+tops_soundly depth_left most = record {
+  one = λ ws t rest e. let s = top_sound most depth_left ws t rest e in record { parts = s.parts; is = s.is; low = s.low; few = s.few };
   more = λ ws rest e. let a = next_is ws (goes_on_with rest) e in a.1 ∙ ap (λ (x : List Lexeme). Mark kinds.Semicolon ∷ x) (more_is a.0 rest a.2);
   end = λ ws trailing rest e. let a = next_is ws (ends_with trailing rest) e in let b = end_is a.0 trailing rest a.2 in a.1 ∙ ap (λ (x : List Lexeme). Mark kinds.Semicolon ∷ x) (b.0 ∙ b.1);
 }
 
-record AreTopsSound (room most : ℕ) (ws : List Lexeme) (ts : List Top) : Type 0 where
+record AreTopsSound (depth_left most : ℕ) (ws : List Lexeme) (ts : List Top) : Type 0 where
   parts : ws ≡ tops_words ts
   are : AreAll IsTop ts
-  low : highest top_height ts ≤ suc (suc room)
+  low : highest top_height ts ≤ suc (suc depth_left)
   few : AreFew (λ listing. highest (top_longest listing) ts) most
 
-tops_apart : (ts : List Top) → AreSome IsTop ts → joined top_words (behind kinds.Semicolon) ts (Mark kinds.Semicolon ∷ []) ≡ tops_words ts
+tops_apart : (ts : List Top) → AreSome IsTop ts → joined top_words (following kinds.Semicolon) ts (Mark kinds.Semicolon ∷ []) ≡ tops_words ts
 tops_apart [] some = absurd some
 tops_apart (t ∷ ts) some = sym (tops_joined t ts)
 
-tops_sound : (room most : ℕ) (ws : List Lexeme) (found : (List Top × Bool) × List Lexeme) → tops most room ws ≡ Ok found → AreTopsSound room most ws found.0.0
+tops_sound : (depth_left most : ℕ) (ws : List Lexeme) (found : (List Top × Bool) × List Lexeme) → tops most depth_left ws ≡ Ok found → AreTopsSound depth_left most ws found.0.0
 unfolding tops
-tops_sound room most [] found e =
-    subst (λ (x : (List Top × Bool) × List Lexeme). AreTopsSound room most [] x.0.0) (ok_is (([], false), []) found e) (record { parts = refl; are = tt; low = omega arith; few = λ listing. omega arith })
-tops_sound room most (w ∷ ws) found e =
-    let s = listed_sound (listed_tops room most) Syntax (tops_soundly room most) (length (w ∷ ws)) (w ∷ ws) found e in
+tops_sound depth_left most [] found e =
+    subst (λ (x : (List Top × Bool) × List Lexeme). AreTopsSound depth_left most [] x.0.0) (ok_is (([], false), []) found e) (record { parts = refl; are = tt; low = omega arith; few = λ listing. omega arith })
+tops_sound depth_left most (w ∷ ws) found e =
+    let s = listed_sound (listed_tops depth_left most) Syntax (tops_soundly depth_left most) (length (w ∷ ws)) (w ∷ ws) found e in
     record { parts = s.parts ∙ tops_apart found.0.0 s.are; are = all_of IsTop found.0.0 s.are; low = s.low; few = s.few }
 
-pub record IsFound (room most : ℕ) (ws : List Lexeme) (f : File) : Type 0 where
+pub record IsFound (depth_left most : ℕ) (ws : List Lexeme) (f : File) : Type 0 where
   pub spelt : Spells ws f
-  pub low : height f ≤ room + 3
+  pub low : height f ≤ depth_left + 3
   pub few : AreFew (λ listing. longest listing f) most
 
 abbrev made : List Top × Bool → Result File Refusal
 made found = Ok (record { tops = found.0 })
 
-abbrev tops_step : (room most : ℕ) → List Lexeme → Result File Refusal
-tops_step room most ws = tops most room ws >>= λ found. made found.0
+abbrev tops_step : (depth_left most : ℕ) → List Lexeme → Result File Refusal
+tops_step depth_left most ws = tops most depth_left ws >>= λ found. made found.0
 
-abbrev semicolon_step : (room most : ℕ) → List Lexeme → Result File Refusal
-semicolon_step room most ws = expect kinds.Semicolon ws >>= tops_step room most
+abbrev semicolon_step : (depth_left most : ℕ) → List Lexeme → Result File Refusal
+semicolon_step depth_left most ws = expect kinds.Semicolon ws >>= tops_step depth_left most
 
-abbrev main_step : (room most : ℕ) → List Lexeme → Result File Refusal
-main_step room most ws = expect_name (codes "main") ws >>= semicolon_step room most
+abbrev main_step : (depth_left most : ℕ) → List Lexeme → Result File Refusal
+main_step depth_left most ws = expect_name (codes "main") ws >>= semicolon_step depth_left most
 
-pub file_sound : (room most : ℕ) (ws : List Lexeme) (f : File) → file most room ws ≡ Ok f → IsFound room most ws f
+pub file_sound : (depth_left most : ℕ) (ws : List Lexeme) (f : File) → file most depth_left ws ≡ Ok f → IsFound depth_left most ws f
 unfolding file
-file_sound room most ws f e =
-    let a = bind_ok (expect kinds.Package ws) (main_step room most) f e in
-    let b = bind_ok (expect_name (codes "main") a.0) (semicolon_step room most) f a.2 in
-    let c = bind_ok (expect kinds.Semicolon b.0) (tops_step room most) f b.2 in
-    let d = bind_ok (tops most room c.0) (λ found. made found.0) f c.2 in
-    let s = tops_sound room most c.0 d.0 d.1 in
+file_sound depth_left most ws f e =
+    let a = bind_ok (expect kinds.Package ws) (main_step depth_left most) f e in
+    let b = bind_ok (expect_name (codes "main") a.0) (semicolon_step depth_left most) f a.2 in
+    let c = bind_ok (expect kinds.Semicolon b.0) (tops_step depth_left most) f b.2 in
+    let d = bind_ok (tops most depth_left c.0) (λ found. made found.0) f c.2 in
+    let s = tops_sound depth_left most c.0 d.0 d.1 in
     let semicolon = expect_is kinds.Semicolon b.0 c.0 c.1 ∙ ap (λ (x : List Lexeme). Mark kinds.Semicolon ∷ x) s.parts in
     let main = expect_name_is (codes "main") a.0 b.0 b.1 ∙ ap (λ (x : List Lexeme). Name (codes "main") ∷ x) semicolon in
-    subst (λ (x : File). IsFound room most ws x) (ok_is (record { tops = d.0.0.0 }) f d.2) (record {
+    subst (λ (x : File). IsFound depth_left most ws x) (ok_is (record { tops = d.0.0.0 }) f d.2) (record {
       spelt = record { words = expect_is kinds.Package ws a.0 a.1 ∙ ap (λ (x : List Lexeme). Mark kinds.Package ∷ x) main; well_formed = s.are };
       low = omega (arith, s.low);
       few = s.few;
@@ -180,19 +180,19 @@ file_sound room most ws f e =
 
 -- ---- no other file is spelt
 
-pub no_syntax : (room most : ℕ) (ws : List Lexeme) → file most room ws ≡ Err Syntax → (f : File) → Spells ws f → ⊥
-no_syntax room most ws e f spelt =
-    let same = ap (file most room) spelt.words in
-    elim (file_again room most f spelt.well_formed) [
+pub no_syntax : (depth_left most : ℕ) (ws : List Lexeme) → file most depth_left ws ≡ Err Syntax → (f : File) → Spells ws f → ⊥
+no_syntax depth_left most ws e f spelt =
+    let same = ap (file most depth_left) spelt.words in
+    elim (file_again depth_left most f spelt.well_formed) [
       | Found low few e' ↦ let bad = sym e ∙ same ∙ e' in absurd cc
       | High high e' ↦ let bad = sym e ∙ same ∙ e' in absurd cc
       | Many listing many e' ↦ let bad = sym e ∙ same ∙ e' in absurd cc
     ]
 
-pub no_low : (room most : ℕ) (ws : List Lexeme) → file most room ws ≡ Err TooDeep → (f : File) → Spells ws f → height f ≤ room + 3 → ⊥
-no_low room most ws e f spelt low =
-    let same = ap (file most room) spelt.words in
-    elim (file_again room most f spelt.well_formed) [
+pub no_low : (depth_left most : ℕ) (ws : List Lexeme) → file most depth_left ws ≡ Err TooDeep → (f : File) → Spells ws f → height f ≤ depth_left + 3 → ⊥
+no_low depth_left most ws e f spelt low =
+    let same = ap (file most depth_left) spelt.words in
+    elim (file_again depth_left most f spelt.well_formed) [
       | Found low few e' ↦ let bad = sym e ∙ same ∙ e' in absurd cc
       | High high e' ↦ absurd (omega arith)
       | Many listing many e' ↦ let bad = sym e ∙ same ∙ e' in absurd cc
@@ -205,10 +205,10 @@ abbrev listing_of : Listing → Result File Refusal → Listing
 listing_of other (Err (TooMany listing)) = listing
 listing_of other read = other
 
-pub no_few : (room most : ℕ) (ws : List Lexeme) (listing : Listing) → file most room ws ≡ Err (TooMany listing) → (f : File) → Spells ws f → longest listing f ≤ most → ⊥
-no_few room most ws listing e f spelt few =
-    let same = ap (file most room) spelt.words in
-    elim (file_again room most f spelt.well_formed) [
+pub no_few : (depth_left most : ℕ) (ws : List Lexeme) (listing : Listing) → file most depth_left ws ≡ Err (TooMany listing) → (f : File) → Spells ws f → longest listing f ≤ most → ⊥
+no_few depth_left most ws listing e f spelt few =
+    let same = ap (file most depth_left) spelt.words in
+    elim (file_again depth_left most f spelt.well_formed) [
       | Found low few e' ↦ let bad = sym e ∙ same ∙ e' in absurd cc
       | High high e' ↦ let bad = sym e ∙ same ∙ e' in absurd cc
       | Many other many e' ↦
@@ -218,10 +218,10 @@ no_few room most ws listing e f spelt few =
     ]
 
 -- with enough levels the file itself is read
-found_again : (room most : ℕ) (ws : List Lexeme) (f : File) → Spells ws f → height f ≤ room + 3 → AreFew (λ listing. longest listing f) most → file most room ws ≡ Ok f
-found_again room most ws f spelt low few =
-    elim (file_again room most f spelt.well_formed) [
-      | Found low few e ↦ ap (file most room) spelt.words ∙ e
+found_again : (depth_left most : ℕ) (ws : List Lexeme) (f : File) → Spells ws f → height f ≤ depth_left + 3 → AreFew (λ listing. longest listing f) most → file most depth_left ws ≡ Ok f
+found_again depth_left most ws f spelt low few =
+    elim (file_again depth_left most f spelt.well_formed) [
+      | Found low few e ↦ ap (file most depth_left) spelt.words ∙ e
       | High high e ↦ absurd (omega arith)
       | Many listing many e ↦ absurd (omega (arith, few listing))
     ]
@@ -236,8 +236,8 @@ longest-max_right SelectClauses f g = omega arith
 
 pub one_file : (ws : List Lexeme) (f g : File) → Spells ws f → Spells ws g → f ≡ g
 one_file ws f g a b =
-    let room = max (height f) (height g) in
+    let depth_left = max (height f) (height g) in
     let most = max (max (most_entries f) (most_entries g)) (max (most_clauses f) (most_clauses g)) in
-    let first = found_again room most ws f a (omega arith) (λ listing. longest-max listing f g) in
-    let second = found_again room most ws g b (omega arith) (λ listing. longest-max_right listing f g) in
+    let first = found_again depth_left most ws f a (omega arith) (λ listing. longest-max listing f g) in
+    let second = found_again depth_left most ws g b (omega arith) (λ listing. longest-max_right listing f g) in
     ok_is f g (sym first ∙ second)

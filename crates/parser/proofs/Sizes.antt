@@ -6,7 +6,7 @@ use Rattle.scanner.specs.declared.kind.TokenKind.TheVariants as kinds
 use Rattle.syntax.specs.Tree.{TypeExpression, statements_in, Declared, Struct, Function, Top, StructTop, FunctionTop, File}
 use Rattle.syntax.specs.Measures.{function_size, top_size, size, if_any, type_size, declared_size}
 use Rattle.parser_base.specs.Lexemes.{Lexeme, Mark}
-use Rattle.parser_base.specs.Spelling.{behind, AreAll, AreSome, separated, joined, closing, type_words}
+use Rattle.parser_base.specs.Spelling.{following, AreAll, AreSome, separated, joined, closing, type_words}
 use Rattle.parser_base.proofs.TypeLaws.{type_size-le}
 use Rattle.parser_simple.specs.Spelling.{name_words, IsName}
 use Rattle.parser_simple.proofs.Sizes.{separated_size, closing_size}
@@ -15,22 +15,22 @@ use Rattle.parser.specs.Spelling.{declared_words, IsDeclared, struct_words, IsSt
 
 -- ---- declarations
 
-declared_grows : (ns : List (List ℕ)) (kind : TypeExpression) (rest : List Lexeme) → AreSome IsName ns → type_size kind + 1 + length rest ≤ length (joined name_words (behind kinds.Comma) ns (type_words kind ++ rest))
+declared_grows : (ns : List (List ℕ)) (kind : TypeExpression) (rest : List Lexeme) → AreSome IsName ns → type_size kind + 1 + length rest ≤ length (joined name_words (following kinds.Comma) ns (type_words kind ++ rest))
 declared_grows [] kind rest some = absurd some
 declared_grows (n ∷ ns) kind rest some =
     omega (arith, type_size-le kind, length-append (type_words kind) rest, separated_size (λ (n : List ℕ). 0) name_words kinds.Comma ns (type_words kind ++ rest) (λ n ws. omega arith))
 
-more_declared_grow : (separator : TokenKind) (ds : List Declared) (rest : List Lexeme) → AreAll IsDeclared ds → sum_by declared_size ds + length rest ≤ length (separated declared_words (behind separator) ds rest)
+more_declared_grow : (separator : TokenKind) (ds : List Declared) (rest : List Lexeme) → AreAll IsDeclared ds → sum_by declared_size ds + length rest ≤ length (separated declared_words (following separator) ds rest)
 more_declared_grow separator [] rest are = omega arith
 more_declared_grow separator (d ∷ ds) rest are =
-    let behind' = separated declared_words (behind separator) ds rest in
-    omega (arith, sum_by-cons declared_size d ds, more_declared_grow separator ds rest are.1, declared_grows d.names d.type_expression behind' are.0.0)
+    let following' = separated declared_words (following separator) ds rest in
+    omega (arith, sum_by-cons declared_size d ds, more_declared_grow separator ds rest are.1, declared_grows d.names d.type_expression following' are.0.0)
 
-all_declared_grow : (separator : TokenKind) (ds : List Declared) (rest : List Lexeme) → AreAll IsDeclared ds → sum_by declared_size ds + length rest ≤ length (joined declared_words (behind separator) ds rest)
+all_declared_grow : (separator : TokenKind) (ds : List Declared) (rest : List Lexeme) → AreAll IsDeclared ds → sum_by declared_size ds + length rest ≤ length (joined declared_words (following separator) ds rest)
 all_declared_grow separator [] rest are = omega arith
 all_declared_grow separator (d ∷ ds) rest are =
-    let behind' = separated declared_words (behind separator) ds rest in
-    omega (arith, sum_by-cons declared_size d ds, more_declared_grow separator ds rest are.1, declared_grows d.names d.type_expression behind' are.0.0)
+    let following' = separated declared_words (following separator) ds rest in
+    omega (arith, sum_by-cons declared_size d ds, more_declared_grow separator ds rest are.1, declared_grows d.names d.type_expression following' are.0.0)
 
 result_grows : (kind : Option TypeExpression) (rest : List Lexeme) → if_any type_size kind + length rest ≤ length (result_words kind rest)
 result_grows None rest = omega arith
@@ -67,9 +67,9 @@ pub top_longer : (t : Top) (rest : List Lexeme) → IsTop t → length rest ≤ 
 top_longer t rest is = omega (arith, top_grows t rest is)
 
 -- there are no more declarations than words
-pub tops_longer : (ts : List Top) (rest : List Lexeme) → AreAll IsTop ts → length ts + length rest ≤ length (separated top_words (behind kinds.Semicolon) ts rest)
+pub tops_longer : (ts : List Top) (rest : List Lexeme) → AreAll IsTop ts → length ts + length rest ≤ length (separated top_words (following kinds.Semicolon) ts rest)
 tops_longer [] rest are = omega arith
-tops_longer (t ∷ ts) rest are = omega (arith, tops_longer ts rest are.1, top_longer t (separated top_words (behind kinds.Semicolon) ts rest) are.0)
+tops_longer (t ∷ ts) rest are = omega (arith, tops_longer ts rest are.1, top_longer t (separated top_words (following kinds.Semicolon) ts rest) are.0)
 
 pub size-le : (f : File) → AreAll IsTop f.tops → size f ≤ length (words f)
 size-le f is = omega (arith, tops_grow f.tops is)

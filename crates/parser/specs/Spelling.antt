@@ -5,7 +5,7 @@ use Rattle.std.specs.Prelude.{◌≡◌, Option, Some, None, List, [], ◌∷◌
 use Rattle.scanner.specs.declared.kind.TokenKind.TheVariants as kinds
 use Rattle.syntax.specs.Tree.{TypeExpression, Statement, statements_in, Declared, Struct, Function, Top, StructTop, FunctionTop, File}
 use Rattle.parser_base.specs.Lexemes.{Lexeme, Name, Mark}
-use Rattle.parser_base.specs.Spelling.{behind, joined, closing, AreAll, AreSome, IsTrailing, type_words, IsType}
+use Rattle.parser_base.specs.Spelling.{following, joined, closing, AreAll, AreSome, IsTrailing, type_words, IsType}
 use Rattle.parser_simple.specs.Spelling.{name_words, IsName}
 use Rattle.parser_statement.specs.Spelling.{statement_words, IsStatement}
 
@@ -13,7 +13,7 @@ use Rattle.parser_statement.specs.Spelling.{statement_words, IsStatement}
 
 -- names with commas between them, and their type
 abbrev pub declared_words : Declared → List Lexeme → List Lexeme
-declared_words declared rest = joined name_words (behind kinds.Comma) declared.names (type_words declared.type_expression ++ rest)
+declared_words declared rest = joined name_words (following kinds.Comma) declared.names (type_words declared.type_expression ++ rest)
 
 abbrev pub IsDeclared : Declared → Type 0
 IsDeclared declared = AreSome IsName declared.names × IsType declared.type_expression
@@ -24,7 +24,7 @@ IsDeclared declared = AreSome IsName declared.names × IsType declared.type_expr
 abbrev pub struct_words : Struct → List Lexeme → List Lexeme
 struct_words struct rest =
     Mark kinds.TypeKeyword ∷ Name struct.name ∷ Mark kinds.Struct ∷ Mark kinds.LeftBrace
-    ∷ joined declared_words (behind kinds.Semicolon) struct.fields (closing kinds.Semicolon kinds.RightBrace struct.trailing rest)
+    ∷ joined declared_words (following kinds.Semicolon) struct.fields (closing kinds.Semicolon kinds.RightBrace struct.trailing rest)
 
 pub record IsStruct (struct : Struct) : Type 0 where
   pub named : IsName struct.name
@@ -42,13 +42,13 @@ IsResult (Some kind) = IsType kind
 
 -- statements in braces, with semicolons between them
 abbrev pub block_words : List Statement → List Lexeme → List Lexeme
-block_words body rest = Mark kinds.LeftBrace ∷ joined statement_words (behind kinds.Semicolon) body (Mark kinds.RightBrace ∷ rest)
+block_words body rest = Mark kinds.LeftBrace ∷ joined statement_words (following kinds.Semicolon) body (Mark kinds.RightBrace ∷ rest)
 
 -- a function: its parameters, with commas between them, its result, and its block
 abbrev pub function_words : Function → List Lexeme → List Lexeme
 function_words function rest =
     Mark kinds.Func ∷ Name function.name ∷ Mark kinds.LeftParenthesis
-    ∷ joined declared_words (behind kinds.Comma) function.parameters (closing kinds.Comma kinds.RightParenthesis function.trailing
+    ∷ joined declared_words (following kinds.Comma) function.parameters (closing kinds.Comma kinds.RightParenthesis function.trailing
     (result_words function.result (block_words (statements_in function.body) rest)))
 
 pub record IsFunction (function : Function) : Type 0 where

@@ -43,18 +43,18 @@ fn declared_next(
     closed(close, false, cursor)
 }
 
-/// At most `most` names and their type, of at most `room` levels.
+/// At most `most` names and their type, of at most `depth_left` levels.
 #[tactic(auto, unfolding(crate::specs::Reading::declared))]
 fn declared(
     alloc: Global,
     most: usize,
-    room: u32,
+    depth_left: u32,
     cursor: Cursor<'_>,
 ) -> Result<(DeclaredNode, Cursor<'_>), ParseFault>
-    ensures { Gives (λ x. (declared_of x.0, ahead x.1)) result (declared most room (ahead cursor.entry)) }
+    ensures { Gives (λ x. (declared_of x.0, ahead x.1)) result (declared most depth_left (ahead cursor.entry)) }
 {
     let all = names(alloc, TokenKind::Comma, most, cursor)?;
-    let (names, found) = beside(all.entries, type_at(alloc, room, all.rest))?;
+    let (names, found) = beside(all.entries, type_at(alloc, depth_left, all.rest))?;
     let node = DeclaredNode {
         names,
         type_node: found.node,
@@ -67,19 +67,19 @@ fn some_declared(
     alloc: Global,
     separator: TokenKind,
     close: TokenKind,
-    room: u32,
+    depth_left: u32,
     cursor: Cursor<'_>,
 ) -> Result<List<'_, DeclaredNode>, ParseFault>
-    ensures { Gives (λ x. ((map declared_of x.entries.items, x.trailing), ahead x.rest)) result (some_declared separator close room MAX_ENTRIES MAX_ENTRIES (ahead cursor.entry)) }
+    ensures { Gives (λ x. ((map declared_of x.entries.items, x.trailing), ahead x.rest)) result (some_declared separator close depth_left MAX_ENTRIES MAX_ENTRIES (ahead cursor.entry)) }
 {
     let mut entries = Vec::new(alloc);
     let mut rest = cursor;
     let mut left = MAX_ENTRIES as usize;
     for _ in 0..MAX_ENTRIES {
-        let (one, behind) = declared(alloc, left, room, rest)?;
+        let (one, following) = declared(alloc, left, depth_left, rest)?;
         left = left.saturating_sub(one.names.len());
         entries.push(one)?;
-        let (next, after) = declared_next(separator, close, behind)?;
+        let (next, after) = declared_next(separator, close, following)?;
         match next {
             Next::More => rest = after,
             Next::End(trailing) => return Ok(List {
@@ -92,19 +92,19 @@ fn some_declared(
     Err(ParseFault::TooManyEntries(rest.place()))
 }
 
-/// Fields or parameters to the closing mark, after the opening one; their types have at most `room` levels.
+/// Fields or parameters to the closing mark, after the opening one; their types have at most `depth_left` levels.
 #[tactic(auto, unfolding(crate::specs::Reading::all_declared))]
 pub(crate) fn all_declared(
     alloc: Global,
     separator: TokenKind,
     close: TokenKind,
-    room: u32,
+    depth_left: u32,
     cursor: Cursor<'_>,
 ) -> Result<List<'_, DeclaredNode>, ParseFault>
-    ensures { Gives (λ x. ((map declared_of x.entries.items, x.trailing), ahead x.rest)) result (all_declared separator close MAX_ENTRIES room (ahead cursor.entry)) }
+    ensures { Gives (λ x. ((map declared_of x.entries.items, x.trailing), ahead x.rest)) result (all_declared separator close MAX_ENTRIES depth_left (ahead cursor.entry)) }
 {
     if begins_name(cursor) {
-        return some_declared(alloc, separator, close, room, cursor);
+        return some_declared(alloc, separator, close, depth_left, cursor);
     }
     let rest = cursor.expect(close)?;
     Ok(List {

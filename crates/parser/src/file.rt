@@ -6,7 +6,7 @@ ghost use Rattle.parser_base.specs.Cursor.{ahead};
 ghost use Rattle.parser_base.specs.Reading.{Gives, NamesRefusal, Syntax, listed};
 ghost use Rattle.parser.specs.Reading.{top, top_next, tops, file};
 
-use crate::top::{STATEMENT_ROOM, declaration};
+use crate::top::{STATEMENT_DEPTH, declaration};
 use parser_base::cursor::Cursor;
 use parser_base::fault::ParseFault;
 use parser_base::list::{List, Next};
@@ -31,14 +31,14 @@ fn declaration_next(cursor: Cursor<'_>) -> Result<(Next, Cursor<'_>), ParseFault
 
 /// At least one declaration, to the file's end.
 fn declaration_list(alloc: Global, cursor: Cursor<'_>) -> Result<List<'_, TopNode>, ParseFault>
-    ensures { Gives (λ x. ((map top_of x.entries.items, x.trailing), ahead x.rest)) result (listed (top MAX_ENTRIES STATEMENT_ROOM) top_next Syntax (length (ahead cursor.entry)) (ahead cursor.entry)) }
+    ensures { Gives (λ x. ((map top_of x.entries.items, x.trailing), ahead x.rest)) result (listed (top MAX_ENTRIES STATEMENT_DEPTH) top_next Syntax (length (ahead cursor.entry)) (ahead cursor.entry)) }
 {
     let mut entries = Vec::new(alloc);
     let mut rest = cursor;
     for _ in 0..cursor.len() {
-        let (one, behind) = declaration(alloc, rest)?;
+        let (one, following) = declaration(alloc, rest)?;
         entries.push(one)?;
-        let (next, after) = declaration_next(behind)?;
+        let (next, after) = declaration_next(following)?;
         match next {
             Next::More => rest = after,
             Next::End(trailing) => return Ok(List {
@@ -54,7 +54,7 @@ fn declaration_list(alloc: Global, cursor: Cursor<'_>) -> Result<List<'_, TopNod
 /// The declarations of a file after the semicolon of its first line.
 #[tactic(auto, unfolding(crate::specs::Reading::tops))]
 fn declarations(alloc: Global, cursor: Cursor<'_>) -> Result<List<'_, TopNode>, ParseFault>
-    ensures { Gives (λ x. ((map top_of x.entries.items, x.trailing), ahead x.rest)) result (tops MAX_ENTRIES STATEMENT_ROOM (ahead cursor.entry)) }
+    ensures { Gives (λ x. ((map top_of x.entries.items, x.trailing), ahead x.rest)) result (tops MAX_ENTRIES STATEMENT_DEPTH (ahead cursor.entry)) }
 {
     if cursor.next().is_some() {
         return declaration_list(alloc, cursor);
@@ -69,7 +69,7 @@ fn declarations(alloc: Global, cursor: Cursor<'_>) -> Result<List<'_, TopNode>, 
 /// A whole file.
 #[tactic(auto, unfolding(crate::specs::Reading::file))]
 pub(crate) fn file(alloc: Global, cursor: Cursor<'_>) -> Result<FileNode, ParseFault>
-    ensures { Gives file_of result (file MAX_ENTRIES STATEMENT_ROOM (ahead cursor.entry)) }
+    ensures { Gives file_of result (file MAX_ENTRIES STATEMENT_DEPTH (ahead cursor.entry)) }
 {
     let rest = cursor.expect(TokenKind::Package)?;
     let rest = rest.expect_name(b"main")?;

@@ -20,12 +20,12 @@ use syntax::limits::{MAX_ENTRIES, MAX_HEIGHT};
 use syntax::{FunctionNode, StatementNode, StructNode, TopNode, TypeNode};
 
 /// The most levels of a function's statements: above them are the file, its function and the function's block.
-pub const STATEMENT_ROOM: u32 = MAX_HEIGHT - 3;
+pub const STATEMENT_DEPTH: u32 = MAX_HEIGHT - 3;
 
 /// A declaration of a struct type.
 #[tactic(auto, unfolding(crate::specs::Reading::structure))]
 fn type_declaration(alloc: Global, cursor: Cursor<'_>) -> Result<(TopNode, Cursor<'_>), ParseFault>
-    ensures { Gives (λ x. (top_of x.0, ahead x.1)) result (structure MAX_ENTRIES STATEMENT_ROOM (ahead cursor.entry)) }
+    ensures { Gives (λ x. (top_of x.0, ahead x.1)) result (structure MAX_ENTRIES STATEMENT_DEPTH (ahead cursor.entry)) }
 {
     let rest = cursor.expect(TokenKind::TypeKeyword)?;
     let (name, rest) = name_at(alloc, rest)?;
@@ -35,7 +35,7 @@ fn type_declaration(alloc: Global, cursor: Cursor<'_>) -> Result<(TopNode, Curso
         alloc,
         TokenKind::Semicolon,
         TokenKind::RightBrace,
-        STATEMENT_ROOM,
+        STATEMENT_DEPTH,
         rest,
     )?;
     let node = StructNode {
@@ -52,22 +52,22 @@ fn result_type(
     alloc: Global,
     cursor: Cursor<'_>,
 ) -> Result<(Option<TypeNode>, Cursor<'_>), ParseFault>
-    ensures { Gives (λ x. (option_map type_of x.0, ahead x.1)) result (result_type (STATEMENT_ROOM + 1) (ahead cursor.entry)) }
+    ensures { Gives (λ x. (option_map type_of x.0, ahead x.1)) result (result_type (STATEMENT_DEPTH + 1) (ahead cursor.entry)) }
 {
     if begins_with(TokenKind::LeftBrace, cursor) {
         return Ok((None, cursor));
     }
-    let found = type_at(alloc, STATEMENT_ROOM + 1, cursor)?;
+    let found = type_at(alloc, STATEMENT_DEPTH + 1, cursor)?;
     Ok((Some(found.node), found.rest))
 }
 
 /// The statements of a function's block.
 #[tactic(auto, unfolding(crate::specs::Reading::block))]
 fn function_body(alloc: Global, cursor: Cursor<'_>) -> Result<List<'_, StatementNode>, ParseFault>
-    ensures { Gives (λ x. ((map statement_of x.entries.items, x.trailing), ahead x.rest)) result (block MAX_ENTRIES STATEMENT_ROOM (ahead cursor.entry)) }
+    ensures { Gives (λ x. ((map statement_of x.entries.items, x.trailing), ahead x.rest)) result (block MAX_ENTRIES STATEMENT_DEPTH (ahead cursor.entry)) }
 {
     let rest = cursor.expect(TokenKind::LeftBrace)?;
-    statement_list(alloc, STATEMENT_ROOM, rest)
+    statement_list(alloc, STATEMENT_DEPTH, rest)
 }
 
 /// A declaration of a function.
@@ -76,7 +76,7 @@ fn function_declaration(
     alloc: Global,
     cursor: Cursor<'_>,
 ) -> Result<(TopNode, Cursor<'_>), ParseFault>
-    ensures { Gives (λ x. (top_of x.0, ahead x.1)) result (function MAX_ENTRIES STATEMENT_ROOM (ahead cursor.entry)) }
+    ensures { Gives (λ x. (top_of x.0, ahead x.1)) result (function MAX_ENTRIES STATEMENT_DEPTH (ahead cursor.entry)) }
 {
     let rest = cursor.expect(TokenKind::Func)?;
     let (name, rest) = name_at(alloc, rest)?;
@@ -85,7 +85,7 @@ fn function_declaration(
         alloc,
         TokenKind::Comma,
         TokenKind::RightParenthesis,
-        STATEMENT_ROOM,
+        STATEMENT_DEPTH,
         rest,
     )?;
     let (kind, rest) = result_type(alloc, parameters.rest)?;
@@ -106,7 +106,7 @@ pub(crate) fn declaration(
     alloc: Global,
     cursor: Cursor<'_>,
 ) -> Result<(TopNode, Cursor<'_>), ParseFault>
-    ensures { Gives (λ x. (top_of x.0, ahead x.1)) result (top MAX_ENTRIES STATEMENT_ROOM (ahead cursor.entry)) }
+    ensures { Gives (λ x. (top_of x.0, ahead x.1)) result (top MAX_ENTRIES STATEMENT_DEPTH (ahead cursor.entry)) }
 {
     if begins_with(TokenKind::TypeKeyword, cursor) {
         type_declaration(alloc, cursor)

@@ -7,14 +7,14 @@ use Rattle.syntax.specs.declared.node.BinaryOperator.{BinaryOperator}
 use Rattle.syntax.specs.declared.node.BinaryOperator.TheVariants as binaries
 use Rattle.syntax.specs.declared.node.UnaryOperator.{UnaryOperator}
 use Rattle.syntax.specs.declared.node.UnaryOperator.TheVariants as unaries
-use Rattle.syntax.specs.Tree.{Expression, Integer, Named, Parenthesized, Selection, Composite, Unary, Binary, Call, Receive, Make, MakeSized, Length, Capacity, TypeExpression, Expressions, NoMore, Behind, expressions, expressions_in}
+use Rattle.syntax.specs.Tree.{Expression, Integer, Named, Parenthesized, Selection, Composite, Unary, Binary, Call, Receive, Make, MakeSized, Length, Capacity, TypeExpression, Expressions, NoMore, Following, expressions, expressions_in}
 use Rattle.syntax.specs.Measures.{Listing, Entries, entries, highest, type_height, expression_height, expressions_height, expression_longest, expressions_longest, expressions_count}
 use Rattle.syntax.proofs.Lists.{expressions-expressions_in}
 use Rattle.parser_base.specs.declared.operator.Infix.{Infix}
 use Rattle.parser_base.specs.declared.operator.Infix.TheVariants.{Operator, Period}
 use Rattle.parser_base.specs.declared.list.Next.TheVariants.{More, End}
 use Rattle.parser_base.specs.Lexemes.{Lexeme, Literal, Name, Text, Mark}
-use Rattle.parser_base.specs.Spelling.{is_builtin, behind, joined, separated, closing, before, AreAll, IsTrailing, HasLast, type_words, IsType, expression_words, expressions_words, more_words, outer_precedence, precedence, IsGrouped, AreGrouped, unary_kind, binary_kind}
+use Rattle.parser_base.specs.Spelling.{is_builtin, following, joined, separated, closing, before, AreAll, IsTrailing, HasLast, type_words, IsType, expression_words, expressions_words, more_words, outer_precedence, precedence, IsGrouped, AreGrouped, unary_kind, binary_kind}
 use Rattle.parser_base.specs.Reading.{Reading, TooDeep, TooMany, ◌>>=◌, as_one, needing, is_kind, expect, begins, entry_next, value_next, values, composite, called, named, to_parenthesis, argument, sized, made, builtin, infix_of, strength, binding, step_at, negated, operand, applied, operation, operations, expression, type_at}
 use Rattle.parser_base.proofs.Marks.{is_kind_same, expect_again, plain_name_again}
 use Rattle.parser_base.proofs.ListLaws.{AreFew, ReadBack, Found, High, Many, Found as AllFound, High as AllHigh, Many as AllMany, Full, entries-le, Entries as Listed, IsReadAgain, Separates, listed_again, all_again}
@@ -96,12 +96,12 @@ operator_shut binaries.GreaterEqual = refl
 operator_shut binaries.LogicalAnd = refl
 operator_shut binaries.LogicalOr = refl
 
-unary_again : (literals : Bool) (deeper : ℕ → List Lexeme → Reading Expression) (room most : ℕ) (o : UnaryOperator) (ws : List Lexeme) → operand literals deeper room most (Mark (unary_kind o) ∷ ws) ≡ negated deeper ws (Some o)
+unary_again : (literals : Bool) (deeper : ℕ → List Lexeme → Reading Expression) (depth_left most : ℕ) (o : UnaryOperator) (ws : List Lexeme) → operand literals deeper depth_left most (Mark (unary_kind o) ∷ ws) ≡ negated deeper ws (Some o)
 unfolding operand
-unary_again literals deeper room most unaries.Plus ws = refl
-unary_again literals deeper room most unaries.Negate ws = refl
-unary_again literals deeper room most unaries.Not ws = refl
-unary_again literals deeper room most unaries.Complement ws = refl
+unary_again literals deeper depth_left most unaries.Plus ws = refl
+unary_again literals deeper depth_left most unaries.Negate ws = refl
+unary_again literals deeper depth_left most unaries.Not ws = refl
+unary_again literals deeper depth_left most unaries.Complement ws = refl
 
 pub precedence-lt : (o : BinaryOperator) → precedence o < 6
 precedence-lt binaries.Add = omega arith
@@ -244,24 +244,24 @@ height_positive (Capacity channel) = omega arith
 
 height_in : (vs : Expressions) → highest expression_height (expressions_in vs) ≡ expressions_height vs
 height_in NoMore = refl
-height_in (Behind v vs) = omega (arith, height_in vs)
+height_in (Following v vs) = omega (arith, height_in vs)
 
 longest_in : (listing : Listing) (vs : Expressions) → highest (expression_longest listing) (expressions_in vs) ≡ expressions_longest listing vs
 longest_in listing NoMore = refl
-longest_in listing (Behind v vs) = omega (arith, longest_in listing vs)
+longest_in listing (Following v vs) = omega (arith, longest_in listing vs)
 
 count_in : (vs : Expressions) → length (expressions_in vs) ≡ expressions_count vs
 count_in NoMore = refl
-count_in (Behind v vs) = omega (arith, count_in vs)
+count_in (Following v vs) = omega (arith, count_in vs)
 
-more_words_in : (vs : Expressions) (rest : List Lexeme) → more_words vs ++ rest ≡ separated before (behind kinds.Comma) (expressions_in vs) rest
+more_words_in : (vs : Expressions) (rest : List Lexeme) → more_words vs ++ rest ≡ separated before (following kinds.Comma) (expressions_in vs) rest
 more_words_in NoMore rest = refl
-more_words_in (Behind v vs) rest =
+more_words_in (Following v vs) rest =
     ap (λ (ws : List Lexeme). Mark kinds.Comma ∷ ws) (append_assoc (expression_words v) (more_words vs) rest ∙ ap (λ (ws : List Lexeme). expression_words v ++ ws) (more_words_in vs rest))
 
-pub words_in : (vs : Expressions) (rest : List Lexeme) → expressions_words vs ++ rest ≡ joined before (behind kinds.Comma) (expressions_in vs) rest
+pub words_in : (vs : Expressions) (rest : List Lexeme) → expressions_words vs ++ rest ≡ joined before (following kinds.Comma) (expressions_in vs) rest
 words_in NoMore rest = refl
-words_in (Behind v vs) rest = append_assoc (expression_words v) (more_words vs) rest ∙ ap (λ (ws : List Lexeme). expression_words v ++ ws) (more_words_in vs rest)
+words_in (Following v vs) rest = append_assoc (expression_words v) (more_words vs) rest ∙ ap (λ (ws : List Lexeme). expression_words v ++ ws) (more_words_in vs rest)
 
 -- what closes a list, before what follows
 pub closing_before : (separator close : TokenKind) (trailing : Bool) (rest : List Lexeme) → closing separator close trailing [] ++ rest ≡ closing separator close trailing rest
@@ -269,7 +269,7 @@ closing_before separator close true rest = refl
 closing_before separator close false rest = refl
 
 pub closed_words : (close : TokenKind) (vs : Expressions) (trailing : Bool) (rest : List Lexeme)
-    → (expressions_words vs ++ closing kinds.Comma close trailing []) ++ rest ≡ joined before (behind kinds.Comma) (expressions_in vs) (closing kinds.Comma close trailing rest)
+    → (expressions_words vs ++ closing kinds.Comma close trailing []) ++ rest ≡ joined before (following kinds.Comma) (expressions_in vs) (closing kinds.Comma close trailing rest)
 closed_words close vs trailing rest =
     append_assoc (expressions_words vs) (closing kinds.Comma close trailing []) rest
     ∙ ap (λ (ws : List Lexeme). expressions_words vs ++ ws) (closing_before kinds.Comma close trailing rest)
@@ -277,74 +277,74 @@ closed_words close vs trailing rest =
 
 pub grouped_in : (literals : Bool) (vs : Expressions) → AreGrouped literals vs → AreAll (IsGrouped literals) (expressions_in vs)
 grouped_in literals NoMore all = tt
-grouped_in literals (Behind v vs) all = (all.0, grouped_in literals vs all.1)
+grouped_in literals (Following v vs) all = (all.0, grouped_in literals vs all.1)
 
 pub last_in : (vs : Expressions) (trailing : Bool) → HasLast vs trailing → IsTrailing (expressions_in vs) trailing
 last_in NoMore trailing last = last
-last_in (Behind v vs) trailing last = tt
+last_in (Following v vs) trailing last = tt
 
 -- ---- trees
 
 -- how a tree is read if nothing goes on after it
 abbrev pub IsRead : (literals : Bool) (most : ℕ) → Expression → Type 0
-IsRead literals most t = (room least : ℕ) (rest : List Lexeme) → least ≤ outer_precedence t → step_at least rest ≡ None → Shut literals rest
-    → ReadBack (expression literals most room least (expression_words t ++ rest)) t rest (expression_height t) room (λ listing. expression_longest listing t) most
+IsRead literals most t = (depth_left least : ℕ) (rest : List Lexeme) → least ≤ outer_precedence t → step_at least rest ≡ None → Shut literals rest
+    → ReadBack (expression literals most depth_left least (expression_words t ++ rest)) t rest (expression_height t) depth_left (λ listing. expression_longest listing t) most
 
 -- A tree's words are read as the tree, and reading goes on after it; or it is too high, or has too long a list.
-data Reads (literals : Bool) (most room least : ℕ) (t : Expression) (rest : List Lexeme) : Type 0 where
-  Goes : (turns : ℕ) → suc (suc room) ≤ turns + expression_height t → expression_height t ≤ suc room → AreFew (λ listing. expression_longest listing t) most
-      → expression literals most (suc room) least (expression_words t ++ rest) ≡ operations (expression literals most room) (suc room) least turns t rest → Reads literals most room least t rest
-  TooHigh : suc room < expression_height t → expression literals most (suc room) least (expression_words t ++ rest) ≡ Err TooDeep → Reads literals most room least t rest
-  TooLong : (listing : Listing) → most < expression_longest listing t → expression literals most (suc room) least (expression_words t ++ rest) ≡ Err (TooMany listing) → Reads literals most room least t rest
+data Reads (literals : Bool) (most depth_left least : ℕ) (t : Expression) (rest : List Lexeme) : Type 0 where
+  Goes : (turns : ℕ) → suc (suc depth_left) ≤ turns + expression_height t → expression_height t ≤ suc depth_left → AreFew (λ listing. expression_longest listing t) most
+      → expression literals most (suc depth_left) least (expression_words t ++ rest) ≡ operations (expression literals most depth_left) (suc depth_left) least turns t rest → Reads literals most depth_left least t rest
+  TooHigh : suc depth_left < expression_height t → expression literals most (suc depth_left) least (expression_words t ++ rest) ≡ Err TooDeep → Reads literals most depth_left least t rest
+  TooLong : (listing : Listing) → most < expression_longest listing t → expression literals most (suc depth_left) least (expression_words t ++ rest) ≡ Err (TooMany listing) → Reads literals most depth_left least t rest
 
 abbrev GoesOn : (literals : Bool) (most : ℕ) → Expression → Type 0
-GoesOn literals most t = (room least : ℕ) (rest : List Lexeme) → least ≤ outer_precedence t → step_at (suc (outer_precedence t)) rest ≡ None → Shut literals rest → Reads literals most room least t rest
+GoesOn literals most t = (depth_left least : ℕ) (rest : List Lexeme) → least ≤ outer_precedence t → step_at (suc (outer_precedence t)) rest ≡ None → Shut literals rest → Reads literals most depth_left least t rest
 
-pub stops : (deeper : ℕ → List Lexeme → Reading Expression) (room least turns : ℕ) (left : Expression) (ws : List Lexeme) → 1 ≤ turns → step_at least ws ≡ None → operations deeper room least turns left ws ≡ Ok (left, ws)
+pub stops : (deeper : ℕ → List Lexeme → Reading Expression) (depth_left least turns : ℕ) (left : Expression) (ws : List Lexeme) → 1 ≤ turns → step_at least ws ≡ None → operations deeper depth_left least turns left ws ≡ Ok (left, ws)
 unfolding operations operation
-stops deeper room least zero left ws h e = absurd (omega arith)
-stops deeper room least (suc turns) left ws h e = rw e refl
+stops deeper depth_left least zero left ws h e = absurd (omega arith)
+stops deeper depth_left least (suc turns) left ws h e = rw e refl
 
 is_read : (literals : Bool) (most : ℕ) (t : Expression) → GoesOn literals most t → IsRead literals most t
 unfolding expression
 is_read literals most t goes zero least rest le none is_shut = High (height_positive t) refl
-is_read literals most t goes (suc room) least rest le none is_shut =
-    elim (goes room least rest le (none_above least (suc (outer_precedence t)) rest (omega arith) none) is_shut) [
-      | Goes turns enough low few e ↦ Found low few (e ∙ stops (expression literals most room) (suc room) least turns t rest (omega (arith, enough)) none)
+is_read literals most t goes (suc depth_left) least rest le none is_shut =
+    elim (goes depth_left least rest le (none_above least (suc (outer_precedence t)) rest (omega arith) none) is_shut) [
+      | Goes turns enough low few e ↦ Found low few (e ∙ stops (expression literals most depth_left) (suc depth_left) least turns t rest (omega (arith, enough)) none)
       | TooHigh high e ↦ High high e
       | TooLong listing many e ↦ Many listing many e
     ]
 
-one_step : (deeper : ℕ → List Lexeme → Reading Expression) (room least turns : ℕ) (left : Expression) (s : Infix) (ws : List Lexeme) → least ≤ strength s → expression_height left < room
-    → operations deeper room least (suc turns) left (Mark (step_kind s) ∷ ws) ≡ (applied deeper left (s, ws) >>= λ more. operations deeper room least turns more.0 more.1)
+one_step : (deeper : ℕ → List Lexeme → Reading Expression) (depth_left least turns : ℕ) (left : Expression) (s : Infix) (ws : List Lexeme) → least ≤ strength s → expression_height left < depth_left
+    → operations deeper depth_left least (suc turns) left (Mark (step_kind s) ∷ ws) ≡ (applied deeper left (s, ws) >>= λ more. operations deeper depth_left least turns more.0 more.1)
 unfolding operations operation
-one_step deeper room least turns left s ws le low = rw (at_step least s ws le, lt-leb room (expression_height left) low) refl
+one_step deeper depth_left least turns left s ws le low = rw (at_step least s ws le, lt-leb depth_left (expression_height left) low) refl
 
-pub no_room : (deeper : ℕ → List Lexeme → Reading Expression) (room least turns : ℕ) (left : Expression) (s : Infix) (ws : List Lexeme) → least ≤ strength s → room ≤ expression_height left
-    → operations deeper room least turns left (Mark (step_kind s) ∷ ws) ≡ Err TooDeep
+pub no_depth_left : (deeper : ℕ → List Lexeme → Reading Expression) (depth_left least turns : ℕ) (left : Expression) (s : Infix) (ws : List Lexeme) → least ≤ strength s → depth_left ≤ expression_height left
+    → operations deeper depth_left least turns left (Mark (step_kind s) ∷ ws) ≡ Err TooDeep
 unfolding operations operation
-no_room deeper room least zero left s ws le high = refl
-no_room deeper room least (suc turns) left s ws le high = rw (at_step least s ws le, le-leb room (expression_height left) high) refl
+no_depth_left deeper depth_left least zero left s ws le high = refl
+no_depth_left deeper depth_left least (suc turns) left s ws le high = rw (at_step least s ws le, le-leb depth_left (expression_height left) high) refl
 
 -- like `one_step`, after an expression that is read
-step_read : (literals : Bool) (most room least turns : ℕ) (left : Expression) (s : Infix) (ws : List Lexeme) (read : Reading Expression) → 1 ≤ turns → least ≤ strength s → expression_height left < suc room
-    → read ≡ operations (expression literals most room) (suc room) least turns left (Mark (step_kind s) ∷ ws)
-    → read ≡ (applied (expression literals most room) left (s, ws) >>= λ more. operations (expression literals most room) (suc room) least (turns - 1) more.0 more.1)
-step_read literals most room least turns left s ws read some le low e =
+step_read : (literals : Bool) (most depth_left least turns : ℕ) (left : Expression) (s : Infix) (ws : List Lexeme) (read : Reading Expression) → 1 ≤ turns → least ≤ strength s → expression_height left < suc depth_left
+    → read ≡ operations (expression literals most depth_left) (suc depth_left) least turns left (Mark (step_kind s) ∷ ws)
+    → read ≡ (applied (expression literals most depth_left) left (s, ws) >>= λ more. operations (expression literals most depth_left) (suc depth_left) least (turns - 1) more.0 more.1)
+step_read literals most depth_left least turns left s ws read some le low e =
     let more : turns ≡ suc (turns - 1) = omega (arith, some) in
-    e ∙ ap (λ (n : ℕ). operations (expression literals most room) (suc room) least n left (Mark (step_kind s) ∷ ws)) more ∙ one_step (expression literals most room) (suc room) least (turns - 1) left s ws le low
+    e ∙ ap (λ (n : ℕ). operations (expression literals most depth_left) (suc depth_left) least n left (Mark (step_kind s) ∷ ws)) more ∙ one_step (expression literals most depth_left) (suc depth_left) least (turns - 1) left s ws le low
 
-binary_goes : (literals : Bool) (most room least turns : ℕ) (o : BinaryOperator) (l r : Expression) (rest : List Lexeme) → IsRead literals most r → precedence o < outer_precedence r → least ≤ precedence o → step_at (suc (precedence o)) rest ≡ None → Shut literals rest
-    → suc (suc room) ≤ turns + expression_height l → expression_height l ≤ suc room → AreFew (λ listing. expression_longest listing l) most
-    → expression literals most (suc room) least (expression_words (Binary o l r) ++ rest) ≡ operations (expression literals most room) (suc room) least turns l (Mark (binary_kind o) ∷ (expression_words r ++ rest))
-    → Reads literals most room least (Binary o l r) rest
-binary_goes literals most room least turns o l r rest right lt le none is_shut enough low few e =
+binary_goes : (literals : Bool) (most depth_left least turns : ℕ) (o : BinaryOperator) (l r : Expression) (rest : List Lexeme) → IsRead literals most r → precedence o < outer_precedence r → least ≤ precedence o → step_at (suc (precedence o)) rest ≡ None → Shut literals rest
+    → suc (suc depth_left) ≤ turns + expression_height l → expression_height l ≤ suc depth_left → AreFew (λ listing. expression_longest listing l) most
+    → expression literals most (suc depth_left) least (expression_words (Binary o l r) ++ rest) ≡ operations (expression literals most depth_left) (suc depth_left) least turns l (Mark (binary_kind o) ∷ (expression_words r ++ rest))
+    → Reads literals most depth_left least (Binary o l r) rest
+binary_goes literals most depth_left least turns o l r rest right lt le none is_shut enough low few e =
     let same : suc (precedence o) ≡ precedence o + 1 = omega arith in
-    elim (cases_lt (expression_height l) (suc room)) [
-      | inr high ↦ TooHigh (omega arith) (e ∙ no_room (expression literals most room) (suc room) least turns l (Operator o) (expression_words r ++ rest) le high)
+    elim (cases_lt (expression_height l) (suc depth_left)) [
+      | inr high ↦ TooHigh (omega arith) (e ∙ no_depth_left (expression literals most depth_left) (suc depth_left) least turns l (Operator o) (expression_words r ++ rest) le high)
       | inl lower ↦
-          let step = step_read literals most room least turns l (Operator o) (expression_words r ++ rest) _ (omega (arith, enough)) le lower e in
-          elim (right room (precedence o + 1) rest (omega arith) (subst (λ (n : ℕ). step_at n rest ≡ None) same none) is_shut) [
+          let step = step_read literals most depth_left least turns l (Operator o) (expression_words r ++ rest) _ (omega (arith, enough)) le lower e in
+          elim (right depth_left (precedence o + 1) rest (omega arith) (subst (λ (n : ℕ). step_at n rest ≡ None) same none) is_shut) [
             | Found low' few' e' ↦ Goes (turns - 1) (omega (arith, enough)) (omega arith) (λ listing. omega (arith, few listing, few' listing)) (step ∙ rw e' refl)
             | High high e' ↦ TooHigh (omega arith) (step ∙ rw e' refl)
             | Many listing many e' ↦ TooLong listing (omega arith) (step ∙ rw e' refl)
@@ -352,154 +352,154 @@ binary_goes literals most room least turns o l r rest right lt le none is_shut e
     ]
 
 reads_binary : (literals : Bool) (most : ℕ) (o : BinaryOperator) (l r : Expression) → GoesOn literals most l → IsRead literals most r → precedence o ≤ outer_precedence l → precedence o < outer_precedence r → GoesOn literals most (Binary o l r)
-reads_binary literals most o l r left right le lt room least rest least-le none is_shut =
+reads_binary literals most o l r left right le lt depth_left least rest least-le none is_shut =
     let tail = Mark (binary_kind o) ∷ (expression_words r ++ rest) in
     let regroup : expression_words (Binary o l r) ++ rest ≡ expression_words l ++ tail = append_assoc (expression_words l) (Mark (binary_kind o) ∷ expression_words r) rest in
-    let begin = ap (expression literals most (suc room) least) regroup in
-    elim (left room least tail (omega arith) (past_step (suc (outer_precedence l)) (Operator o) (expression_words r ++ rest) (omega arith)) (shut literals (binary_kind o) (expression_words r ++ rest) (operator_shut o) (no_brace o))) [
-      | Goes turns enough low few e ↦ binary_goes literals most room least turns o l r rest right lt least-le none is_shut enough low few (begin ∙ e)
+    let begin = ap (expression literals most (suc depth_left) least) regroup in
+    elim (left depth_left least tail (omega arith) (past_step (suc (outer_precedence l)) (Operator o) (expression_words r ++ rest) (omega arith)) (shut literals (binary_kind o) (expression_words r ++ rest) (operator_shut o) (no_brace o))) [
+      | Goes turns enough low few e ↦ binary_goes literals most depth_left least turns o l r rest right lt least-le none is_shut enough low few (begin ∙ e)
       | TooHigh high e ↦ TooHigh (omega arith) (begin ∙ e)
       | TooLong listing many e ↦ TooLong listing (omega arith) (begin ∙ e)
     ]
 
-selection_goes : (literals : Bool) (most room least turns : ℕ) (whole : Expression) (field : List ℕ) (rest : List Lexeme) → is_builtin field ≡ false → least ≤ 7
-    → suc (suc room) ≤ turns + expression_height whole → expression_height whole ≤ suc room → AreFew (λ listing. expression_longest listing whole) most
-    → expression literals most (suc room) least (expression_words (Selection whole field) ++ rest) ≡ operations (expression literals most room) (suc room) least turns whole (Mark kinds.Period ∷ Name field ∷ rest)
-    → Reads literals most room least (Selection whole field) rest
-selection_goes literals most room least turns whole field rest plain le enough low few e =
-    elim (cases_lt (expression_height whole) (suc room)) [
-      | inr high ↦ TooHigh (omega arith) (e ∙ no_room (expression literals most room) (suc room) least turns whole Period (Name field ∷ rest) le high)
+selection_goes : (literals : Bool) (most depth_left least turns : ℕ) (whole : Expression) (field : List ℕ) (rest : List Lexeme) → is_builtin field ≡ false → least ≤ 7
+    → suc (suc depth_left) ≤ turns + expression_height whole → expression_height whole ≤ suc depth_left → AreFew (λ listing. expression_longest listing whole) most
+    → expression literals most (suc depth_left) least (expression_words (Selection whole field) ++ rest) ≡ operations (expression literals most depth_left) (suc depth_left) least turns whole (Mark kinds.Period ∷ Name field ∷ rest)
+    → Reads literals most depth_left least (Selection whole field) rest
+selection_goes literals most depth_left least turns whole field rest plain le enough low few e =
+    elim (cases_lt (expression_height whole) (suc depth_left)) [
+      | inr high ↦ TooHigh (omega arith) (e ∙ no_depth_left (expression literals most depth_left) (suc depth_left) least turns whole Period (Name field ∷ rest) le high)
       | inl lower ↦
-          let step = step_read literals most room least turns whole Period (Name field ∷ rest) _ (omega (arith, enough)) le lower e in
+          let step = step_read literals most depth_left least turns whole Period (Name field ∷ rest) _ (omega (arith, enough)) le lower e in
           Goes (turns - 1) (omega (arith, enough)) (omega arith) few (step ∙ rw (plain_name_again field rest plain) refl)
     ]
 
 reads_selection : (literals : Bool) (most : ℕ) (whole : Expression) (field : List ℕ) → GoesOn literals most whole → outer_precedence whole ≡ 7 → is_builtin field ≡ false → GoesOn literals most (Selection whole field)
-reads_selection literals most whole field goes strong plain room least rest le none is_shut =
+reads_selection literals most whole field goes strong plain depth_left least rest le none is_shut =
     let tail = Mark kinds.Period ∷ Name field ∷ rest in
     let regroup : expression_words (Selection whole field) ++ rest ≡ expression_words whole ++ tail = append_assoc (expression_words whole) (Mark kinds.Period ∷ Name field ∷ []) rest in
-    let begin = ap (expression literals most (suc room) least) regroup in
-    elim (goes room least tail (omega (arith, strong)) (past_step (suc (outer_precedence whole)) Period (Name field ∷ rest) (omega (arith, strong))) (shut literals kinds.Period (Name field ∷ rest) refl refl)) [
-      | Goes turns enough low few e ↦ selection_goes literals most room least turns whole field rest plain le enough low few (begin ∙ e)
+    let begin = ap (expression literals most (suc depth_left) least) regroup in
+    elim (goes depth_left least tail (omega (arith, strong)) (past_step (suc (outer_precedence whole)) Period (Name field ∷ rest) (omega (arith, strong))) (shut literals kinds.Period (Name field ∷ rest) refl refl)) [
+      | Goes turns enough low few e ↦ selection_goes literals most depth_left least turns whole field rest plain le enough low few (begin ∙ e)
       | TooHigh high e ↦ TooHigh (omega arith) (begin ∙ e)
       | TooLong listing many e ↦ TooLong listing many (begin ∙ e)
     ]
 
--- how an operand is read that has at most `room` levels below it
+-- how an operand is read that has at most `depth_left` levels below it
 abbrev pub IsOperandRead : (literals : Bool) (most : ℕ) → Expression → Type 0
-IsOperandRead literals most t = (room : ℕ) (rest : List Lexeme) → step_at (suc (outer_precedence t)) rest ≡ None → Shut literals rest
-    → ReadBack (operand literals (expression literals most room) room most (expression_words t ++ rest)) t rest (expression_height t) (suc room) (λ listing. expression_longest listing t) most
+IsOperandRead literals most t = (depth_left : ℕ) (rest : List Lexeme) → step_at (suc (outer_precedence t)) rest ≡ None → Shut literals rest
+    → ReadBack (operand literals (expression literals most depth_left) depth_left most (expression_words t ++ rest)) t rest (expression_height t) (suc depth_left) (λ listing. expression_longest listing t) most
 
 -- an expression as it is read after its first operand
-pub behind_operand : (literals : Bool) (most room least : ℕ) (ws : List Lexeme) (r : Reading Expression) → operand literals (expression literals most room) room most ws ≡ r
-    → expression literals most (suc room) least ws ≡ (r >>= λ first. operations (expression literals most room) (suc room) least (suc room) first.0 first.1)
+pub after_operand : (literals : Bool) (most depth_left least : ℕ) (ws : List Lexeme) (r : Reading Expression) → operand literals (expression literals most depth_left) depth_left most ws ≡ r
+    → expression literals most (suc depth_left) least ws ≡ (r >>= λ first. operations (expression literals most depth_left) (suc depth_left) least (suc depth_left) first.0 first.1)
 unfolding expression
-behind_operand literals most room least ws r e = ap (λ (x : Reading Expression). x >>= λ first. operations (expression literals most room) (suc room) least (suc room) first.0 first.1) e
+after_operand literals most depth_left least ws r e = ap (λ (x : Reading Expression). x >>= λ first. operations (expression literals most depth_left) (suc depth_left) least (suc depth_left) first.0 first.1) e
 
 operand_goes : (literals : Bool) (most : ℕ) (t : Expression) → IsOperandRead literals most t → GoesOn literals most t
-operand_goes literals most t read room least rest le none is_shut =
+operand_goes literals most t read depth_left least rest le none is_shut =
     let words = expression_words t ++ rest in
-    elim (read room rest none is_shut) [
-      | Found low few e ↦ Goes (suc room) (omega (arith, height_positive t)) low few (behind_operand literals most room least words (Ok (t, rest)) e)
-      | High high e ↦ TooHigh high (behind_operand literals most room least words (Err TooDeep) e)
-      | Many listing many e ↦ TooLong listing many (behind_operand literals most room least words (Err (TooMany listing)) e)
+    elim (read depth_left rest none is_shut) [
+      | Found low few e ↦ Goes (suc depth_left) (omega (arith, height_positive t)) low few (after_operand literals most depth_left least words (Ok (t, rest)) e)
+      | High high e ↦ TooHigh high (after_operand literals most depth_left least words (Err TooDeep) e)
+      | Many listing many e ↦ TooLong listing many (after_operand literals most depth_left least words (Err (TooMany listing)) e)
     ]
 
 reads_integer : (literals : Bool) (most : ℕ) (value : Option ℕ) → IsOperandRead literals most (Integer value)
 unfolding operand
-reads_integer literals most value room rest none is_shut = Found (omega arith) (λ listing. omega arith) refl
+reads_integer literals most value depth_left rest none is_shut = Found (omega arith) (λ listing. omega arith) refl
 
 reads_named : (literals : Bool) (most : ℕ) (name : List ℕ) → is_builtin name ≡ false → IsOperandRead literals most (Named name)
 unfolding operand
-reads_named literals most name plain room rest none is_shut =
-    Found (omega arith) (λ listing. omega arith) (rw (plain, named_again literals (expression literals most room) most name rest is_shut) refl)
+reads_named literals most name plain depth_left rest none is_shut =
+    Found (omega arith) (λ listing. omega arith) (rw (plain, named_again literals (expression literals most depth_left) most name rest is_shut) refl)
 
 pub parenthesis_ends : (literals : Bool) (rest : List Lexeme) → EndsExpression literals (Mark kinds.RightParenthesis ∷ rest)
 unfolding step_at
 parenthesis_ends literals rest = record { none = refl; shut = shut literals kinds.RightParenthesis rest refl refl }
 
-to_parenthesis_again : (literals : Bool) (most room : ℕ) (inner : Expression) (rest : List Lexeme) → IsRead literals most inner
-    → ReadBack (to_parenthesis (expression literals most room) (expression_words inner ++ (Mark kinds.RightParenthesis ∷ rest))) inner rest (expression_height inner) room (λ listing. expression_longest listing inner) most
+to_parenthesis_again : (literals : Bool) (most depth_left : ℕ) (inner : Expression) (rest : List Lexeme) → IsRead literals most inner
+    → ReadBack (to_parenthesis (expression literals most depth_left) (expression_words inner ++ (Mark kinds.RightParenthesis ∷ rest))) inner rest (expression_height inner) depth_left (λ listing. expression_longest listing inner) most
 unfolding to_parenthesis
-to_parenthesis_again literals most room inner rest read =
+to_parenthesis_again literals most depth_left inner rest read =
     let ends = parenthesis_ends literals rest in
-    then_again _ (read room 0 (Mark kinds.RightParenthesis ∷ rest) (omega arith) ends.none ends.shut) (λ high. high) (λ listing. omega arith)
+    then_again _ (read depth_left 0 (Mark kinds.RightParenthesis ∷ rest) (omega arith) ends.none ends.shut) (λ high. high) (λ listing. omega arith)
     (λ low few. Found low few (rw (expect_again kinds.RightParenthesis rest) refl))
 
 reads_parenthesized : (literals : Bool) (most : ℕ) (inner : Expression) → IsRead literals most inner → IsOperandRead literals most (Parenthesized inner)
 unfolding operand
-reads_parenthesized literals most inner read room rest none is_shut =
+reads_parenthesized literals most inner read depth_left rest none is_shut =
     let regroup = append_assoc (expression_words inner) (Mark kinds.RightParenthesis ∷ []) rest in
-    read_as (ap (λ (ws : List Lexeme). as_one Parenthesized (to_parenthesis (expression literals most room) ws)) regroup)
-    (made_again Parenthesized (to_parenthesis_again literals most room inner rest read) (λ high. omega arith) (λ low. omega arith) (λ listing. refl))
+    read_as (ap (λ (ws : List Lexeme). as_one Parenthesized (to_parenthesis (expression literals most depth_left) ws)) regroup)
+    (made_again Parenthesized (to_parenthesis_again literals most depth_left inner rest read) (λ high. omega arith) (λ low. omega arith) (λ listing. refl))
 
 reads_unary : (literals : Bool) (most : ℕ) (o : UnaryOperator) (inner : Expression) → IsRead literals most inner → 6 ≤ outer_precedence inner → IsOperandRead literals most (Unary o inner)
-reads_unary literals most o inner read strong room rest none is_shut =
-    read_as (unary_again literals (expression literals most room) room most o (expression_words inner ++ rest))
-    (made_again (Unary o) (read room 6 rest strong (none_unary rest none) is_shut) (λ high. omega arith) (λ low. omega arith) (λ listing. refl))
+reads_unary literals most o inner read strong depth_left rest none is_shut =
+    read_as (unary_again literals (expression literals most depth_left) depth_left most o (expression_words inner ++ rest))
+    (made_again (Unary o) (read depth_left 6 rest strong (none_unary rest none) is_shut) (λ high. omega arith) (λ low. omega arith) (λ listing. refl))
 
 -- ---- receives, and calls of built-in functions
 
 reads_receive : (literals : Bool) (most : ℕ) (channel : Expression) → IsRead literals most channel → 6 ≤ outer_precedence channel → IsOperandRead literals most (Receive channel)
 unfolding operand
-reads_receive literals most channel read strong room rest none is_shut =
-    made_again Receive (read room 6 rest strong (none_unary rest none) is_shut) (λ high. omega arith) (λ low. omega arith) (λ listing. refl)
+reads_receive literals most channel read strong depth_left rest none is_shut =
+    made_again Receive (read depth_left 6 rest strong (none_unary rest none) is_shut) (λ high. omega arith) (λ low. omega arith) (λ listing. refl)
 
-pub type_outcome : (room most : ℕ) (t : TypeExpression) (rest : List Lexeme) → IsType t → ReadBack (type_at room (type_words t ++ rest)) t rest (type_height t) room (λ listing. 0) most
-type_outcome room most t rest is =
-    elim (type_again room t rest is) [
+pub type_outcome : (depth_left most : ℕ) (t : TypeExpression) (rest : List Lexeme) → IsType t → ReadBack (type_at depth_left (type_words t ++ rest)) t rest (type_height t) depth_left (λ listing. 0) most
+type_outcome depth_left most t rest is =
+    elim (type_again depth_left t rest is) [
       | TypeFound low e ↦ Found low (λ listing. omega arith) e
       | TypeHigh high e ↦ High high e
     ]
 
 -- a type is at least one level high
-made_plain_again : (literals : Bool) (most room : ℕ) (t : TypeExpression) (rest : List Lexeme) → IsType t
-    → ReadBack (needing 1 room (made (expression literals most room) room (Mark kinds.LeftParenthesis ∷ (type_words t ++ (Mark kinds.RightParenthesis ∷ rest))))) (Make t) rest (suc (type_height t)) (suc room) (λ listing. 0) most
+made_plain_again : (literals : Bool) (most depth_left : ℕ) (t : TypeExpression) (rest : List Lexeme) → IsType t
+    → ReadBack (needing 1 depth_left (made (expression literals most depth_left) depth_left (Mark kinds.LeftParenthesis ∷ (type_words t ++ (Mark kinds.RightParenthesis ∷ rest))))) (Make t) rest (suc (type_height t)) (suc depth_left) (λ listing. 0) most
 unfolding made sized expect
-made_plain_again literals most room t rest is =
-    needing_again 1 room (λ none. omega (arith, none, type_height_positive t))
-    (then_again _ (type_outcome room most t (Mark kinds.RightParenthesis ∷ rest) is) (λ high. omega arith) (λ listing. omega arith) (λ low few. Found (omega arith) few refl))
+made_plain_again literals most depth_left t rest is =
+    needing_again 1 depth_left (λ none. omega (arith, none, type_height_positive t))
+    (then_again _ (type_outcome depth_left most t (Mark kinds.RightParenthesis ∷ rest) is) (λ high. omega arith) (λ listing. omega arith) (λ low few. Found (omega arith) few refl))
 
-made_sized_again : (literals : Bool) (most room : ℕ) (t : TypeExpression) (s : Expression) (rest : List Lexeme) → IsType t → IsRead literals most s
-    → ReadBack (needing 1 room (made (expression literals most room) room (Mark kinds.LeftParenthesis ∷ (type_words t ++ (Mark kinds.Comma ∷ (expression_words s ++ (Mark kinds.RightParenthesis ∷ rest))))))) (MakeSized t s) rest
-    (suc (max (type_height t) (expression_height s))) (suc room) (λ listing. expression_longest listing s) most
+made_sized_again : (literals : Bool) (most depth_left : ℕ) (t : TypeExpression) (s : Expression) (rest : List Lexeme) → IsType t → IsRead literals most s
+    → ReadBack (needing 1 depth_left (made (expression literals most depth_left) depth_left (Mark kinds.LeftParenthesis ∷ (type_words t ++ (Mark kinds.Comma ∷ (expression_words s ++ (Mark kinds.RightParenthesis ∷ rest))))))) (MakeSized t s) rest
+    (suc (max (type_height t) (expression_height s))) (suc depth_left) (λ listing. expression_longest listing s) most
 unfolding made sized expect
-made_sized_again literals most room t s rest is read =
-    needing_again 1 room (λ none. omega (arith, none, type_height_positive t))
-    (then_again _ (type_outcome room most t (Mark kinds.Comma ∷ (expression_words s ++ (Mark kinds.RightParenthesis ∷ rest))) is) (λ high. omega arith) (λ listing. omega arith) (λ low few.
-    made_again (MakeSized t) (to_parenthesis_again literals most room s rest read) (λ high. omega arith) (λ low'. omega arith) (λ listing. refl)))
+made_sized_again literals most depth_left t s rest is read =
+    needing_again 1 depth_left (λ none. omega (arith, none, type_height_positive t))
+    (then_again _ (type_outcome depth_left most t (Mark kinds.Comma ∷ (expression_words s ++ (Mark kinds.RightParenthesis ∷ rest))) is) (λ high. omega arith) (λ listing. omega arith) (λ low few.
+    made_again (MakeSized t) (to_parenthesis_again literals most depth_left s rest read) (λ high. omega arith) (λ low'. omega arith) (λ listing. refl)))
 
 reads_make : (literals : Bool) (most : ℕ) (t : TypeExpression) → IsType t → IsOperandRead literals most (Make t)
 unfolding operand builtin
-reads_make literals most t is room rest none is_shut =
-    read_as (ap (λ (ws : List Lexeme). needing 1 room (made (expression literals most room) room (Mark kinds.LeftParenthesis ∷ ws))) (append_assoc (type_words t) (Mark kinds.RightParenthesis ∷ []) rest))
-    (made_plain_again literals most room t rest is)
+reads_make literals most t is depth_left rest none is_shut =
+    read_as (ap (λ (ws : List Lexeme). needing 1 depth_left (made (expression literals most depth_left) depth_left (Mark kinds.LeftParenthesis ∷ ws))) (append_assoc (type_words t) (Mark kinds.RightParenthesis ∷ []) rest))
+    (made_plain_again literals most depth_left t rest is)
 
 reads_make_sized : (literals : Bool) (most : ℕ) (t : TypeExpression) (s : Expression) → IsType t → IsRead literals most s → IsOperandRead literals most (MakeSized t s)
 unfolding operand builtin
-reads_make_sized literals most t s is read room rest none is_shut =
+reads_make_sized literals most t s is read depth_left rest none is_shut =
     let close = Mark kinds.RightParenthesis ∷ rest in
     let regroup : ((type_words t ++ (Mark kinds.Comma ∷ expression_words s)) ++ (Mark kinds.RightParenthesis ∷ [])) ++ rest ≡ type_words t ++ (Mark kinds.Comma ∷ (expression_words s ++ close)) =
     append_assoc (type_words t ++ (Mark kinds.Comma ∷ expression_words s)) (Mark kinds.RightParenthesis ∷ []) rest ∙ append_assoc (type_words t) (Mark kinds.Comma ∷ expression_words s) close in
-    read_as (ap (λ (ws : List Lexeme). needing 1 room (made (expression literals most room) room (Mark kinds.LeftParenthesis ∷ ws))) regroup)
-    (made_sized_again literals most room t s rest is read)
+    read_as (ap (λ (ws : List Lexeme). needing 1 depth_left (made (expression literals most depth_left) depth_left (Mark kinds.LeftParenthesis ∷ ws))) regroup)
+    (made_sized_again literals most depth_left t s rest is read)
 
-pub argument_again : (literals : Bool) (most room : ℕ) (e : Expression) (rest : List Lexeme) → IsRead literals most e
-    → ReadBack (argument (expression literals most room) (Mark kinds.LeftParenthesis ∷ (expression_words e ++ (Mark kinds.RightParenthesis ∷ rest)))) e rest (expression_height e) room (λ listing. expression_longest listing e) most
+pub argument_again : (literals : Bool) (most depth_left : ℕ) (e : Expression) (rest : List Lexeme) → IsRead literals most e
+    → ReadBack (argument (expression literals most depth_left) (Mark kinds.LeftParenthesis ∷ (expression_words e ++ (Mark kinds.RightParenthesis ∷ rest)))) e rest (expression_height e) depth_left (λ listing. expression_longest listing e) most
 unfolding argument expect
-argument_again literals most room e rest read = to_parenthesis_again literals most room e rest read
+argument_again literals most depth_left e rest read = to_parenthesis_again literals most depth_left e rest read
 
 reads_length : (literals : Bool) (most : ℕ) (channel : Expression) → IsRead literals most channel → IsOperandRead literals most (Length channel)
 unfolding operand builtin
-reads_length literals most channel read room rest none is_shut =
-    read_as (ap (λ (ws : List Lexeme). needing 1 room (as_one Length (argument (expression literals most room) (Mark kinds.LeftParenthesis ∷ ws)))) (append_assoc (expression_words channel) (Mark kinds.RightParenthesis ∷ []) rest))
-    (needing_again 1 room (λ none. omega (arith, none, height_positive channel)) (made_again Length (argument_again literals most room channel rest read) (λ high. omega arith) (λ low. omega arith) (λ listing. refl)))
+reads_length literals most channel read depth_left rest none is_shut =
+    read_as (ap (λ (ws : List Lexeme). needing 1 depth_left (as_one Length (argument (expression literals most depth_left) (Mark kinds.LeftParenthesis ∷ ws)))) (append_assoc (expression_words channel) (Mark kinds.RightParenthesis ∷ []) rest))
+    (needing_again 1 depth_left (λ none. omega (arith, none, height_positive channel)) (made_again Length (argument_again literals most depth_left channel rest read) (λ high. omega arith) (λ low. omega arith) (λ listing. refl)))
 
 reads_capacity : (literals : Bool) (most : ℕ) (channel : Expression) → IsRead literals most channel → IsOperandRead literals most (Capacity channel)
 unfolding operand builtin
-reads_capacity literals most channel read room rest none is_shut =
-    read_as (ap (λ (ws : List Lexeme). needing 1 room (as_one Capacity (argument (expression literals most room) (Mark kinds.LeftParenthesis ∷ ws)))) (append_assoc (expression_words channel) (Mark kinds.RightParenthesis ∷ []) rest))
-    (needing_again 1 room (λ none. omega (arith, none, height_positive channel)) (made_again Capacity (argument_again literals most room channel rest read) (λ high. omega arith) (λ low. omega arith) (λ listing. refl)))
+reads_capacity literals most channel read depth_left rest none is_shut =
+    read_as (ap (λ (ws : List Lexeme). needing 1 depth_left (as_one Capacity (argument (expression literals most depth_left) (Mark kinds.LeftParenthesis ∷ ws)))) (append_assoc (expression_words channel) (Mark kinds.RightParenthesis ∷ []) rest))
+    (needing_again 1 depth_left (λ none. omega (arith, none, height_positive channel)) (made_again Capacity (argument_again literals most depth_left channel rest read) (λ high. omega arith) (λ low. omega arith) (λ listing. refl)))
 
 -- ---- lists of values
 
@@ -519,16 +519,16 @@ pub parenthesis_closes : IsClose kinds.RightParenthesis
 unfolding begins
 parenthesis_closes = record { step = refl; brace = refl; open' = refl; comma = refl; begin = λ rest. refl }
 
-abbrev pub listed_values : (literals : Bool) (most room : ℕ) (close : TokenKind) → Listed Expression
-listed_values literals most room close = record {
-  one = expression literals most room 0;
+abbrev pub listed_values : (literals : Bool) (most depth_left : ℕ) (close : TokenKind) → Listed Expression
+listed_values literals most depth_left close = record {
+  one = expression literals most depth_left 0;
   next = value_next close;
   each = before;
-  separator = behind kinds.Comma;
+  separator = following kinds.Comma;
   ending = closing kinds.Comma close;
   height = expression_height;
   longest = expression_longest;
-  room = room;
+  depth_left = depth_left;
   most = most;
   IsOne = IsGrouped literals;
 }
@@ -584,8 +584,8 @@ closing_again close trailing rest is = ending_again kinds.Comma begins close tra
 pub more_values : (literals : Bool) (close : TokenKind) (t : Expression) (rest : List Lexeme) → IsGrouped literals t → value_next close (Mark kinds.Comma ∷ (expression_words t ++ rest)) ≡ Ok (More, expression_words t ++ rest)
 more_values literals close t rest g = more_entries kinds.Comma begins close (expression_words t ++ rest) (begins_again literals t rest g)
 
-values_separate : (literals : Bool) (most room : ℕ) (close : TokenKind) (trailing : Bool) (rest : List Lexeme) → IsClose close → Separates (listed_values literals most room close) (EndsExpression literals) trailing rest
-values_separate literals most room close trailing rest is = record {
+values_separate : (literals : Bool) (most depth_left : ℕ) (close : TokenKind) (trailing : Bool) (rest : List Lexeme) → IsClose close → Separates (listed_values literals most depth_left close) (EndsExpression literals) trailing rest
+values_separate literals most depth_left close trailing rest is = record {
   separator = λ t words one. comma_ends literals (before t words);
   more = λ t words one. more_values literals close t words one;
   ending = closing_ends literals close trailing rest is;
@@ -596,64 +596,64 @@ values_separate literals most room close trailing rest is = record {
 abbrev all_longest : List Expression → Listing → ℕ
 all_longest vs listing = max (entries listing (length vs)) (highest (expression_longest listing) vs)
 
-none_values : (literals : Bool) (most room : ℕ) (close : TokenKind) (rest : List Lexeme) → IsClose close
-    → ReadBack (values (expression literals most room) close most (Mark close ∷ rest)) ([], false) rest 0 room (all_longest []) most
+none_values : (literals : Bool) (most depth_left : ℕ) (close : TokenKind) (rest : List Lexeme) → IsClose close
+    → ReadBack (values (expression literals most depth_left) close most (Mark close ∷ rest)) ([], false) rest 0 depth_left (all_longest []) most
 unfolding values
-none_values literals most room close rest is =
+none_values literals most depth_left close rest is =
     Found (omega arith) (λ listing. omega (arith, entries-le listing 0)) (rw (is.begin rest, expect_again close rest) refl)
 
-some_values : (literals : Bool) (most room : ℕ) (close : TokenKind) (v : Expression) (vs : List Expression) (trailing : Bool) (rest : List Lexeme) → IsClose close
+some_values : (literals : Bool) (most depth_left : ℕ) (close : TokenKind) (v : Expression) (vs : List Expression) (trailing : Bool) (rest : List Lexeme) → IsClose close
     → AreAll (IsGrouped literals) (v ∷ vs) → AreAll (IsRead literals most) (v ∷ vs)
-    → ReadBack (values (expression literals most room) close most (joined before (behind kinds.Comma) (v ∷ vs) (closing kinds.Comma close trailing rest))) (v ∷ vs, trailing) rest
-    (highest expression_height (v ∷ vs)) room (all_longest (v ∷ vs)) most
+    → ReadBack (values (expression literals most depth_left) close most (joined before (following kinds.Comma) (v ∷ vs) (closing kinds.Comma close trailing rest))) (v ∷ vs, trailing) rest
+    (highest expression_height (v ∷ vs)) depth_left (all_longest (v ∷ vs)) most
 unfolding values
-some_values literals most room close v vs trailing rest is grouped read =
-    let l = listed_values literals most room close in
-    let again = all_again (IsRead literals most) (IsReadAgain l (EndsExpression literals)) (λ t one rest ends. one room 0 rest (omega arith) ends.none ends.shut) (v ∷ vs) read in
-    let b = begins_again literals v (separated before (behind kinds.Comma) vs (closing kinds.Comma close trailing rest)) grouped.0 in
-    rw b (elim (listed_again l (EndsExpression literals) trailing rest (TooMany Entries) (values_separate literals most room close trailing rest is) vs most v grouped again) [
+some_values literals most depth_left close v vs trailing rest is grouped read =
+    let l = listed_values literals most depth_left close in
+    let again = all_again (IsRead literals most) (IsReadAgain l (EndsExpression literals)) (λ t one rest ends. one depth_left 0 rest (omega arith) ends.none ends.shut) (v ∷ vs) read in
+    let b = begins_again literals v (separated before (following kinds.Comma) vs (closing kinds.Comma close trailing rest)) grouped.0 in
+    rw b (elim (listed_again l (EndsExpression literals) trailing rest (TooMany Entries) (values_separate literals most depth_left close trailing rest is) vs most v grouped again) [
       | AllFound low few count e ↦ Found low (λ listing. omega (arith, few listing, entries-le listing (length (v ∷ vs)))) (rw e refl)
       | AllHigh high e ↦ High high (rw e refl)
       | AllMany listing many e ↦ Many listing (omega (arith, many)) (rw e refl)
       | Full count e ↦ Many Entries (omega (arith, count)) (rw e refl)
     ])
 
-pub values_again : (literals : Bool) (most room : ℕ) (close : TokenKind) (vs : List Expression) (trailing : Bool) (rest : List Lexeme) → IsClose close
+pub values_again : (literals : Bool) (most depth_left : ℕ) (close : TokenKind) (vs : List Expression) (trailing : Bool) (rest : List Lexeme) → IsClose close
     → AreAll (IsGrouped literals) vs → AreAll (IsRead literals most) vs → IsTrailing vs trailing
-    → ReadBack (values (expression literals most room) close most (joined before (behind kinds.Comma) vs (closing kinds.Comma close trailing rest))) (vs, trailing) rest
-    (highest expression_height vs) room (all_longest vs) most
-values_again literals most room close [] true rest is grouped read last = absurd cc
-values_again literals most room close [] false rest is grouped read last = none_values literals most room close rest is
-values_again literals most room close (v ∷ vs) trailing rest is grouped read last = some_values literals most room close v vs trailing rest is grouped read
+    → ReadBack (values (expression literals most depth_left) close most (joined before (following kinds.Comma) vs (closing kinds.Comma close trailing rest))) (vs, trailing) rest
+    (highest expression_height vs) depth_left (all_longest vs) most
+values_again literals most depth_left close [] true rest is grouped read last = absurd cc
+values_again literals most depth_left close [] false rest is grouped read last = none_values literals most depth_left close rest is
+values_again literals most depth_left close (v ∷ vs) trailing rest is grouped read last = some_values literals most depth_left close v vs trailing rest is grouped read
 
 -- ---- composite literals and calls
 
 -- what is made of a list of values
-collected_again : (make : Expressions → Bool → Expression) (literals : Bool) (most room : ℕ) (close : TokenKind) (vs : Expressions) (trailing : Bool) (rest : List Lexeme) → IsClose close
+collected_again : (make : Expressions → Bool → Expression) (literals : Bool) (most depth_left : ℕ) (close : TokenKind) (vs : Expressions) (trailing : Bool) (rest : List Lexeme) → IsClose close
     → AreGrouped literals vs → AreAll (IsRead literals most) (expressions_in vs) → HasLast vs trailing
-    → ReadBack (values (expression literals most room) close most (joined before (behind kinds.Comma) (expressions_in vs) (closing kinds.Comma close trailing rest)) >>= λ all. Ok (make (expressions all.0.0) all.0.1, all.1)) (make vs trailing) rest
-    (suc (expressions_height vs)) (suc room) (λ listing. max (entries listing (expressions_count vs)) (expressions_longest listing vs)) most
-collected_again make literals most room close vs trailing rest is grouped read last =
-    let words = joined before (behind kinds.Comma) (expressions_in vs) (closing kinds.Comma close trailing rest) in
+    → ReadBack (values (expression literals most depth_left) close most (joined before (following kinds.Comma) (expressions_in vs) (closing kinds.Comma close trailing rest)) >>= λ all. Ok (make (expressions all.0.0) all.0.1, all.1)) (make vs trailing) rest
+    (suc (expressions_height vs)) (suc depth_left) (λ listing. max (entries listing (expressions_count vs)) (expressions_longest listing vs)) most
+collected_again make literals most depth_left close vs trailing rest is grouped read last =
+    let words = joined before (following kinds.Comma) (expressions_in vs) (closing kinds.Comma close trailing rest) in
     let again = made_again (λ (found : List Expression × Bool). make (expressions found.0) found.1)
-    (values_again literals most room close (expressions_in vs) trailing rest is (grouped_in literals vs grouped) read (last_in vs trailing last))
+    (values_again literals most depth_left close (expressions_in vs) trailing rest is (grouped_in literals vs grouped) read (last_in vs trailing last))
     (λ high. omega (arith, high, height_in vs)) (λ low. omega (arith, low, height_in vs)) (λ listing. rw (count_in vs, longest_in listing vs) refl) in
-    subst (λ (es : Expressions). ReadBack (values (expression literals most room) close most words >>= λ all. Ok (make (expressions all.0.0) all.0.1, all.1)) (make es trailing) rest
-    (suc (expressions_height vs)) (suc room) (λ listing. max (entries listing (expressions_count vs)) (expressions_longest listing vs)) most)
+    subst (λ (es : Expressions). ReadBack (values (expression literals most depth_left) close most words >>= λ all. Ok (make (expressions all.0.0) all.0.1, all.1)) (make es trailing) rest
+    (suc (expressions_height vs)) (suc depth_left) (λ listing. max (entries listing (expressions_count vs)) (expressions_longest listing vs)) most)
     (expressions-expressions_in vs) again
 
 reads_composite : (literals : Bool) (most : ℕ) (name : List ℕ) (vs : Expressions) (trailing : Bool) → AreAll (IsRead literals most) (expressions_in vs) → IsGrouped literals (Composite name vs trailing) → IsOperandRead literals most (Composite name vs trailing)
 unfolding operand named composite
-reads_composite false most name vs trailing read g room rest none is_shut = let bad = g.0 in absurd cc
-reads_composite true most name vs trailing read g room rest none is_shut =
+reads_composite false most name vs trailing read g depth_left rest none is_shut = let bad = g.0 in absurd cc
+reads_composite true most name vs trailing read g depth_left rest none is_shut =
     read_as (rw (g.1, closed_words kinds.RightBrace vs trailing rest) refl)
-    (collected_again (Composite name) true most room kinds.RightBrace vs trailing rest brace_closes g.2 read g.3)
+    (collected_again (Composite name) true most depth_left kinds.RightBrace vs trailing rest brace_closes g.2 read g.3)
 
 reads_call : (literals : Bool) (most : ℕ) (function : List ℕ) (vs : Expressions) (trailing : Bool) → AreAll (IsRead literals most) (expressions_in vs) → IsGrouped literals (Call function vs trailing) → IsOperandRead literals most (Call function vs trailing)
 unfolding operand named called
-reads_call literals most function vs trailing read g room rest none is_shut =
+reads_call literals most function vs trailing read g depth_left rest none is_shut =
     read_as (rw (g.0, closed_words kinds.RightParenthesis vs trailing rest) refl)
-    (collected_again (Call function) literals most room kinds.RightParenthesis vs trailing rest parenthesis_closes g.1 read g.2)
+    (collected_again (Call function) literals most depth_left kinds.RightParenthesis vs trailing rest parenthesis_closes g.1 read g.2)
 
 mutual
   goes_on : (literals : Bool) (most : ℕ) (t : Expression) → IsGrouped literals t → GoesOn literals most t
@@ -673,7 +673,7 @@ mutual
 
   all_read : (literals : Bool) (most : ℕ) (vs : Expressions) → AreGrouped literals vs → AreAll (IsRead literals most) (expressions_in vs)
   all_read literals most NoMore g = tt
-  all_read literals most (Behind v vs) g = (is_read literals most v (goes_on literals most v g.0), all_read literals most vs g.1)
+  all_read literals most (Following v vs) g = (is_read literals most v (goes_on literals most v g.0), all_read literals most vs g.1)
 
 -- what is spelt is read, or is too high, or has too long a list
 pub reads : (literals : Bool) (most : ℕ) (t : Expression) → IsGrouped literals t → IsRead literals most t

@@ -26,17 +26,17 @@ entries-le SelectClauses n = omega arith
 
 -- ---- what is read of words that spell something: that, or a refusal of what is too high or has too long a list
 
-pub data ReadBack {A : Type 0} (read : Reading A) (x : A) (rest : List Lexeme) (height room : ℕ) (longest : Listing → ℕ) (most : ℕ) : Type 0 where
-  Found : height ≤ room → AreFew longest most → read ≡ Ok (x, rest) → ReadBack read x rest height room longest most
-  High : room < height → read ≡ Err TooDeep → ReadBack read x rest height room longest most
-  Many : (listing : Listing) → most < longest listing → read ≡ Err (TooMany listing) → ReadBack read x rest height room longest most
+pub data ReadBack {A : Type 0} (read : Reading A) (x : A) (rest : List Lexeme) (height depth_left : ℕ) (longest : Listing → ℕ) (most : ℕ) : Type 0 where
+  Found : height ≤ depth_left → AreFew longest most → read ≡ Ok (x, rest) → ReadBack read x rest height depth_left longest most
+  High : depth_left < height → read ≡ Err TooDeep → ReadBack read x rest height depth_left longest most
+  Many : (listing : Listing) → most < longest listing → read ≡ Err (TooMany listing) → ReadBack read x rest height depth_left longest most
 
 -- like `ReadBack`, for a list, which may also be longer than there are turns
-pub data ListOutcome {X : Type 0} (read : Reading (List X × Bool)) (xs : List X) (trailing : Bool) (rest : List Lexeme) (height room : ℕ) (longest : Listing → ℕ) (most turns : ℕ) (full : Refusal) : Type 0 where
-  Found : height ≤ room → AreFew longest most → length xs ≤ turns → read ≡ Ok ((xs, trailing), rest) → ListOutcome read xs trailing rest height room longest most turns full
-  High : room < height → read ≡ Err TooDeep → ListOutcome read xs trailing rest height room longest most turns full
-  Many : (listing : Listing) → most < longest listing → read ≡ Err (TooMany listing) → ListOutcome read xs trailing rest height room longest most turns full
-  Full : turns < length xs → read ≡ Err full → ListOutcome read xs trailing rest height room longest most turns full
+pub data ListOutcome {X : Type 0} (read : Reading (List X × Bool)) (xs : List X) (trailing : Bool) (rest : List Lexeme) (height depth_left : ℕ) (longest : Listing → ℕ) (most turns : ℕ) (full : Refusal) : Type 0 where
+  Found : height ≤ depth_left → AreFew longest most → length xs ≤ turns → read ≡ Ok ((xs, trailing), rest) → ListOutcome read xs trailing rest height depth_left longest most turns full
+  High : depth_left < height → read ≡ Err TooDeep → ListOutcome read xs trailing rest height depth_left longest most turns full
+  Many : (listing : Listing) → most < longest listing → read ≡ Err (TooMany listing) → ListOutcome read xs trailing rest height depth_left longest most turns full
+  Full : turns < length xs → read ≡ Err full → ListOutcome read xs trailing rest height depth_left longest most turns full
 
 -- how the entries of a list are spelt and read
 pub record Entries (X : Type 0) : Type 1 where
@@ -48,14 +48,14 @@ pub record Entries (X : Type 0) : Type 1 where
   pub ending : Bool → List Lexeme → List Lexeme
   pub height : X → ℕ
   pub longest : Listing → X → ℕ
-  pub room : ℕ
+  pub depth_left : ℕ
   pub most : ℕ
   pub IsOne : X → Type 0
 
 -- ---- what is spelt is read
 
 abbrev pub IsReadAgain : {X : Type 0} → Entries X → (List Lexeme → Type 0) → X → Type 0
-IsReadAgain l Ends x = (rest : List Lexeme) → Ends rest → ReadBack (l.one (l.each x rest)) x rest (l.height x) l.room (λ listing. l.longest listing x) l.most
+IsReadAgain l Ends x = (rest : List Lexeme) → Ends rest → ReadBack (l.one (l.each x rest)) x rest (l.height x) l.depth_left (λ listing. l.longest listing x) l.most
 
 -- what may follow an entry, and how it is read
 pub record Separates {X : Type 0} (l : Entries X) (Ends : List Lexeme → Type 0) (trailing : Bool) (rest : List Lexeme) : Type 0 where
@@ -67,7 +67,7 @@ pub record Separates {X : Type 0} (l : Entries X) (Ends : List Lexeme → Type 0
 abbrev AreReadAgain : {X : Type 0} → Entries X → Bool → List Lexeme → Refusal → ℕ → X → List X → Type 0
 AreReadAgain l trailing rest full turns x xs =
     ListOutcome (listed l.one l.next full turns (l.each x (separated l.each l.separator xs (l.ending trailing rest)))) (x ∷ xs) trailing rest
-    (highest l.height (x ∷ xs)) l.room (λ listing. highest (l.longest listing) (x ∷ xs)) l.most turns full
+    (highest l.height (x ∷ xs)) l.depth_left (λ listing. highest (l.longest listing) (x ∷ xs)) l.most turns full
 
 last_again : {X : Type 0} (l : Entries X) (Ends : List Lexeme → Type 0) (trailing : Bool) (rest : List Lexeme) (full : Refusal) → Separates l Ends trailing rest
     → (turns : ℕ) (x : X) → IsReadAgain l Ends x → AreReadAgain l trailing rest full (suc turns) x []
@@ -116,7 +116,7 @@ all_again P Q f (x ∷ xs) all = (f x all.0, all_again P Q f xs all.1)
 pub record IsEntry {X : Type 0} (l : Entries X) (words : List Lexeme) (x : X) (rest : List Lexeme) : Type 0 where
   pub parts : words ≡ l.each x rest
   pub is : l.IsOne x
-  pub low : l.height x ≤ l.room
+  pub low : l.height x ≤ l.depth_left
   pub few : AreFew (λ listing. l.longest listing x) l.most
 
 pub record ReadsSoundly {X : Type 0} (l : Entries X) : Type 0 where
@@ -127,14 +127,14 @@ pub record ReadsSoundly {X : Type 0} (l : Entries X) : Type 0 where
 pub record AreEntries {X : Type 0} (l : Entries X) (turns : ℕ) (words : List Lexeme) (found : (List X × Bool) × List Lexeme) : Type 0 where
   pub parts : words ≡ joined l.each l.separator found.0.0 (l.ending found.0.1 found.1)
   pub are : AreSome l.IsOne found.0.0
-  pub low : highest l.height found.0.0 ≤ l.room
+  pub low : highest l.height found.0.0 ≤ l.depth_left
   pub few : AreFew (λ listing. highest (l.longest listing) found.0.0) l.most
   pub count : length found.0.0 ≤ turns
 
 -- the entries after a separator
-behind_one : {X : Type 0} (l : Entries X) (xs : List X) (rest : List Lexeme) → AreSome l.IsOne xs → separated l.each l.separator xs rest ≡ l.separator (joined l.each l.separator xs rest)
-behind_one l [] rest some = absurd some
-behind_one l (x ∷ xs) rest some = refl
+after_one : {X : Type 0} (l : Entries X) (xs : List X) (rest : List Lexeme) → AreSome l.IsOne xs → separated l.each l.separator xs rest ≡ l.separator (joined l.each l.separator xs rest)
+after_one l [] rest some = absurd some
+after_one l (x ∷ xs) rest some = refl
 
 -- what holds of at least one holds of all
 pub all_of : {X : Type 0} (P : X → Type 0) (xs : List X) → AreSome P xs → AreAll P xs
@@ -150,10 +150,10 @@ followed_sound l sound turns others deeper words x after entry (More, rest) foun
     let xs = a.0.0.0 in
     let tail = l.ending a.0.0.1 a.0.1 in
     let made : (List _ × Bool) × List Lexeme = ((x ∷ xs, a.0.0.1), a.0.1) in
-    let behind : after ≡ separated l.each l.separator xs tail =
-    sound.more after rest n ∙ ap l.separator s.parts ∙ sym (behind_one l xs tail s.are) in
+    let following : after ≡ separated l.each l.separator xs tail =
+    sound.more after rest n ∙ ap l.separator s.parts ∙ sym (after_one l xs tail s.are) in
     subst (λ (y : (List _ × Bool) × List Lexeme). AreEntries l (suc turns) words y) (ok_is made found a.2) (record {
-      parts = entry.parts ∙ ap (l.each x) behind;
+      parts = entry.parts ∙ ap (l.each x) following;
       are = (entry.is, all_of l.IsOne xs s.are);
       low = omega (arith, entry.low, s.low);
       few = λ listing. omega (arith, entry.few listing, s.few listing);

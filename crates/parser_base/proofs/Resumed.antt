@@ -11,7 +11,7 @@ use Rattle.parser_base.specs.Lexemes.{Lexeme, Name, Mark}
 use Rattle.parser_base.specs.Spelling.{before, expression_words, outer_precedence, IsGrouped, binary_kind}
 use Rattle.parser_base.specs.Reading.{TooDeep, step_at, strength, operand, operations, expression, resumed}
 use Rattle.parser_base.proofs.ListLaws.{AreFew, ReadBack, Found, High, Many}
-use Rattle.parser_base.proofs.ExpressionAgain.{step_kind, Shut, shut, operator_shut, no_brace, past_step, height_positive, behind_operand, IsLone, lone_read, reads, stops, no_room}
+use Rattle.parser_base.proofs.ExpressionAgain.{step_kind, Shut, shut, operator_shut, no_brace, past_step, height_positive, after_operand, IsLone, lone_read, reads, stops, no_depth_left}
 use Rattle.parser_base.proofs.Steps.{read_as}
 use Rattle.parser_base.proofs.ExpressionSound.{IsSound, expression_sound, operations_sound}
 
@@ -87,56 +87,56 @@ begun literals e rest g none is_shut = begun_alone literals e rest tt g none is_
 -- ---- what is spelt is read
 
 -- the expression is read from its first operand on, or it is that operand, and too high
-pub data FromFirst (literals : Bool) (most room least : ℕ) (e : Expression) (rest : List Lexeme) (first : Expression) (tail : List Lexeme) : Type 0 where
-  Again : ReadBack (resumed literals most room least first tail) e rest (expression_height e) room (λ listing. expression_longest listing e) most → FromFirst literals most room least e rest first tail
-  Alone : room < expression_height e → resumed literals most room least first tail ≡ Ok (e, rest) → FromFirst literals most room least e rest first tail
+pub data FromFirst (literals : Bool) (most depth_left least : ℕ) (e : Expression) (rest : List Lexeme) (first : Expression) (tail : List Lexeme) : Type 0 where
+  Again : ReadBack (resumed literals most depth_left least first tail) e rest (expression_height e) depth_left (λ listing. expression_longest listing e) most → FromFirst literals most depth_left least e rest first tail
+  Alone : depth_left < expression_height e → resumed literals most depth_left least first tail ≡ Ok (e, rest) → FromFirst literals most depth_left least e rest first tail
 
 -- what is read from the first operand on is what is read from its begin, if that operand is not too high
-resumed_as : (literals : Bool) (most room least : ℕ) (first : Expression) (tail : List Lexeme) → ReadBack (operand literals (expression literals most room) room most (before first tail)) first tail (expression_height first) (suc room) (λ listing. expression_longest listing first) most
-    → expression_height first ≤ suc room → AreFew (λ listing. expression_longest listing first) most → resumed literals most (suc room) least first tail ≡ expression literals most (suc room) least (before first tail)
+resumed_as : (literals : Bool) (most depth_left least : ℕ) (first : Expression) (tail : List Lexeme) → ReadBack (operand literals (expression literals most depth_left) depth_left most (before first tail)) first tail (expression_height first) (suc depth_left) (λ listing. expression_longest listing first) most
+    → expression_height first ≤ suc depth_left → AreFew (λ listing. expression_longest listing first) most → resumed literals most (suc depth_left) least first tail ≡ expression literals most (suc depth_left) least (before first tail)
 unfolding resumed
-resumed_as literals most room least first tail (Found low few e) fits short = sym (behind_operand literals most room least (before first tail) (Ok (first, tail)) e)
-resumed_as literals most room least first tail (High high e) fits short = absurd (omega (arith, high, fits))
-resumed_as literals most room least first tail (Many listing many e) fits short = absurd (omega (arith, many, short listing))
+resumed_as literals most depth_left least first tail (Found low few e) fits short = sym (after_operand literals most depth_left least (before first tail) (Ok (first, tail)) e)
+resumed_as literals most depth_left least first tail (High high e) fits short = absurd (omega (arith, high, fits))
+resumed_as literals most depth_left least first tail (Many listing many e) fits short = absurd (omega (arith, many, short listing))
 
 resumed_none : (literals : Bool) (most least : ℕ) (left : Expression) (ws : List Lexeme) → resumed literals most 0 least left ws ≡ Err TooDeep
 unfolding resumed
 resumed_none literals most least left ws = refl
 
-high_first : (literals : Bool) (most room least : ℕ) (e : Expression) (rest : List Lexeme) (b : Begun literals e rest) → least ≤ outer_precedence e → step_at least rest ≡ None → suc room < expression_height b.first → FromFirst literals most (suc room) least e rest b.first b.tail
+high_first : (literals : Bool) (most depth_left least : ℕ) (e : Expression) (rest : List Lexeme) (b : Begun literals e rest) → least ≤ outer_precedence e → step_at least rest ≡ None → suc depth_left < expression_height b.first → FromFirst literals most (suc depth_left) least e rest b.first b.tail
 unfolding resumed
-high_first literals most room least e rest b le none high =
+high_first literals most depth_left least e rest b le none high =
     elim b.goes [
       | inl all ↦
           let nothing = subst (λ (ws : List Lexeme). step_at least ws ≡ None) (sym all.1) none in
-          let stopped = stops (expression literals most room) (suc room) least (suc room) b.first b.tail (omega arith) nothing in
+          let stopped = stops (expression literals most depth_left) (suc depth_left) least (suc depth_left) b.first b.tail (omega arith) nothing in
           Alone (omega (arith, high, b.low)) (stopped ∙ (λ i. Ok (all.0 i, all.1 i)))
       | inr more ↦
-          let refused = no_room (expression literals most room) (suc room) least (suc room) b.first more.0 more.1 (omega (arith, le, more.3)) (omega (arith, high)) in
-          Again (High (omega (arith, high, b.low)) (ap (operations (expression literals most room) (suc room) least (suc room) b.first) more.2 ∙ refused))
+          let refused = no_depth_left (expression literals most depth_left) (suc depth_left) least (suc depth_left) b.first more.0 more.1 (omega (arith, le, more.3)) (omega (arith, high)) in
+          Again (High (omega (arith, high, b.low)) (ap (operations (expression literals most depth_left) (suc depth_left) least (suc depth_left) b.first) more.2 ∙ refused))
     ]
 
-low_first : (literals : Bool) (most room least : ℕ) (e : Expression) (rest : List Lexeme) (b : Begun literals e rest) → IsLone b.first → IsGrouped literals e → least ≤ outer_precedence e → step_at least rest ≡ None → Shut literals rest → AreFew (λ listing. expression_longest listing b.first) most
-    → expression_height b.first ≤ suc room → FromFirst literals most (suc room) least e rest b.first b.tail
-low_first literals most room least e rest b lone g le none is_shut few fits =
-    let same = resumed_as literals most room least b.first b.tail (lone_read literals most b.first lone b.grouped room b.tail b.none b.is_shut) fits few in
-    let all = same ∙ ap (expression literals most (suc room) least) (sym b.parts) in
-    Again (read_as all (reads literals most e g (suc room) least rest le none is_shut))
+low_first : (literals : Bool) (most depth_left least : ℕ) (e : Expression) (rest : List Lexeme) (b : Begun literals e rest) → IsLone b.first → IsGrouped literals e → least ≤ outer_precedence e → step_at least rest ≡ None → Shut literals rest → AreFew (λ listing. expression_longest listing b.first) most
+    → expression_height b.first ≤ suc depth_left → FromFirst literals most (suc depth_left) least e rest b.first b.tail
+low_first literals most depth_left least e rest b lone g le none is_shut few fits =
+    let same = resumed_as literals most depth_left least b.first b.tail (lone_read literals most b.first lone b.grouped depth_left b.tail b.none b.is_shut) fits few in
+    let all = same ∙ ap (expression literals most (suc depth_left) least) (sym b.parts) in
+    Again (read_as all (reads literals most e g (suc depth_left) least rest le none is_shut))
 
-pub from_first : (literals : Bool) (most room least : ℕ) (e : Expression) (rest : List Lexeme) (b : Begun literals e rest) → IsLone b.first → IsGrouped literals e → least ≤ outer_precedence e → step_at least rest ≡ None → Shut literals rest → AreFew (λ listing. expression_longest listing b.first) most
-    → FromFirst literals most room least e rest b.first b.tail
+pub from_first : (literals : Bool) (most depth_left least : ℕ) (e : Expression) (rest : List Lexeme) (b : Begun literals e rest) → IsLone b.first → IsGrouped literals e → least ≤ outer_precedence e → step_at least rest ≡ None → Shut literals rest → AreFew (λ listing. expression_longest listing b.first) most
+    → FromFirst literals most depth_left least e rest b.first b.tail
 from_first literals most zero least e rest b lone g le none is_shut few = Again (High (height_positive e) (resumed_none literals most least b.first b.tail))
-from_first literals most (suc room) least e rest b lone g le none is_shut few =
-    elim (cases_lt (suc room) (expression_height b.first)) [
-      | inl high ↦ high_first literals most room least e rest b le none high
-      | inr fits ↦ low_first literals most room least e rest b lone g le none is_shut few fits
+from_first literals most (suc depth_left) least e rest b lone g le none is_shut few =
+    elim (cases_lt (suc depth_left) (expression_height b.first)) [
+      | inl high ↦ high_first literals most depth_left least e rest b le none high
+      | inr fits ↦ low_first literals most depth_left least e rest b lone g le none is_shut few fits
     ]
 
 -- ---- what is read is spelt so
 
-pub resumed_sound : (literals : Bool) (most room least : ℕ) (left : Expression) (ws : List Lexeme) (t : Expression) (rest : List Lexeme) → IsGrouped literals left → expression_height left ≤ suc room → AreFew (λ listing. expression_longest listing left) most → min least 6 ≤ outer_precedence left → step_at (suc (outer_precedence left)) ws ≡ None
-    → resumed literals most room least left ws ≡ Ok (t, rest) → IsSound literals most (suc room) least (before left ws) t rest
+pub resumed_sound : (literals : Bool) (most depth_left least : ℕ) (left : Expression) (ws : List Lexeme) (t : Expression) (rest : List Lexeme) → IsGrouped literals left → expression_height left ≤ suc depth_left → AreFew (λ listing. expression_longest listing left) most → min least 6 ≤ outer_precedence left → step_at (suc (outer_precedence left)) ws ≡ None
+    → resumed literals most depth_left least left ws ≡ Ok (t, rest) → IsSound literals most (suc depth_left) least (before left ws) t rest
 unfolding resumed
 resumed_sound literals most zero least left ws t rest grouped low few strong none e = absurd cc
-resumed_sound literals most (suc room) least left ws t rest grouped low few strong none e =
-    operations_sound literals most (expression literals most room) room (suc (suc room)) least (omega arith) (expression_sound literals most room) (suc room) left ws t rest grouped low few strong none e
+resumed_sound literals most (suc depth_left) least left ws t rest grouped low few strong none e =
+    operations_sound literals most (expression literals most depth_left) depth_left (suc (suc depth_left)) least (omega arith) (expression_sound literals most depth_left) (suc depth_left) left ws t rest grouped low few strong none e

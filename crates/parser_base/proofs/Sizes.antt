@@ -1,7 +1,7 @@
 -- An expression has no more nodes than lexemes.
 use Rattle.std.proofs.Common.{◌≤◌, [], ◌∷◌, ◌++◌, length, arith, length-append}
 use Rattle.scanner.specs.declared.kind.TokenKind.TheVariants as kinds
-use Rattle.syntax.specs.Tree.{Expression, Integer, Named, Parenthesized, Selection, Composite, Unary, Binary, Call, Receive, Make, MakeSized, Length, Capacity, Expressions, NoMore, Behind}
+use Rattle.syntax.specs.Tree.{Expression, Integer, Named, Parenthesized, Selection, Composite, Unary, Binary, Call, Receive, Make, MakeSized, Length, Capacity, Expressions, NoMore, Following}
 use Rattle.syntax.specs.Measures.{expression_size, expressions_size}
 use Rattle.parser_base.specs.Lexemes.{Name, Mark}
 use Rattle.parser_base.specs.Spelling.{type_words, expression_words, expressions_words, more_words, binary_kind, closing}
@@ -32,8 +32,8 @@ mutual
 
   pub expressions_size-le : (vs : Expressions) → expressions_size vs ≤ length (expressions_words vs)
   expressions_size-le NoMore = omega arith
-  expressions_size-le (Behind v vs) = omega (arith, expression_size-le v, more_size-le vs, length-append (expression_words v) (more_words vs))
+  expressions_size-le (Following v vs) = omega (arith, expression_size-le v, more_size-le vs, length-append (expression_words v) (more_words vs))
 
   more_size-le : (vs : Expressions) → expressions_size vs ≤ length (more_words vs)
   more_size-le NoMore = omega arith
-  more_size-le (Behind v vs) = omega (arith, expression_size-le v, more_size-le vs, length-append (expression_words v) (more_words vs))
+  more_size-le (Following v vs) = omega (arith, expression_size-le v, more_size-le vs, length-append (expression_words v) (more_words vs))

@@ -19,9 +19,9 @@ abbrev pub digit_of : ℕ → ℕ
 digit_of b = if is_in_range 48 57 b then b - 48 else (if is_in_range 97 102 b then b - 87 else (if is_in_range 65 70 b then b - 55 else 0))
 
 -- the number whose digits in this base are those of one number, and then these
-abbrev pub number_behind : (base : ℕ) → ℕ → List ℕ → ℕ
-number_behind base number [] = number
-number_behind base number (digit ∷ rest) = number_behind base (number * base + digit_of digit) rest
+abbrev pub number_after : (base : ℕ) → ℕ → List ℕ → ℕ
+number_after base number [] = number
+number_after base number (digit ∷ rest) = number_after base (number * base + digit_of digit) rest
 
 -- the text begins with the 0x or 0X of a hexadecimal number
 abbrev pub is_hexadecimal : List ℕ → Bool
@@ -30,7 +30,7 @@ is_hexadecimal digits = false
 
 -- the value of a number as it is written
 abbrev pub integer_value : List ℕ → ℕ
-integer_value text = if is_hexadecimal text then number_behind 16 0 (drop 2 text) else number_behind 10 0 text
+integer_value text = if is_hexadecimal text then number_after 16 0 (drop 2 text) else number_after 10 0 text
 
 -- its value, or None if that is over 2^100
 abbrev pub literal : List ℕ → Option ℕ
@@ -41,16 +41,16 @@ abbrev pub escape : ℕ → ℕ
 escape letter = if letter == 110 then 10 else (if letter == 116 then 9 else letter)
 
 -- the bytes that a string stands for, up to its quote; `escaped` if a backslash is before it
-abbrev pub text_behind : (escaped : Bool) → List ℕ → List ℕ
-text_behind escaped [] = []
-text_behind true (byte ∷ rest) = escape byte ∷ text_behind false rest
-text_behind false (byte ∷ rest) =
-    if byte == 34 then [] else (if byte == 92 then text_behind true rest else byte ∷ text_behind false rest)
+abbrev pub text_after : (escaped : Bool) → List ℕ → List ℕ
+text_after escaped [] = []
+text_after true (byte ∷ rest) = escape byte ∷ text_after false rest
+text_after false (byte ∷ rest) =
+    if byte == 34 then [] else (if byte == 92 then text_after true rest else byte ∷ text_after false rest)
 
 -- the bytes that a string in quotes stands for
 abbrev pub text : List ℕ → List ℕ
 text [] = []
-text (quote ∷ rest) = text_behind false rest
+text (quote ∷ rest) = text_after false rest
 
 -- the bytes of a text at a span
 abbrev pub piece : List ℕ → Span → List ℕ

@@ -86,8 +86,8 @@ abbrev pub as_one : {A B : Type 0} → (A → B) → Reading A → Reading B
 as_one make read = read >>= λ found. Ok (make found.0, found.1)
 
 -- what needs at least `least` levels
-abbrev pub needing : {A : Type 0} → (least room : ℕ) → Result A Refusal → Result A Refusal
-needing least room read = if nat_le least room then read else Err TooDeep
+abbrev pub needing : {A : Type 0} → (least depth_left : ℕ) → Result A Refusal → Result A Refusal
+needing least depth_left read = if nat_le least depth_left then read else Err TooDeep
 
 -- ---- marks
 
@@ -135,13 +135,13 @@ abbrev pub closed : TokenKind → Bool → List Lexeme → Reading Next
 closed close trailing words = expect close words >>= λ after. Ok (End trailing, after)
 
 -- what follows a list's separator, after which another entry `starts`, or the list ends
-abbrev pub behind_separator : (List Lexeme → Bool) → TokenKind → List Lexeme → Reading Next
-behind_separator starts close words = if starts words then Ok (More, words) else closed close true words
+abbrev pub after_separator : (List Lexeme → Bool) → TokenKind → List Lexeme → Reading Next
+after_separator starts close words = if starts words then Ok (More, words) else closed close true words
 
 -- what follows an entry of a list to a closing mark
 unfoldable pub entry_next : TokenKind → (List Lexeme → Bool) → TokenKind → List Lexeme → Reading Next
 entry_next separator starts close (Mark kind ∷ rest) =
-    if is_kind kind separator then behind_separator starts close rest else closed close false (Mark kind ∷ rest)
+    if is_kind kind separator then after_separator starts close rest else closed close false (Mark kind ∷ rest)
 entry_next separator starts close words = Err Syntax
 
 -- what follows a value of a list to a closing mark
@@ -162,26 +162,26 @@ abbrev pub channel_type : Direction → (List Lexeme → Reading TypeExpression)
 channel_type direction deeper rest = deeper rest >>= λ element. Ok (Channel direction element.0, element.1)
 
 -- a channel type after `chan`
-unfoldable pub behind_chan : (List Lexeme → Reading TypeExpression) → List Lexeme → Reading TypeExpression
-behind_chan deeper (Mark kind ∷ rest) =
+unfoldable pub after_chan : (List Lexeme → Reading TypeExpression) → List Lexeme → Reading TypeExpression
+after_chan deeper (Mark kind ∷ rest) =
     if is_kind kind kinds.Arrow then channel_type directions.Send deeper rest else channel_type directions.Both deeper (Mark kind ∷ rest)
-behind_chan deeper words = channel_type directions.Both deeper words
+after_chan deeper words = channel_type directions.Both deeper words
 
 -- a channel type after `<-`
-unfoldable pub behind_arrow : (List Lexeme → Reading TypeExpression) → List Lexeme → Reading TypeExpression
-behind_arrow deeper rest = expect kinds.Chan rest >>= λ after. channel_type directions.Receive deeper after
+unfoldable pub after_arrow : (List Lexeme → Reading TypeExpression) → List Lexeme → Reading TypeExpression
+after_arrow deeper rest = expect kinds.Chan rest >>= λ after. channel_type directions.Receive deeper after
 
 -- a type of at most n levels
 unfoldable pub type_at : ℕ → List Lexeme → Reading TypeExpression
 type_at zero words = Err TooDeep
-type_at (suc room) [] = Err Syntax
-type_at (suc room) (Literal value ∷ rest) = Err Syntax
-type_at (suc room) (Text bytes ∷ rest) = Err Syntax
-type_at (suc room) (Name name ∷ rest) = if is_builtin name then Err Syntax else Ok (NamedType name, rest)
-type_at (suc room) (Mark kind ∷ rest) =
-    if is_kind kind kinds.LeftParenthesis then parenthesized_type (type_at room) rest
-    else (if is_kind kind kinds.Chan then behind_chan (type_at room) rest
-    else (if is_kind kind kinds.Arrow then behind_arrow (type_at room) rest
+type_at (suc depth_left) [] = Err Syntax
+type_at (suc depth_left) (Literal value ∷ rest) = Err Syntax
+type_at (suc depth_left) (Text bytes ∷ rest) = Err Syntax
+type_at (suc depth_left) (Name name ∷ rest) = if is_builtin name then Err Syntax else Ok (NamedType name, rest)
+type_at (suc depth_left) (Mark kind ∷ rest) =
+    if is_kind kind kinds.LeftParenthesis then parenthesized_type (type_at depth_left) rest
+    else (if is_kind kind kinds.Chan then after_chan (type_at depth_left) rest
+    else (if is_kind kind kinds.Arrow then after_arrow (type_at depth_left) rest
     else Err Syntax))
 
 -- ---- expressions
@@ -284,28 +284,28 @@ sized deeper channel (Mark kind ∷ rest) =
 sized deeper channel words = Err Syntax
 
 -- a `make`, after its name
-unfoldable pub made : (ℕ → List Lexeme → Reading Expression) → (room : ℕ) → List Lexeme → Reading Expression
-made deeper room words = do
+unfoldable pub made : (ℕ → List Lexeme → Reading Expression) → (depth_left : ℕ) → List Lexeme → Reading Expression
+made deeper depth_left words = do
   inside ← expect kinds.LeftParenthesis words
-  channel ← type_at room inside
+  channel ← type_at depth_left inside
   sized deeper channel.0 channel.1
 
 -- a call of a built-in function that makes or measures a channel, after its name
-unfoldable pub builtin : (ℕ → List Lexeme → Reading Expression) → (room : ℕ) → List ℕ → List Lexeme → Reading Expression
-builtin deeper room name rest =
-    if bytes_eq name (codes "make") then needing 1 room (made deeper room rest)
-    else (if bytes_eq name (codes "len") then needing 1 room (as_one Length (argument deeper rest))
-    else (if bytes_eq name (codes "cap") then needing 1 room (as_one Capacity (argument deeper rest))
+unfoldable pub builtin : (ℕ → List Lexeme → Reading Expression) → (depth_left : ℕ) → List ℕ → List Lexeme → Reading Expression
+builtin deeper depth_left name rest =
+    if bytes_eq name (codes "make") then needing 1 depth_left (made deeper depth_left rest)
+    else (if bytes_eq name (codes "len") then needing 1 depth_left (as_one Length (argument deeper rest))
+    else (if bytes_eq name (codes "cap") then needing 1 depth_left (as_one Capacity (argument deeper rest))
     else Err Syntax))
 
--- what is no operation and no selection, with at most `room` levels below it
-unfoldable pub operand : Bool → (ℕ → List Lexeme → Reading Expression) → (room : ℕ) → ℕ → List Lexeme → Reading Expression
-operand literals deeper room most [] = Err Syntax
-operand literals deeper room most (Literal value ∷ rest) = Ok (Integer value, rest)
-operand literals deeper room most (Name name ∷ rest) =
-    if is_builtin name then builtin deeper room name rest else named literals deeper most name rest
-operand literals deeper room most (Text bytes ∷ rest) = Err Syntax
-operand literals deeper room most (Mark kind ∷ rest) =
+-- what is no operation and no selection, with at most `depth_left` levels below it
+unfoldable pub operand : Bool → (ℕ → List Lexeme → Reading Expression) → (depth_left : ℕ) → ℕ → List Lexeme → Reading Expression
+operand literals deeper depth_left most [] = Err Syntax
+operand literals deeper depth_left most (Literal value ∷ rest) = Ok (Integer value, rest)
+operand literals deeper depth_left most (Name name ∷ rest) =
+    if is_builtin name then builtin deeper depth_left name rest else named literals deeper most name rest
+operand literals deeper depth_left most (Text bytes ∷ rest) = Err Syntax
+operand literals deeper depth_left most (Mark kind ∷ rest) =
     if is_kind kind kinds.LeftParenthesis then as_one Parenthesized (to_parenthesis deeper rest)
     else (if is_kind kind kinds.Arrow then as_one Receive (deeper 6 rest)
     else negated deeper rest (unary_of kind))
@@ -317,27 +317,27 @@ applied deeper left (Period, words) = plain_name words >>= λ field. Ok (Selecti
 
 -- one step on what was read so far, and what follows it
 unfoldable pub operation : (ℕ → List Lexeme → Reading Expression) → (Expression → List Lexeme → Reading Expression) → ℕ → Expression → List Lexeme → Option (Infix × List Lexeme) → Reading Expression
-operation deeper next room left words None = Ok (left, words)
-operation deeper next room left words (Some found) =
-    if nat_le room (expression_height left) then Err TooDeep
+operation deeper next depth_left left words None = Ok (left, words)
+operation deeper next depth_left left words (Some found) =
+    if nat_le depth_left (expression_height left) then Err TooDeep
     else (applied deeper left found >>= λ more. next more.0 more.1)
 
 -- the steps that follow, each of them on what was read before
 unfoldable pub operations : (ℕ → List Lexeme → Reading Expression) → ℕ → ℕ → ℕ → Expression → List Lexeme → Reading Expression
-operations deeper room least zero left words = Err TooDeep
-operations deeper room least (suc turns) left words =
-    operation deeper (operations deeper room least turns) room left words (step_at least words)
+operations deeper depth_left least zero left words = Err TooDeep
+operations deeper depth_left least (suc turns) left words =
+    operation deeper (operations deeper depth_left least turns) depth_left left words (step_at least words)
 
 -- an expression of at most n levels, whose lists have at most `most` entries, and whose outermost operator binds
 -- at least as strongly as `least`
 unfoldable pub expression : Bool → ℕ → ℕ → ℕ → List Lexeme → Reading Expression
 expression literals most zero least words = Err TooDeep
-expression literals most (suc room) least words =
-    operand literals (expression literals most room) room most words >>= λ first.
-    operations (expression literals most room) (suc room) least (suc room) first.0 first.1
+expression literals most (suc depth_left) least words =
+    operand literals (expression literals most depth_left) depth_left most words >>= λ first.
+    operations (expression literals most depth_left) (suc depth_left) least (suc depth_left) first.0 first.1
 
 -- an expression that begins with the operand `left`, which was read before; if nothing goes on with `left` it is returned
 -- at any height
 unfoldable pub resumed : Bool → ℕ → ℕ → ℕ → Expression → List Lexeme → Reading Expression
 resumed literals most zero least left words = Err TooDeep
-resumed literals most (suc room) least left words = operations (expression literals most room) (suc room) least (suc room) left words
+resumed literals most (suc depth_left) least left words = operations (expression literals most depth_left) (suc depth_left) least (suc depth_left) left words

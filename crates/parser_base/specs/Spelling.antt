@@ -8,7 +8,7 @@ use Rattle.syntax.specs.declared.node.UnaryOperator.{UnaryOperator}
 use Rattle.syntax.specs.declared.node.UnaryOperator.TheVariants as unaries
 use Rattle.syntax.specs.declared.node.Direction.{Direction}
 use Rattle.syntax.specs.declared.node.Direction.TheVariants as directions
-use Rattle.syntax.specs.Tree.{TypeExpression, NamedType, ParenthesizedType, Channel, Expression, Integer, Named, Parenthesized, Selection, Composite, Unary, Binary, Call, Receive, Make, MakeSized, Length, Capacity, Expressions, NoMore, Behind}
+use Rattle.syntax.specs.Tree.{TypeExpression, NamedType, ParenthesizedType, Channel, Expression, Integer, Named, Parenthesized, Selection, Composite, Unary, Binary, Call, Receive, Make, MakeSized, Length, Capacity, Expressions, NoMore, Following}
 use Rattle.parser_base.specs.Lexemes.{Lexeme, Literal, Name, Mark}
 
 -- ---- names
@@ -24,8 +24,8 @@ is_builtin name = makes_value name || bytes_eq name (codes "close") || bytes_eq 
 -- ---- lists
 
 -- a mark, and then these
-abbrev pub behind : TokenKind → List Lexeme → List Lexeme
-behind kind rest = Mark kind ∷ rest
+abbrev pub following : TokenKind → List Lexeme → List Lexeme
+following kind rest = Mark kind ∷ rest
 
 -- each of a list after a separator, and then these; `each x` and `separator` say what is before what follows
 abbrev pub separated : {A : Type 0} → (A → List Lexeme → List Lexeme) → (List Lexeme → List Lexeme) → List A → List Lexeme → List Lexeme
@@ -163,17 +163,17 @@ abbrev mutual
   -- expressions, with a comma between each two
   pub expressions_words : Expressions → List Lexeme
   expressions_words NoMore = []
-  expressions_words (Behind first rest) = expression_words first ++ more_words rest
+  expressions_words (Following first rest) = expression_words first ++ more_words rest
 
   -- each of these after a comma
   pub more_words : Expressions → List Lexeme
   more_words NoMore = []
-  more_words (Behind first rest) = Mark kinds.Comma ∷ (expression_words first ++ more_words rest)
+  more_words (Following first rest) = Mark kinds.Comma ∷ (expression_words first ++ more_words rest)
 
 -- A comma follows only a value of a literal or a call.
 abbrev pub HasLast : Expressions → (trailing : Bool) → Type 0
 HasLast NoMore trailing = trailing ≡ false
-HasLast (Behind first rest) trailing = Unit {0}
+HasLast (Following first rest) trailing = Unit {0}
 
 -- an expression, and then these
 abbrev pub before : Expression → List Lexeme → List Lexeme
@@ -200,4 +200,4 @@ abbrev mutual
 
   pub AreGrouped : (literals : Bool) → Expressions → Type 0
   AreGrouped literals NoMore = Unit {0}
-  AreGrouped literals (Behind first rest) = IsGrouped literals first × AreGrouped literals rest
+  AreGrouped literals (Following first rest) = IsGrouped literals first × AreGrouped literals rest

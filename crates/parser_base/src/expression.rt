@@ -109,16 +109,16 @@ pub fn value_next(close: TokenKind, cursor: Cursor<'_>) -> Result<(Next, Cursor<
 pub fn values(
     alloc: Global,
     literals: bool,
-    room: u32,
+    depth_left: u32,
     close: TokenKind,
     cursor: Cursor<'_>,
 ) -> Result<(List<'_, ExpressionNode>, usize), ParseFault>
-    ensures values { Gives (λ x. ((map expression_of x.0.entries.items, x.0.trailing), ahead x.0.rest)) result (values (expression literals MAX_ENTRIES room) close MAX_ENTRIES (ahead cursor.entry)) }
+    ensures values { Gives (λ x. ((map expression_of x.0.entries.items, x.0.trailing), ahead x.0.rest)) result (values (expression literals MAX_ENTRIES depth_left) close MAX_ENTRIES (ahead cursor.entry)) }
     ensures height { IfOk result (λ x. x.1 ≡ highest expression_height (map expression_of x.0.entries.items)) }
-    ensures within { IfOk result (λ x. x.1 ≤ room) }
+    ensures within { IfOk result (λ x. x.1 ≤ depth_left) }
 {
     if begins(cursor) {
-        return expression_list(alloc, literals, room, close, cursor);
+        return expression_list(alloc, literals, depth_left, close, cursor);
     }
     let rest = cursor.expect(close)?;
     let none = List {
@@ -134,19 +134,19 @@ pub fn values(
 fn expression_list(
     alloc: Global,
     literals: bool,
-    room: u32,
+    depth_left: u32,
     close: TokenKind,
     cursor: Cursor<'_>,
 ) -> Result<(List<'_, ExpressionNode>, usize), ParseFault>
-    ensures values { Gives (λ x. ((map expression_of x.0.entries.items, x.0.trailing), ahead x.0.rest)) result (listed (expression literals MAX_ENTRIES room 0) (value_next close) (TooMany Entries) MAX_ENTRIES (ahead cursor.entry)) }
+    ensures values { Gives (λ x. ((map expression_of x.0.entries.items, x.0.trailing), ahead x.0.rest)) result (listed (expression literals MAX_ENTRIES depth_left 0) (value_next close) (TooMany Entries) MAX_ENTRIES (ahead cursor.entry)) }
     ensures height { IfOk result (λ x. x.1 ≡ highest expression_height (map expression_of x.0.entries.items)) }
-    ensures within { IfOk result (λ x. x.1 ≤ room) }
+    ensures within { IfOk result (λ x. x.1 ≤ depth_left) }
 {
     let mut entries = Vec::new(alloc);
     let mut height = 0;
     let mut rest = cursor;
     for _ in 0..MAX_ENTRIES {
-        let found = measured_expression(alloc, literals, room, 0, rest)?;
+        let found = measured_expression(alloc, literals, depth_left, 0, rest)?;
         entries.push(found.node)?;
         height = found.height.max(height);
         let (next, after) = value_next(close, found.rest)?;
@@ -170,15 +170,15 @@ fn expression_list(
 #[tactic(auto, unfolding(crate::specs::Reading::composite))]
 fn composite_literal<'a>(
     alloc: Global,
-    room: u32,
+    depth_left: u32,
     name: &[u8],
     cursor: Cursor<'a>,
 ) -> Result<Measured<'a>, ParseFault>
-    requires { 1 ≤ room }
-    ensures tree { Gives (λ x. (expression_of x.node, ahead x.rest)) result (composite (expression true MAX_ENTRIES (room - 1)) MAX_ENTRIES name.now (ahead cursor.entry)) }
-    ensures height { IfOk result (λ x. (x.height ≡ expression_height (expression_of x.node)) × (x.height ≤ room)) }
+    requires { 1 ≤ depth_left }
+    ensures tree { Gives (λ x. (expression_of x.node, ahead x.rest)) result (composite (expression true MAX_ENTRIES (depth_left - 1)) MAX_ENTRIES name.now (ahead cursor.entry)) }
+    ensures height { IfOk result (λ x. (x.height ≡ expression_height (expression_of x.node)) × (x.height ≤ depth_left)) }
 {
-    let (values, highest) = values(alloc, true, room - 1, TokenKind::RightBrace, cursor)?;
+    let (values, highest) = values(alloc, true, depth_left - 1, TokenKind::RightBrace, cursor)?;
     let node = composite_node(alloc, name, values.entries, values.trailing)?;
     Ok(Measured {
         node,
@@ -193,16 +193,16 @@ fn composite_literal<'a>(
 fn call<'a>(
     alloc: Global,
     literals: bool,
-    room: u32,
+    depth_left: u32,
     name: &[u8],
     cursor: Cursor<'a>,
 ) -> Result<Measured<'a>, ParseFault>
-    requires { 1 ≤ room }
-    ensures tree { Gives (λ x. (expression_of x.node, ahead x.rest)) result (called (expression literals MAX_ENTRIES (room - 1)) MAX_ENTRIES name.now (ahead cursor.entry)) }
-    ensures height { IfOk result (λ x. (x.height ≡ expression_height (expression_of x.node)) × (x.height ≤ room)) }
+    requires { 1 ≤ depth_left }
+    ensures tree { Gives (λ x. (expression_of x.node, ahead x.rest)) result (called (expression literals MAX_ENTRIES (depth_left - 1)) MAX_ENTRIES name.now (ahead cursor.entry)) }
+    ensures height { IfOk result (λ x. (x.height ≡ expression_height (expression_of x.node)) × (x.height ≤ depth_left)) }
 {
     let close = TokenKind::RightParenthesis;
-    let (values, highest) = values(alloc, literals, room - 1, close, cursor)?;
+    let (values, highest) = values(alloc, literals, depth_left - 1, close, cursor)?;
     let node = call_node(alloc, name, values.entries, values.trailing)?;
     Ok(Measured {
         node,
@@ -217,20 +217,20 @@ fn call<'a>(
 fn operand_name<'a>(
     alloc: Global,
     literals: bool,
-    room: u32,
+    depth_left: u32,
     name: &[u8],
     cursor: Cursor<'a>,
 ) -> Result<Measured<'a>, ParseFault>
-    requires { 1 ≤ room }
-    ensures tree { Gives (λ x. (expression_of x.node, ahead x.rest)) result (named literals (expression literals MAX_ENTRIES (room - 1)) MAX_ENTRIES name.now (ahead cursor.entry)) }
-    ensures height { IfOk result (λ x. (x.height ≡ expression_height (expression_of x.node)) × (x.height ≤ room)) }
+    requires { 1 ≤ depth_left }
+    ensures tree { Gives (λ x. (expression_of x.node, ahead x.rest)) result (named literals (expression literals MAX_ENTRIES (depth_left - 1)) MAX_ENTRIES name.now (ahead cursor.entry)) }
+    ensures height { IfOk result (λ x. (x.height ≡ expression_height (expression_of x.node)) × (x.height ≤ depth_left)) }
 {
     if let Some((Word::Mark(kind), rest)) = cursor.next() {
         if kind == TokenKind::LeftParenthesis {
-            return call(alloc, literals, room, name, rest);
+            return call(alloc, literals, depth_left, name, rest);
         }
         if literals && kind == TokenKind::LeftBrace {
-            return composite_literal(alloc, room, name, rest);
+            return composite_literal(alloc, depth_left, name, rest);
         }
     }
     Ok(Measured {
@@ -246,13 +246,13 @@ fn operand_name<'a>(
 fn to_parenthesis(
     alloc: Global,
     literals: bool,
-    room: u32,
+    depth_left: u32,
     cursor: Cursor<'_>,
 ) -> Result<Measured<'_>, ParseFault>
-    ensures tree { Gives (λ x. (expression_of x.node, ahead x.rest)) result (to_parenthesis (expression literals MAX_ENTRIES room) (ahead cursor.entry)) }
-    ensures height { IfOk result (λ x. (x.height ≡ expression_height (expression_of x.node)) × (x.height ≤ room)) }
+    ensures tree { Gives (λ x. (expression_of x.node, ahead x.rest)) result (to_parenthesis (expression literals MAX_ENTRIES depth_left) (ahead cursor.entry)) }
+    ensures height { IfOk result (λ x. (x.height ≡ expression_height (expression_of x.node)) × (x.height ≤ depth_left)) }
 {
-    let inner = measured_expression(alloc, literals, room, 0, cursor)?;
+    let inner = measured_expression(alloc, literals, depth_left, 0, cursor)?;
     let height = inner.height;
     let (node, rest) = beside(inner.node, inner.rest.expect(TokenKind::RightParenthesis))?;
     Ok(Measured { node, height, rest })
@@ -264,14 +264,14 @@ fn to_parenthesis(
 pub fn argument(
     alloc: Global,
     literals: bool,
-    room: u32,
+    depth_left: u32,
     cursor: Cursor<'_>,
 ) -> Result<Measured<'_>, ParseFault>
-    ensures tree { Gives (λ x. (expression_of x.node, ahead x.rest)) result (argument (expression literals MAX_ENTRIES room) (ahead cursor.entry)) }
-    ensures height { IfOk result (λ x. (x.height ≡ expression_height (expression_of x.node)) × (x.height ≤ room)) }
+    ensures tree { Gives (λ x. (expression_of x.node, ahead x.rest)) result (argument (expression literals MAX_ENTRIES depth_left) (ahead cursor.entry)) }
+    ensures height { IfOk result (λ x. (x.height ≡ expression_height (expression_of x.node)) × (x.height ≤ depth_left)) }
 {
     let inside = cursor.expect(TokenKind::LeftParenthesis)?;
-    to_parenthesis(alloc, literals, room, inside)
+    to_parenthesis(alloc, literals, depth_left, inside)
 }
 
 /// An expression in parentheses, after the opening one, which is at `first`.
@@ -280,18 +280,18 @@ pub fn argument(
 fn parenthesized<'a>(
     alloc: Global,
     literals: bool,
-    room: u32,
+    depth_left: u32,
     first: Cursor<'a>,
     cursor: Cursor<'a>,
 ) -> Result<Measured<'a>, ParseFault>
-    requires { 1 ≤ room }
-    ensures tree { Gives (λ x. (expression_of x.node, ahead x.rest)) result (as_one Parenthesized (to_parenthesis (expression literals MAX_ENTRIES (room - 1)) (ahead cursor.entry))) }
-    ensures height { IfOk result (λ x. (x.height ≡ expression_height (expression_of x.node)) × (x.height ≤ room)) }
+    requires { 1 ≤ depth_left }
+    ensures tree { Gives (λ x. (expression_of x.node, ahead x.rest)) result (as_one Parenthesized (to_parenthesis (expression literals MAX_ENTRIES (depth_left - 1)) (ahead cursor.entry))) }
+    ensures height { IfOk result (λ x. (x.height ≡ expression_height (expression_of x.node)) × (x.height ≤ depth_left)) }
 {
-    if room < 2 {
+    if depth_left < 2 {
         return Err(ParseFault::TooDeep(first.place()));
     }
-    let inner = to_parenthesis(alloc, literals, room - 1, cursor)?;
+    let inner = to_parenthesis(alloc, literals, depth_left - 1, cursor)?;
     let node = parenthesized_node(alloc, inner.node)?;
     Ok(Measured {
         node,
@@ -305,17 +305,20 @@ fn parenthesized<'a>(
 fn make_with_size<'a>(
     alloc: Global,
     literals: bool,
-    room: u32,
+    depth_left: u32,
     channel: TypeNode,
     cursor: Cursor<'a>,
 ) -> Result<Measured<'a>, ParseFault>
-    requires room { 1 ≤ room }
-    requires low { type_height (type_of channel) < room }
-    ensures tree { Gives (λ x. (expression_of x.node, ahead x.rest)) result (as_one (MakeSized (type_of channel)) (to_parenthesis (expression literals MAX_ENTRIES (room - 1)) (ahead cursor.entry))) }
-    ensures height { IfOk result (λ x. (x.height ≡ expression_height (expression_of x.node)) × (x.height ≤ room)) }
+    requires depth_left { 1 ≤ depth_left }
+    requires low { type_height (type_of channel) < depth_left }
+    ensures tree { Gives (λ x. (expression_of x.node, ahead x.rest)) result (as_one (MakeSized (type_of channel)) (to_parenthesis (expression literals MAX_ENTRIES (depth_left - 1)) (ahead cursor.entry))) }
+    ensures height { IfOk result (λ x. (x.height ≡ expression_height (expression_of x.node)) × (x.height ≤ depth_left)) }
 {
     let levels = type_height(&channel) as usize;
-    let (channel, size) = beside(channel, to_parenthesis(alloc, literals, room - 1, cursor))?;
+    let (channel, size) = beside(
+        channel,
+        to_parenthesis(alloc, literals, depth_left - 1, cursor),
+    )?;
     let height = levels.max(size.height) + 1;
     let rest = size.rest;
     let node = make_sized_node(alloc, channel, size.node)?;
@@ -328,20 +331,20 @@ fn make_with_size<'a>(
 fn make_of<'a>(
     alloc: Global,
     literals: bool,
-    room: u32,
+    depth_left: u32,
     channel: TypeNode,
     cursor: Cursor<'a>,
 ) -> Result<Measured<'a>, ParseFault>
-    requires room { 1 ≤ room }
-    requires low { type_height (type_of channel) < room }
-    ensures tree { Gives (λ x. (expression_of x.node, ahead x.rest)) result (sized (expression literals MAX_ENTRIES (room - 1)) (type_of channel) (ahead cursor.entry)) }
-    ensures height { IfOk result (λ x. (x.height ≡ expression_height (expression_of x.node)) × (x.height ≤ room)) }
+    requires depth_left { 1 ≤ depth_left }
+    requires low { type_height (type_of channel) < depth_left }
+    ensures tree { Gives (λ x. (expression_of x.node, ahead x.rest)) result (sized (expression literals MAX_ENTRIES (depth_left - 1)) (type_of channel) (ahead cursor.entry)) }
+    ensures height { IfOk result (λ x. (x.height ≡ expression_height (expression_of x.node)) × (x.height ≤ depth_left)) }
 {
     let Some((Word::Mark(kind), rest)) = cursor.next() else {
         return Err(ParseFault::Syntax(cursor.place()));
     };
     if kind == TokenKind::Comma {
-        return make_with_size(alloc, literals, room, channel, rest);
+        return make_with_size(alloc, literals, depth_left, channel, rest);
     }
     let height = type_height(&channel) as usize + 1;
     let (channel, rest) = beside(channel, cursor.expect(TokenKind::RightParenthesis))?;
@@ -355,16 +358,16 @@ fn make_of<'a>(
 fn make_call(
     alloc: Global,
     literals: bool,
-    room: u32,
+    depth_left: u32,
     cursor: Cursor<'_>,
 ) -> Result<Measured<'_>, ParseFault>
-    requires { 1 ≤ room }
-    ensures tree { Gives (λ x. (expression_of x.node, ahead x.rest)) result (made (expression literals MAX_ENTRIES (room - 1)) (room - 1) (ahead cursor.entry)) }
-    ensures height { IfOk result (λ x. (x.height ≡ expression_height (expression_of x.node)) × (x.height ≤ room)) }
+    requires { 1 ≤ depth_left }
+    ensures tree { Gives (λ x. (expression_of x.node, ahead x.rest)) result (made (expression literals MAX_ENTRIES (depth_left - 1)) (depth_left - 1) (ahead cursor.entry)) }
+    ensures height { IfOk result (λ x. (x.height ≡ expression_height (expression_of x.node)) × (x.height ≤ depth_left)) }
 {
     let inside = cursor.expect(TokenKind::LeftParenthesis)?;
-    let channel = type_at(alloc, room - 1, inside)?;
-    make_of(alloc, literals, room, channel.node, channel.rest)
+    let channel = type_at(alloc, depth_left - 1, inside)?;
+    make_of(alloc, literals, depth_left, channel.node, channel.rest)
 }
 
 /// A `len`, after its name.
@@ -372,14 +375,14 @@ fn make_call(
 fn len_call(
     alloc: Global,
     literals: bool,
-    room: u32,
+    depth_left: u32,
     cursor: Cursor<'_>,
 ) -> Result<Measured<'_>, ParseFault>
-    requires { 1 ≤ room }
-    ensures tree { Gives (λ x. (expression_of x.node, ahead x.rest)) result (as_one Length (argument (expression literals MAX_ENTRIES (room - 1)) (ahead cursor.entry))) }
-    ensures height { IfOk result (λ x. (x.height ≡ expression_height (expression_of x.node)) × (x.height ≤ room)) }
+    requires { 1 ≤ depth_left }
+    ensures tree { Gives (λ x. (expression_of x.node, ahead x.rest)) result (as_one Length (argument (expression literals MAX_ENTRIES (depth_left - 1)) (ahead cursor.entry))) }
+    ensures height { IfOk result (λ x. (x.height ≡ expression_height (expression_of x.node)) × (x.height ≤ depth_left)) }
 {
-    let channel = argument(alloc, literals, room - 1, cursor)?;
+    let channel = argument(alloc, literals, depth_left - 1, cursor)?;
     let node = length_node(alloc, channel.node)?;
     Ok(Measured {
         node,
@@ -393,14 +396,14 @@ fn len_call(
 fn cap_call(
     alloc: Global,
     literals: bool,
-    room: u32,
+    depth_left: u32,
     cursor: Cursor<'_>,
 ) -> Result<Measured<'_>, ParseFault>
-    requires { 1 ≤ room }
-    ensures tree { Gives (λ x. (expression_of x.node, ahead x.rest)) result (as_one Capacity (argument (expression literals MAX_ENTRIES (room - 1)) (ahead cursor.entry))) }
-    ensures height { IfOk result (λ x. (x.height ≡ expression_height (expression_of x.node)) × (x.height ≤ room)) }
+    requires { 1 ≤ depth_left }
+    ensures tree { Gives (λ x. (expression_of x.node, ahead x.rest)) result (as_one Capacity (argument (expression literals MAX_ENTRIES (depth_left - 1)) (ahead cursor.entry))) }
+    ensures height { IfOk result (λ x. (x.height ≡ expression_height (expression_of x.node)) × (x.height ≤ depth_left)) }
 {
-    let channel = argument(alloc, literals, room - 1, cursor)?;
+    let channel = argument(alloc, literals, depth_left - 1, cursor)?;
     let node = capacity_node(alloc, channel.node)?;
     Ok(Measured {
         node,
@@ -415,26 +418,26 @@ fn cap_call(
 fn builtin_call<'a>(
     alloc: Global,
     literals: bool,
-    room: u32,
+    depth_left: u32,
     name: &[u8],
     first: Cursor<'a>,
     cursor: Cursor<'a>,
 ) -> Result<Measured<'a>, ParseFault>
-    requires { 1 ≤ room }
-    ensures tree { Gives (λ x. (expression_of x.node, ahead x.rest)) result (builtin (expression literals MAX_ENTRIES (room - 1)) (room - 1) name.now (ahead cursor.entry)) }
-    ensures height { IfOk result (λ x. (x.height ≡ expression_height (expression_of x.node)) × (x.height ≤ room)) }
+    requires { 1 ≤ depth_left }
+    ensures tree { Gives (λ x. (expression_of x.node, ahead x.rest)) result (builtin (expression literals MAX_ENTRIES (depth_left - 1)) (depth_left - 1) name.now (ahead cursor.entry)) }
+    ensures height { IfOk result (λ x. (x.height ≡ expression_height (expression_of x.node)) × (x.height ≤ depth_left)) }
 {
-    if room < 2 && makes_value(name) {
+    if depth_left < 2 && makes_value(name) {
         return Err(ParseFault::TooDeep(first.place()));
     }
     if is_word(name, b"make") {
-        return make_call(alloc, literals, room, cursor);
+        return make_call(alloc, literals, depth_left, cursor);
     }
     if is_word(name, b"len") {
-        return len_call(alloc, literals, room, cursor);
+        return len_call(alloc, literals, depth_left, cursor);
     }
     if is_word(name, b"cap") {
-        return cap_call(alloc, literals, room, cursor);
+        return cap_call(alloc, literals, depth_left, cursor);
     }
     Err(ParseFault::Syntax(first.place()))
 }
@@ -445,18 +448,18 @@ fn builtin_call<'a>(
 fn receive<'a>(
     alloc: Global,
     literals: bool,
-    room: u32,
+    depth_left: u32,
     first: Cursor<'a>,
     cursor: Cursor<'a>,
 ) -> Result<Measured<'a>, ParseFault>
-    requires { 1 ≤ room }
-    ensures tree { Gives (λ x. (expression_of x.node, ahead x.rest)) result (as_one Receive (expression literals MAX_ENTRIES (room - 1) 6 (ahead cursor.entry))) }
-    ensures height { IfOk result (λ x. (x.height ≡ expression_height (expression_of x.node)) × (x.height ≤ room)) }
+    requires { 1 ≤ depth_left }
+    ensures tree { Gives (λ x. (expression_of x.node, ahead x.rest)) result (as_one Receive (expression literals MAX_ENTRIES (depth_left - 1) 6 (ahead cursor.entry))) }
+    ensures height { IfOk result (λ x. (x.height ≡ expression_height (expression_of x.node)) × (x.height ≤ depth_left)) }
 {
-    if room < 2 {
+    if depth_left < 2 {
         return Err(ParseFault::TooDeep(first.place()));
     }
-    let channel = measured_expression(alloc, literals, room - 1, 6, cursor)?;
+    let channel = measured_expression(alloc, literals, depth_left - 1, 6, cursor)?;
     let node = receive_node(alloc, channel.node)?;
     Ok(Measured {
         node,
@@ -471,19 +474,19 @@ fn receive<'a>(
 fn unary_expression<'a>(
     alloc: Global,
     literals: bool,
-    room: u32,
+    depth_left: u32,
     operator: UnaryOperator,
     first: Cursor<'a>,
     cursor: Cursor<'a>,
 ) -> Result<Measured<'a>, ParseFault>
-    requires { 1 ≤ room }
-    ensures tree { Gives (λ x. (expression_of x.node, ahead x.rest)) result (negated (expression literals MAX_ENTRIES (room - 1)) (ahead cursor.entry) (Some operator)) }
-    ensures height { IfOk result (λ x. (x.height ≡ expression_height (expression_of x.node)) × (x.height ≤ room)) }
+    requires { 1 ≤ depth_left }
+    ensures tree { Gives (λ x. (expression_of x.node, ahead x.rest)) result (negated (expression literals MAX_ENTRIES (depth_left - 1)) (ahead cursor.entry) (Some operator)) }
+    ensures height { IfOk result (λ x. (x.height ≡ expression_height (expression_of x.node)) × (x.height ≤ depth_left)) }
 {
-    if room < 2 {
+    if depth_left < 2 {
         return Err(ParseFault::TooDeep(first.place()));
     }
-    let operand = measured_expression(alloc, literals, room - 1, 6, cursor)?;
+    let operand = measured_expression(alloc, literals, depth_left - 1, 6, cursor)?;
     let node = unary_node(alloc, operator, operand.node)?;
     Ok(Measured {
         node,
@@ -492,18 +495,18 @@ fn unary_expression<'a>(
     })
 }
 
-/// An expression that is no operation and no selection, of at most `room` levels.
+/// An expression that is no operation and no selection, of at most `depth_left` levels.
 #[cycle(expression)]
 #[tactic(auto, unfolding(crate::specs::Reading::operand))]
 fn operand(
     alloc: Global,
     literals: bool,
-    room: u32,
+    depth_left: u32,
     cursor: Cursor<'_>,
 ) -> Result<Measured<'_>, ParseFault>
-    requires { 1 ≤ room }
-    ensures tree { Gives (λ x. (expression_of x.node, ahead x.rest)) result (operand literals (expression literals MAX_ENTRIES (room - 1)) (room - 1) MAX_ENTRIES (ahead cursor.entry)) }
-    ensures height { IfOk result (λ x. (x.height ≡ expression_height (expression_of x.node)) × (x.height ≤ room)) }
+    requires { 1 ≤ depth_left }
+    ensures tree { Gives (λ x. (expression_of x.node, ahead x.rest)) result (operand literals (expression literals MAX_ENTRIES (depth_left - 1)) (depth_left - 1) MAX_ENTRIES (ahead cursor.entry)) }
+    ensures height { IfOk result (λ x. (x.height ≡ expression_height (expression_of x.node)) × (x.height ≤ depth_left)) }
 {
     let Some((word, rest)) = cursor.next() else {
         return Err(ParseFault::Syntax(cursor.place()));
@@ -516,22 +519,22 @@ fn operand(
         }),
         Word::Name(name) => {
             if is_builtin(name) {
-                return builtin_call(alloc, literals, room, name, cursor, rest);
+                return builtin_call(alloc, literals, depth_left, name, cursor, rest);
             }
-            operand_name(alloc, literals, room, name, rest)
+            operand_name(alloc, literals, depth_left, name, rest)
         }
         Word::Text(_) => Err(ParseFault::Syntax(cursor.place())),
         Word::Mark(kind) => {
             if kind == TokenKind::LeftParenthesis {
-                return parenthesized(alloc, literals, room, cursor, rest);
+                return parenthesized(alloc, literals, depth_left, cursor, rest);
             }
             if kind == TokenKind::Arrow {
-                return receive(alloc, literals, room, cursor, rest);
+                return receive(alloc, literals, depth_left, cursor, rest);
             }
             let Some(operator) = unary_of(kind) else {
                 return Err(ParseFault::Syntax(cursor.place()));
             };
-            unary_expression(alloc, literals, room, operator, cursor, rest)
+            unary_expression(alloc, literals, depth_left, operator, cursor, rest)
         }
     }
 }
@@ -541,22 +544,22 @@ fn operand(
 fn applied<'a>(
     alloc: Global,
     literals: bool,
-    room: u32,
+    depth_left: u32,
     left: Measured<'a>,
     step: Infix,
     cursor: Cursor<'a>,
 ) -> Result<Measured<'a>, ParseFault>
-    requires room { 1 ≤ room }
-    requires low { left.height < room }
+    requires depth_left { 1 ≤ depth_left }
+    requires low { left.height < depth_left }
     requires height { left.height ≡ expression_height (expression_of left.node) }
-    ensures tree { Gives (λ x. (expression_of x.node, ahead x.rest)) result (applied (expression literals MAX_ENTRIES (room - 1)) (expression_of left.entry.node) (step, ahead cursor.entry)) }
-    ensures height { IfOk result (λ x. (x.height ≡ expression_height (expression_of x.node)) × (x.height ≤ room)) }
+    ensures tree { Gives (λ x. (expression_of x.node, ahead x.rest)) result (applied (expression literals MAX_ENTRIES (depth_left - 1)) (expression_of left.entry.node) (step, ahead cursor.entry)) }
+    ensures height { IfOk result (λ x. (x.height ≡ expression_height (expression_of x.node)) × (x.height ≤ depth_left)) }
 {
     match step {
         Infix::Operator(operator) => binary_expression(
-            alloc, literals, room, left, operator, cursor,
+            alloc, literals, depth_left, left, operator, cursor,
         ),
-        Infix::Period => selection(alloc, room, left, cursor),
+        Infix::Period => selection(alloc, depth_left, left, cursor),
     }
 }
 
@@ -565,18 +568,24 @@ fn applied<'a>(
 fn binary_expression<'a>(
     alloc: Global,
     literals: bool,
-    room: u32,
+    depth_left: u32,
     left: Measured<'a>,
     operator: BinaryOperator,
     cursor: Cursor<'a>,
 ) -> Result<Measured<'a>, ParseFault>
-    requires room { 1 ≤ room }
-    requires low { left.height < room }
+    requires depth_left { 1 ≤ depth_left }
+    requires low { left.height < depth_left }
     requires height { left.height ≡ expression_height (expression_of left.node) }
-    ensures tree { Gives (λ x. (expression_of x.node, ahead x.rest)) result (applied (expression literals MAX_ENTRIES (room - 1)) (expression_of left.entry.node) (Infix.Operator operator, ahead cursor.entry)) }
-    ensures height { IfOk result (λ x. (x.height ≡ expression_height (expression_of x.node)) × (x.height ≤ room)) }
+    ensures tree { Gives (λ x. (expression_of x.node, ahead x.rest)) result (applied (expression literals MAX_ENTRIES (depth_left - 1)) (expression_of left.entry.node) (Infix.Operator operator, ahead cursor.entry)) }
+    ensures height { IfOk result (λ x. (x.height ≡ expression_height (expression_of x.node)) × (x.height ≤ depth_left)) }
 {
-    let right = measured_expression(alloc, literals, room - 1, precedence(operator) + 1, cursor)?;
+    let right = measured_expression(
+        alloc,
+        literals,
+        depth_left - 1,
+        precedence(operator) + 1,
+        cursor,
+    )?;
     let height = left.height.max(right.height) + 1;
     let node = binary_node(alloc, operator, left.node, right.node)?;
     Ok(Measured {
@@ -589,14 +598,14 @@ fn binary_expression<'a>(
 /// A selection, after its period.
 fn selection<'a>(
     alloc: Global,
-    room: u32,
+    depth_left: u32,
     left: Measured<'a>,
     cursor: Cursor<'a>,
 ) -> Result<Measured<'a>, ParseFault>
-    requires low { left.height < room }
+    requires low { left.height < depth_left }
     requires height { left.height ≡ expression_height (expression_of left.node) }
     ensures tree { (deeper : ℕ → Lists Lexeme → Reading Expression) → Gives (λ x. (expression_of x.node, ahead x.rest)) result (applied deeper (expression_of left.entry.node) (Infix.Period, ahead cursor.entry)) }
-    ensures height { IfOk result (λ x. (x.height ≡ expression_height (expression_of x.node)) × (x.height ≤ room)) }
+    ensures height { IfOk result (λ x. (x.height ≡ expression_height (expression_of x.node)) × (x.height ≤ depth_left)) }
 {
     let (field, rest) = cursor.plain_name()?;
     let height = left.height + 1;
@@ -604,67 +613,67 @@ fn selection<'a>(
     Ok(Measured { node, height, rest })
 }
 
-/// An expression of at most `room` levels that begins with the operand `left`, which was read before. If nothing goes on
+/// An expression of at most `depth_left` levels that begins with the operand `left`, which was read before. If nothing goes on
 /// with `left` it is returned as it is, at any height.
 #[cycle(expression)]
 #[tactic(auto, unfolding(crate::specs::Reading::resumed))]
 pub fn resumed_expression<'a>(
     alloc: Global,
     literals: bool,
-    room: u32,
+    depth_left: u32,
     least: u32,
     left: Measured<'a>,
 ) -> Result<Measured<'a>, ParseFault>
     requires { left.height ≡ expression_height (expression_of left.node) }
-    ensures tree { Gives (λ x. (expression_of x.node, ahead x.rest)) result (resumed literals MAX_ENTRIES room least (expression_of left.entry.node) (ahead left.entry.rest)) }
+    ensures tree { Gives (λ x. (expression_of x.node, ahead x.rest)) result (resumed literals MAX_ENTRIES depth_left least (expression_of left.entry.node) (ahead left.entry.rest)) }
     ensures height { IfOk result (λ x. x.height ≡ expression_height (expression_of x.node)) }
-    ensures within { left.entry.height ≤ room → IfOk result (λ x. x.height ≤ room) }
+    ensures within { left.entry.height ≤ depth_left → IfOk result (λ x. x.height ≤ depth_left) }
 {
     let mut left = left;
-    for _ in 0..room {
+    for _ in 0..depth_left {
         let Some((step, after)) = step_at(least, left.rest) else {
             return Ok(left);
         };
-        if left.height >= room as usize {
+        if left.height >= depth_left as usize {
             return Err(ParseFault::TooDeep(left.rest.place()));
         }
-        left = applied(alloc, literals, room, left, step, after)?;
+        left = applied(alloc, literals, depth_left, left, step, after)?;
     }
     Err(ParseFault::TooDeep(left.rest.place()))
 }
 
-/// An expression of at most `room` levels, as `expression` reads it, with its height.
+/// An expression of at most `depth_left` levels, as `expression` reads it, with its height.
 #[cycle(expression)]
 #[tactic(auto, unfolding(crate::specs::Reading::expression, crate::specs::Reading::resumed))]
 pub fn measured_expression(
     alloc: Global,
     literals: bool,
-    room: u32,
+    depth_left: u32,
     least: u32,
     cursor: Cursor<'_>,
 ) -> Result<Measured<'_>, ParseFault>
-    ensures tree { Gives (λ x. (expression_of x.node, ahead x.rest)) result (expression literals MAX_ENTRIES room least (ahead cursor.entry)) }
-    ensures height { IfOk result (λ x. (x.height ≡ expression_height (expression_of x.node)) × (x.height ≤ room)) }
+    ensures tree { Gives (λ x. (expression_of x.node, ahead x.rest)) result (expression literals MAX_ENTRIES depth_left least (ahead cursor.entry)) }
+    ensures height { IfOk result (λ x. (x.height ≡ expression_height (expression_of x.node)) × (x.height ≤ depth_left)) }
 {
-    if room == 0 {
+    if depth_left == 0 {
         return Err(ParseFault::TooDeep(cursor.place()));
     }
-    let left = operand(alloc, literals, room, cursor)?;
-    resumed_expression(alloc, literals, room, least, left)
+    let left = operand(alloc, literals, depth_left, cursor)?;
+    resumed_expression(alloc, literals, depth_left, least, left)
 }
 
-/// An expression of at most `room` levels, whose outermost operator binds at least as strongly as `least`. Composite literals
+/// An expression of at most `depth_left` levels, whose outermost operator binds at least as strongly as `least`. Composite literals
 /// occur in it only if `literals` holds.
 pub fn expression(
     alloc: Global,
     literals: bool,
-    room: u32,
+    depth_left: u32,
     least: u32,
     cursor: Cursor<'_>,
 ) -> Result<Found<'_, ExpressionNode>, ParseFault>
-    ensures { Gives (λ x. (expression_of x.node, ahead x.rest)) result (expression literals MAX_ENTRIES room least (ahead cursor.entry)) }
+    ensures { Gives (λ x. (expression_of x.node, ahead x.rest)) result (expression literals MAX_ENTRIES depth_left least (ahead cursor.entry)) }
 {
-    let found = measured_expression(alloc, literals, room, least, cursor)?;
+    let found = measured_expression(alloc, literals, depth_left, least, cursor)?;
     Ok(Found {
         node: found.node,
         rest: found.rest,

@@ -1,7 +1,7 @@
 //! Values of numbers.
 
 ghost use Rattle.std.specs.Prelude.{◌≡◌, ◌+◌, ◌^◌, ◌<◌, ◌⊎◌, min};
-ghost use Rattle.parser_base.specs.Lexemes.{digit_of, number_behind, literal};
+ghost use Rattle.parser_base.specs.Lexemes.{digit_of, number_after, literal};
 
 /// The most that the value of a number is known to, 2^100.
 const MAX_VALUE: u128 = 1 << 100;
@@ -20,9 +20,9 @@ fn digit_of(byte: u8) -> u8
 }
 
 /// The value of digits in base 10 or 16, or one more than 2^100 if it is over 2^100.
-fn number_behind(base: u8, digits: &[u8]) -> u128
+fn number_after(base: u8, digits: &[u8]) -> u128
     requires { (base ≡ 10) ⊎ (base ≡ 16) }
-    ensures { result ≡ min (number_behind base 0 digits.now) (2 ^ 100 + 1) }
+    ensures { result ≡ min (number_after base 0 digits.now) (2 ^ 100 + 1) }
 {
     let mut value: u128 = 0;
     for digit in digits {
@@ -37,8 +37,8 @@ pub fn literal(text: &[u8]) -> Option<u128>
     ensures { result ≡ literal text.now }
 {
     let value = match text {
-        [b'0', b'x' | b'X', digits @ ..] => number_behind(16, digits),
-        digits => number_behind(10, digits),
+        [b'0', b'x' | b'X', digits @ ..] => number_after(16, digits),
+        digits => number_after(10, digits),
     };
     if value <= MAX_VALUE {
         Some(value)

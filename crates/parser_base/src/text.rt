@@ -2,7 +2,7 @@
 
 ghost use Rattle.std.specs.Prelude.{◌≡◌, false, IfOk, IfErr};
 ghost use Rattle.parser_base.specs.declared.fault.ParseFault.TheVariants as faults;
-ghost use Rattle.parser_base.specs.Lexemes.{escape, text_behind, text};
+ghost use Rattle.parser_base.specs.Lexemes.{escape, text_after, text};
 
 use crate::fault::ParseFault;
 use std::alloc::Global;

@@ -6,7 +6,7 @@ ghost use Rattle.syntax.specs.Tree.{NamedType, ParenthesizedType, Channel};
 ghost use Rattle.syntax.specs.Measures.{type_height};
 ghost use Rattle.syntax.specs.View.{type_of};
 ghost use Rattle.parser_base.specs.Cursor.{ahead};
-ghost use Rattle.parser_base.specs.Reading.{Gives, parenthesized_type, channel_type, behind_chan, behind_arrow, type_at};
+ghost use Rattle.parser_base.specs.Reading.{Gives, parenthesized_type, channel_type, after_chan, after_arrow, type_at};
 
 use crate::cursor::{Cursor, Word, is_builtin};
 use crate::fault::ParseFault;
@@ -61,17 +61,17 @@ fn channel_node(
 #[tactic(auto, unfolding(crate::specs::Reading::parenthesized_type, crate::specs::Reading::type_at))]
 fn parenthesized_type<'a>(
     alloc: Global,
-    room: u32,
+    depth_left: u32,
     first: Cursor<'a>,
     cursor: Cursor<'a>,
 ) -> Result<Found<'a, TypeNode>, ParseFault>
-    requires { 1 ≤ room }
-    ensures { Gives (λ x. (type_of x.node, ahead x.rest)) result (parenthesized_type (type_at (room - 1)) (ahead cursor.entry)) }
+    requires { 1 ≤ depth_left }
+    ensures { Gives (λ x. (type_of x.node, ahead x.rest)) result (parenthesized_type (type_at (depth_left - 1)) (ahead cursor.entry)) }
 {
-    if room < 2 {
+    if depth_left < 2 {
         return Err(ParseFault::TooDeep(first.place()));
     }
-    let inner = type_at(alloc, room - 1, cursor)?;
+    let inner = type_at(alloc, depth_left - 1, cursor)?;
     let rest = inner.rest.expect(TokenKind::RightParenthesis)?;
     let node = parenthesized_node(alloc, inner.node)?;
     Ok(Found { node, rest })
@@ -82,18 +82,18 @@ fn parenthesized_type<'a>(
 #[tactic(auto, unfolding(crate::specs::Reading::type_at))]
 fn channel_type<'a>(
     alloc: Global,
-    room: u32,
+    depth_left: u32,
     direction: Direction,
     first: Cursor<'a>,
     cursor: Cursor<'a>,
 ) -> Result<Found<'a, TypeNode>, ParseFault>
-    requires { 1 ≤ room }
-    ensures { Gives (λ x. (type_of x.node, ahead x.rest)) result (channel_type direction (type_at (room - 1)) (ahead cursor.entry)) }
+    requires { 1 ≤ depth_left }
+    ensures { Gives (λ x. (type_of x.node, ahead x.rest)) result (channel_type direction (type_at (depth_left - 1)) (ahead cursor.entry)) }
 {
-    if room < 2 {
+    if depth_left < 2 {
         return Err(ParseFault::TooDeep(first.place()));
     }
-    let element = type_at(alloc, room - 1, cursor)?;
+    let element = type_at(alloc, depth_left - 1, cursor)?;
     let node = channel_node(alloc, direction, element.node)?;
     Ok(Found {
         node,
@@ -103,51 +103,51 @@ fn channel_type<'a>(
 
 /// A channel type after `chan`, which is at `first`: send-only if `<-` follows.
 #[cycle(type_at)]
-#[tactic(auto, unfolding(crate::specs::Reading::behind_chan))]
-fn behind_chan<'a>(
+#[tactic(auto, unfolding(crate::specs::Reading::after_chan))]
+fn after_chan<'a>(
     alloc: Global,
-    room: u32,
+    depth_left: u32,
     first: Cursor<'a>,
     cursor: Cursor<'a>,
 ) -> Result<Found<'a, TypeNode>, ParseFault>
-    requires { 1 ≤ room }
-    ensures { Gives (λ x. (type_of x.node, ahead x.rest)) result (behind_chan (type_at (room - 1)) (ahead cursor.entry)) }
+    requires { 1 ≤ depth_left }
+    ensures { Gives (λ x. (type_of x.node, ahead x.rest)) result (after_chan (type_at (depth_left - 1)) (ahead cursor.entry)) }
 {
     if let Some((Word::Mark(kind), rest)) = cursor.next() {
         if kind == TokenKind::Arrow {
-            return channel_type(alloc, room, Direction::Send, first, rest);
+            return channel_type(alloc, depth_left, Direction::Send, first, rest);
         }
     }
-    channel_type(alloc, room, Direction::Both, first, cursor)
+    channel_type(alloc, depth_left, Direction::Both, first, cursor)
 }
 
 /// A receive-only channel type, after `<-`, which is at `first`.
 #[cycle(type_at)]
-#[tactic(auto, unfolding(crate::specs::Reading::behind_arrow))]
-fn behind_arrow<'a>(
+#[tactic(auto, unfolding(crate::specs::Reading::after_arrow))]
+fn after_arrow<'a>(
     alloc: Global,
-    room: u32,
+    depth_left: u32,
     first: Cursor<'a>,
     cursor: Cursor<'a>,
 ) -> Result<Found<'a, TypeNode>, ParseFault>
-    requires { 1 ≤ room }
-    ensures { Gives (λ x. (type_of x.node, ahead x.rest)) result (behind_arrow (type_at (room - 1)) (ahead cursor.entry)) }
+    requires { 1 ≤ depth_left }
+    ensures { Gives (λ x. (type_of x.node, ahead x.rest)) result (after_arrow (type_at (depth_left - 1)) (ahead cursor.entry)) }
 {
     let rest = cursor.expect(TokenKind::Chan)?;
-    channel_type(alloc, room, Direction::Receive, first, rest)
+    channel_type(alloc, depth_left, Direction::Receive, first, rest)
 }
 
-/// A type of at most `room` levels ("Types" of the Go specification: a name, a channel type, or one in parentheses).
+/// A type of at most `depth_left` levels ("Types" of the Go specification: a name, a channel type, or one in parentheses).
 #[cycle(type_at)]
 #[tactic(auto, unfolding(crate::specs::Reading::type_at))]
 pub fn type_at(
     alloc: Global,
-    room: u32,
+    depth_left: u32,
     cursor: Cursor<'_>,
 ) -> Result<Found<'_, TypeNode>, ParseFault>
-    ensures { Gives (λ x. (type_of x.node, ahead x.rest)) result (type_at room (ahead cursor.entry)) }
+    ensures { Gives (λ x. (type_of x.node, ahead x.rest)) result (type_at depth_left (ahead cursor.entry)) }
 {
-    if room == 0 {
+    if depth_left == 0 {
         return Err(ParseFault::TooDeep(cursor.place()));
     }
     match cursor.next() {
@@ -160,13 +160,13 @@ pub fn type_at(
         }
         Some((Word::Mark(kind), rest)) => {
             if kind == TokenKind::LeftParenthesis {
-                return parenthesized_type(alloc, room, cursor, rest);
+                return parenthesized_type(alloc, depth_left, cursor, rest);
             }
             if kind == TokenKind::Chan {
-                return behind_chan(alloc, room, cursor, rest);
+                return after_chan(alloc, depth_left, cursor, rest);
             }
             if kind == TokenKind::Arrow {
-                return behind_arrow(alloc, room, cursor, rest);
+                return after_arrow(alloc, depth_left, cursor, rest);
             }
             Err(ParseFault::Syntax(cursor.place()))
         }

@@ -6,7 +6,7 @@ ghost use Rattle.syntax.specs.View.{name_of, expression_of, place_of, comm_of};
 ghost use Rattle.parser_base.specs.Cursor.{ahead};
 ghost use Rattle.parser_base.specs.Reading.{Gives, as_one, plain_name};
 ghost use Rattle.parser_simple.specs.Reading.{received, place, sent};
-ghost use Rattle.parser_header.specs.Reading.{second, received_behind, comm_defined, comm_assigned, comm_formed, comm};
+ghost use Rattle.parser_header.specs.Reading.{second, received_after, comm_defined, comm_assigned, comm_formed, comm};
 
 use parser_base::beside::beside;
 use parser_base::cursor::Cursor;
@@ -14,7 +14,7 @@ use parser_base::fault::ParseFault;
 use parser_base::found::Found;
 use parser_simple::form::{Form, begins_with, defines, place_form};
 use parser_simple::place::{name_at, place};
-use parser_simple::right::{expression_behind, receive_operand};
+use parser_simple::right::{expression_after, receive_operand};
 use parser_simple::simple::send_operand;
 use scanner::TokenKind;
 use std::alloc::Global;
@@ -29,8 +29,8 @@ fn second_name(alloc: Global, cursor: Cursor<'_>) -> Result<(Option<Name>, Curso
     if !begins_with(TokenKind::Comma, cursor) {
         return Ok((None, cursor));
     }
-    let behind = cursor.expect(TokenKind::Comma)?;
-    let (name, rest) = name_at(alloc, behind)?;
+    let following = cursor.expect(TokenKind::Comma)?;
+    let (name, rest) = name_at(alloc, following)?;
     Ok((Some(name), rest))
 }
 
@@ -45,22 +45,22 @@ fn second_place(
     if !begins_with(TokenKind::Comma, cursor) {
         return Ok((None, cursor));
     }
-    let behind = cursor.expect(TokenKind::Comma)?;
-    let target = place(alloc, behind)?;
+    let following = cursor.expect(TokenKind::Comma)?;
+    let target = place(alloc, following)?;
     Ok((Some(target.node), target.rest))
 }
 
 /// A receive after this mark.
-fn receive_behind(
+fn receive_after(
     alloc: Global,
-    room: u32,
+    depth_left: u32,
     mark: TokenKind,
     cursor: Cursor<'_>,
 ) -> Result<Found<'_, ExpressionNode>, ParseFault>
-    ensures { Gives (λ x. (expression_of x.node, ahead x.rest)) result (received_behind mark MAX_ENTRIES room (ahead cursor.entry)) }
+    ensures { Gives (λ x. (expression_of x.node, ahead x.rest)) result (received_after mark MAX_ENTRIES depth_left (ahead cursor.entry)) }
 {
     let arrow = cursor.expect(mark)?;
-    let channel = receive_operand(alloc, true, room, arrow)?;
+    let channel = receive_operand(alloc, true, depth_left, arrow)?;
     Ok(Found {
         node: channel.node,
         rest: channel.rest,
@@ -71,16 +71,16 @@ fn receive_behind(
 #[tactic(auto, unfolding(crate::specs::Reading::comm_defined))]
 fn defining_receive(
     alloc: Global,
-    room: u32,
+    depth_left: u32,
     cursor: Cursor<'_>,
 ) -> Result<(CommNode, Cursor<'_>), ParseFault>
-    ensures { Gives (λ x. (comm_of x.0, ahead x.1)) result (comm_defined MAX_ENTRIES room (ahead cursor.entry)) }
+    ensures { Gives (λ x. (comm_of x.0, ahead x.1)) result (comm_defined MAX_ENTRIES depth_left (ahead cursor.entry)) }
 {
     let (item, rest) = name_at(alloc, cursor)?;
     let (item, (ok, rest)) = beside(item, second_name(alloc, rest))?;
     let ((item, ok), channel) = beside(
         (item, ok),
-        receive_behind(alloc, room, TokenKind::Define, rest),
+        receive_after(alloc, depth_left, TokenKind::Define, rest),
     )?;
     Ok((CommNode::Define(item, ok, channel.node), channel.rest))
 }
@@ -89,16 +89,16 @@ fn defining_receive(
 #[tactic(auto, unfolding(crate::specs::Reading::comm_assigned))]
 fn assigning_receive(
     alloc: Global,
-    room: u32,
+    depth_left: u32,
     cursor: Cursor<'_>,
 ) -> Result<(CommNode, Cursor<'_>), ParseFault>
-    ensures { Gives (λ x. (comm_of x.0, ahead x.1)) result (comm_assigned MAX_ENTRIES room (ahead cursor.entry)) }
+    ensures { Gives (λ x. (comm_of x.0, ahead x.1)) result (comm_assigned MAX_ENTRIES depth_left (ahead cursor.entry)) }
 {
     let item = place(alloc, cursor)?;
     let (item, (ok, rest)) = beside(item.node, second_place(alloc, item.rest))?;
     let ((item, ok), channel) = beside(
         (item, ok),
-        receive_behind(alloc, room, TokenKind::Assign, rest),
+        receive_after(alloc, depth_left, TokenKind::Assign, rest),
     )?;
     Ok((CommNode::Assign(item, ok, channel.node), channel.rest))
 }
@@ -107,15 +107,15 @@ fn assigning_receive(
 #[tactic(auto, unfolding(parser_simple::specs::Reading::sent))]
 fn send_statement(
     alloc: Global,
-    room: u32,
+    depth_left: u32,
     cursor: Cursor<'_>,
 ) -> Result<(CommNode, Cursor<'_>), ParseFault>
-    ensures { Gives (λ x. (comm_of x.0, ahead x.1)) result (sent CommSend true MAX_ENTRIES room (ahead cursor.entry)) }
+    ensures { Gives (λ x. (comm_of x.0, ahead x.1)) result (sent CommSend true MAX_ENTRIES depth_left (ahead cursor.entry)) }
 {
-    let channel = send_operand(alloc, true, room, cursor)?;
+    let channel = send_operand(alloc, true, depth_left, cursor)?;
     let (channel, value) = beside(
         channel.node,
-        expression_behind(alloc, true, room, TokenKind::Arrow, channel.rest),
+        expression_after(alloc, true, depth_left, TokenKind::Arrow, channel.rest),
     )?;
     Ok((CommNode::Send(channel, value.node), value.rest))
 }
@@ -123,12 +123,12 @@ fn send_statement(
 /// A receive alone.
 fn lone_receive(
     alloc: Global,
-    room: u32,
+    depth_left: u32,
     cursor: Cursor<'_>,
 ) -> Result<(CommNode, Cursor<'_>), ParseFault>
-    ensures { Gives (λ x. (comm_of x.0, ahead x.1)) result (as_one CommReceive (received true MAX_ENTRIES room (ahead cursor.entry))) }
+    ensures { Gives (λ x. (comm_of x.0, ahead x.1)) result (as_one CommReceive (received true MAX_ENTRIES depth_left (ahead cursor.entry))) }
 {
-    let channel = receive_operand(alloc, true, room, cursor)?;
+    let channel = receive_operand(alloc, true, depth_left, cursor)?;
     Ok((CommNode::Receive(channel.node), channel.rest))
 }
 
@@ -136,31 +136,33 @@ fn lone_receive(
 #[tactic(auto, unfolding(crate::specs::Reading::comm_formed))]
 fn form_statement(
     alloc: Global,
-    room: u32,
+    depth_left: u32,
     form: Form,
     cursor: Cursor<'_>,
 ) -> Result<(CommNode, Cursor<'_>), ParseFault>
-    ensures { Gives (λ x. (comm_of x.0, ahead x.1)) result (comm_formed MAX_ENTRIES room form (ahead cursor.entry)) }
+    ensures { Gives (λ x. (comm_of x.0, ahead x.1)) result (comm_formed MAX_ENTRIES depth_left form (ahead cursor.entry)) }
 {
     match form {
-        Form::Define(_) if defines(cursor) => defining_receive(alloc, room, cursor),
-        Form::List if defines(cursor) => defining_receive(alloc, room, cursor),
-        Form::Define(_) | Form::Assign(_) | Form::List => assigning_receive(alloc, room, cursor),
-        _ => send_statement(alloc, room, cursor),
+        Form::Define(_) if defines(cursor) => defining_receive(alloc, depth_left, cursor),
+        Form::List if defines(cursor) => defining_receive(alloc, depth_left, cursor),
+        Form::Define(_) | Form::Assign(_) | Form::List => assigning_receive(
+            alloc, depth_left, cursor,
+        ),
+        _ => send_statement(alloc, depth_left, cursor),
     }
 }
 
-/// What a clause of a `select` waits for, with at most `room` levels below it ("Select statements" of the Go specification).
+/// What a clause of a `select` waits for, with at most `depth_left` levels below it ("Select statements" of the Go specification).
 #[tactic(auto, unfolding(crate::specs::Reading::comm))]
 pub fn comm_statement(
     alloc: Global,
-    room: u32,
+    depth_left: u32,
     cursor: Cursor<'_>,
 ) -> Result<(CommNode, Cursor<'_>), ParseFault>
-    ensures { Gives (λ x. (comm_of x.0, ahead x.1)) result (comm MAX_ENTRIES room (ahead cursor.entry)) }
+    ensures { Gives (λ x. (comm_of x.0, ahead x.1)) result (comm MAX_ENTRIES depth_left (ahead cursor.entry)) }
 {
     if begins_with(TokenKind::Arrow, cursor) {
-        return lone_receive(alloc, room, cursor);
+        return lone_receive(alloc, depth_left, cursor);
     }
-    form_statement(alloc, room, place_form(cursor), cursor)
+    form_statement(alloc, depth_left, place_form(cursor), cursor)
 }

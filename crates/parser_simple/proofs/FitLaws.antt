@@ -14,48 +14,48 @@ use Rattle.parser_base.proofs.ExpressionAgain.{height_positive, precedence-lt}
 use Rattle.parser_simple.specs.Reading.{goes_on, within, fits}
 
 -- nothing is refused, or `height` levels are too deep
-abbrev pub Fits : (height room : ℕ) → Result (Unit {0}) Refusal → Type 0
-Fits height room read = (read ≡ Ok tt) ⊎ ((read ≡ Err TooDeep) × (room < height))
+abbrev pub Fits : (height depth_left : ℕ) → Result (Unit {0}) Refusal → Type 0
+Fits height depth_left read = (read ≡ Ok tt) ⊎ ((read ≡ Err TooDeep) × (depth_left < height))
 
-either_fits : (b : Bool) (high room : ℕ) → (b ≡ false → room < high) → Fits high room (cond b (Ok tt) (Err TooDeep))
-either_fits true high room none = inl refl
-either_fits false high room none = inr (refl, none refl)
+either_fits : (b : Bool) (high depth_left : ℕ) → (b ≡ false → depth_left < high) → Fits high depth_left (cond b (Ok tt) (Err TooDeep))
+either_fits true high depth_left none = inl refl
+either_fits false high depth_left none = inr (refl, none refl)
 
-pub within_fits : (height high room : ℕ) → height ≤ high → Fits high room (within height room true)
-within_fits height high room low = either_fits (nat_le height room) high room (λ none. let over = leb-false height room none in omega (arith, over, low))
+pub within_fits : (height high depth_left : ℕ) → height ≤ high → Fits high depth_left (within height depth_left true)
+within_fits height high depth_left low = either_fits (nat_le height depth_left) high depth_left (λ none. let over = leb-false height depth_left none in omega (arith, over, low))
 
 -- what is read after the guard
-pub fits_again : {A : Type 0} {part height room room' : ℕ} {longest : Listing → ℕ} {most : ℕ} {x : A} {rest : List Lexeme} (read : Reading A) (guard : Result (Unit {0}) Refusal)
-    → Fits part room guard → (room < part → room' < height) → ReadBack read x rest height room' longest most → ReadBack (guard >>= λ low. read) x rest height room' longest most
+pub fits_again : {A : Type 0} {part height depth_left depth_left' : ℕ} {longest : Listing → ℕ} {most : ℕ} {x : A} {rest : List Lexeme} (read : Reading A) (guard : Result (Unit {0}) Refusal)
+    → Fits part depth_left guard → (depth_left < part → depth_left' < height) → ReadBack read x rest height depth_left' longest most → ReadBack (guard >>= λ low. read) x rest height depth_left' longest most
 fits_again read guard (inl e) up again = rw e again
 fits_again read guard (inr high) up again = High (up high.1) (rw high.0 refl)
 
 -- ---- what goes on with a value
 
-operator_goes : (literals : Bool) (o : BinaryOperator) (height room : ℕ) (ws : List Lexeme) → fits true literals false height room (Mark (binary_kind o) ∷ ws) ≡ within height room true
+operator_goes : (literals : Bool) (o : BinaryOperator) (height depth_left : ℕ) (ws : List Lexeme) → fits true literals false height depth_left (Mark (binary_kind o) ∷ ws) ≡ within height depth_left true
 unfolding fits
-operator_goes literals binaries.Add height room ws = refl
-operator_goes literals binaries.Subtract height room ws = refl
-operator_goes literals binaries.Multiply height room ws = refl
-operator_goes literals binaries.Divide height room ws = refl
-operator_goes literals binaries.Remainder height room ws = refl
-operator_goes literals binaries.And height room ws = refl
-operator_goes literals binaries.Or height room ws = refl
-operator_goes literals binaries.ExclusiveOr height room ws = refl
-operator_goes literals binaries.AndNot height room ws = refl
-operator_goes literals binaries.ShiftLeft height room ws = refl
-operator_goes literals binaries.ShiftRight height room ws = refl
-operator_goes literals binaries.Equal height room ws = refl
-operator_goes literals binaries.NotEqual height room ws = refl
-operator_goes literals binaries.Less height room ws = refl
-operator_goes literals binaries.LessEqual height room ws = refl
-operator_goes literals binaries.Greater height room ws = refl
-operator_goes literals binaries.GreaterEqual height room ws = refl
-operator_goes literals binaries.LogicalAnd height room ws = refl
-operator_goes literals binaries.LogicalOr height room ws = refl
+operator_goes literals binaries.Add height depth_left ws = refl
+operator_goes literals binaries.Subtract height depth_left ws = refl
+operator_goes literals binaries.Multiply height depth_left ws = refl
+operator_goes literals binaries.Divide height depth_left ws = refl
+operator_goes literals binaries.Remainder height depth_left ws = refl
+operator_goes literals binaries.And height depth_left ws = refl
+operator_goes literals binaries.Or height depth_left ws = refl
+operator_goes literals binaries.ExclusiveOr height depth_left ws = refl
+operator_goes literals binaries.AndNot height depth_left ws = refl
+operator_goes literals binaries.ShiftLeft height depth_left ws = refl
+operator_goes literals binaries.ShiftRight height depth_left ws = refl
+operator_goes literals binaries.Equal height depth_left ws = refl
+operator_goes literals binaries.NotEqual height depth_left ws = refl
+operator_goes literals binaries.Less height depth_left ws = refl
+operator_goes literals binaries.LessEqual height depth_left ws = refl
+operator_goes literals binaries.Greater height depth_left ws = refl
+operator_goes literals binaries.GreaterEqual height depth_left ws = refl
+operator_goes literals binaries.LogicalAnd height depth_left ws = refl
+operator_goes literals binaries.LogicalOr height depth_left ws = refl
 
-operator_fits : (header literals : Bool) (o : BinaryOperator) (height high room : ℕ) (ws : List Lexeme) → header ≡ true → height ≤ high → Fits high room (fits header literals false height room (Mark (binary_kind o) ∷ ws))
-operator_fits header literals o height high room ws begins low = rw (begins, operator_goes literals o height room ws) (within_fits height high room low)
+operator_fits : (header literals : Bool) (o : BinaryOperator) (height high depth_left : ℕ) (ws : List Lexeme) → header ≡ true → height ≤ high → Fits high depth_left (fits header literals false height depth_left (Mark (binary_kind o) ∷ ws))
+operator_fits header literals o height high depth_left ws begins low = rw (begins, operator_goes literals o height depth_left ws) (within_fits height high depth_left low)
 
 literal_goes : (header : Bool) → goes_on header true true kinds.LeftBrace ≡ true
 literal_goes true = refl
@@ -64,37 +64,37 @@ literal_goes false = refl
 -- ---- values
 
 -- a value fits, or is too high, if each name and selection before what follows does
-pub value_fits : (header literals : Bool) (high room : ℕ) (e : Expression) (ws : List Lexeme) → IsGrouped literals e → (header ≡ true) ⊎ (outer_precedence e ≡ 7) → expression_height e ≤ high
-    → Fits high room (fits header literals false (expression_height e) room ws) → Fits high room (fits header literals true 0 room (before e ws))
+pub value_fits : (header literals : Bool) (high depth_left : ℕ) (e : Expression) (ws : List Lexeme) → IsGrouped literals e → (header ≡ true) ⊎ (outer_precedence e ≡ 7) → expression_height e ≤ high
+    → Fits high depth_left (fits header literals false (expression_height e) depth_left ws) → Fits high depth_left (fits header literals true 0 depth_left (before e ws))
 unfolding fits
-value_fits header literals high room (Integer value) ws is strong low next = inl refl
-value_fits header literals high room (Named name) ws is strong low next = rw is next
-value_fits header literals high room (Parenthesized inner) ws is strong low next = inl refl
-value_fits header literals high room (Selection whole field) ws is strong low next =
+value_fits header literals high depth_left (Integer value) ws is strong low next = inl refl
+value_fits header literals high depth_left (Named name) ws is strong low next = rw is next
+value_fits header literals high depth_left (Parenthesized inner) ws is strong low next = inl refl
+value_fits header literals high depth_left (Selection whole field) ws is strong low next =
     rw (append_assoc (expression_words whole) (Mark kinds.Period ∷ Name field ∷ []) ws)
-    (value_fits header literals high room whole (Mark kinds.Period ∷ Name field ∷ ws) is.0 (inr is.1) (omega (arith, low)) (rw (is.2, add-one (expression_height whole)) next))
-value_fits header literals high room (Composite name vs trailing) ws is strong low next =
-    rw (is.1, is.0, literal_goes header) (within_fits 1 high room (omega (arith, low, height_positive (Composite name vs trailing))))
-value_fits header literals high room (Unary o inner) ws is strong low next = inl refl
-value_fits header literals high room (Binary o l r) ws is (inl begins) low next =
+    (value_fits header literals high depth_left whole (Mark kinds.Period ∷ Name field ∷ ws) is.0 (inr is.1) (omega (arith, low)) (rw (is.2, add-one (expression_height whole)) next))
+value_fits header literals high depth_left (Composite name vs trailing) ws is strong low next =
+    rw (is.1, is.0, literal_goes header) (within_fits 1 high depth_left (omega (arith, low, height_positive (Composite name vs trailing))))
+value_fits header literals high depth_left (Unary o inner) ws is strong low next = inl refl
+value_fits header literals high depth_left (Binary o l r) ws is (inl begins) low next =
     rw (append_assoc (expression_words l) (Mark (binary_kind o) ∷ expression_words r) ws)
-    (value_fits header literals high room l (Mark (binary_kind o) ∷ before r ws) is.0 (inl begins) (omega (arith, low)) (operator_fits header literals o (expression_height l) high room (before r ws) begins (omega (arith, low))))
-value_fits header literals high room (Binary o l r) ws is (inr strong) low next = absurd (omega (arith, strong, precedence-lt o))
-value_fits header literals high room (Call function vs trailing) ws is strong low next = rw is.0 (within_fits 1 high room (omega (arith, low, height_positive (Call function vs trailing))))
-value_fits header literals high room (Receive channel) ws is strong low next = inl refl
-value_fits header literals high room (Make channel) ws is strong low next = inl refl
-value_fits header literals high room (MakeSized channel size) ws is strong low next = inl refl
-value_fits header literals high room (Length channel) ws is strong low next = inl refl
-value_fits header literals high room (Capacity channel) ws is strong low next = inl refl
+    (value_fits header literals high depth_left l (Mark (binary_kind o) ∷ before r ws) is.0 (inl begins) (omega (arith, low)) (operator_fits header literals o (expression_height l) high depth_left (before r ws) begins (omega (arith, low))))
+value_fits header literals high depth_left (Binary o l r) ws is (inr strong) low next = absurd (omega (arith, strong, precedence-lt o))
+value_fits header literals high depth_left (Call function vs trailing) ws is strong low next = rw is.0 (within_fits 1 high depth_left (omega (arith, low, height_positive (Call function vs trailing))))
+value_fits header literals high depth_left (Receive channel) ws is strong low next = inl refl
+value_fits header literals high depth_left (Make channel) ws is strong low next = inl refl
+value_fits header literals high depth_left (MakeSized channel size) ws is strong low next = inl refl
+value_fits header literals high depth_left (Length channel) ws is strong low next = inl refl
+value_fits header literals high depth_left (Capacity channel) ws is strong low next = inl refl
 
 -- the operand of a send
-pub operand_fits : (header literals : Bool) (room : ℕ) (c : Expression) (ws : List Lexeme) → IsGrouped literals c → outer_precedence c ≡ 7 → Fits (expression_height c) room (fits header literals true 0 room (before c (Mark kinds.Arrow ∷ ws)))
+pub operand_fits : (header literals : Bool) (depth_left : ℕ) (c : Expression) (ws : List Lexeme) → IsGrouped literals c → outer_precedence c ≡ 7 → Fits (expression_height c) depth_left (fits header literals true 0 depth_left (before c (Mark kinds.Arrow ∷ ws)))
 unfolding fits
-operand_fits header literals room c ws is strong =
-    value_fits header literals (expression_height c) room c (Mark kinds.Arrow ∷ ws) is (inr strong) (omega arith) (within_fits (expression_height c) (expression_height c) room (omega arith))
+operand_fits header literals depth_left c ws is strong =
+    value_fits header literals (expression_height c) depth_left c (Mark kinds.Arrow ∷ ws) is (inr strong) (omega arith) (within_fits (expression_height c) (expression_height c) depth_left (omega arith))
 
 -- a condition before a block
-pub condition_fits : (room : ℕ) (c : Expression) (ws : List Lexeme) → IsGrouped false c → Fits (expression_height c) room (fits true false true 0 room (before c (Mark kinds.LeftBrace ∷ ws)))
+pub condition_fits : (depth_left : ℕ) (c : Expression) (ws : List Lexeme) → IsGrouped false c → Fits (expression_height c) depth_left (fits true false true 0 depth_left (before c (Mark kinds.LeftBrace ∷ ws)))
 unfolding fits
-condition_fits room c ws is =
-    value_fits true false (expression_height c) room c (Mark kinds.LeftBrace ∷ ws) is (inl refl) (omega arith) (within_fits (expression_height c) (expression_height c) room (omega arith))
+condition_fits depth_left c ws is =
+    value_fits true false (expression_height c) depth_left c (Mark kinds.LeftBrace ∷ ws) is (inl refl) (omega arith) (within_fits (expression_height c) (expression_height c) depth_left (omega arith))

@@ -6,7 +6,7 @@ use Rattle.syntax.specs.declared.node.BinaryOperator.{BinaryOperator}
 use Rattle.syntax.specs.declared.node.BinaryOperator.TheVariants as binaries
 use Rattle.syntax.specs.Tree.{Expression, Integer, Named, Parenthesized, Selection, Composite, Unary, Binary, Call, Receive, Make, MakeSized, Length, Capacity, Place}
 use Rattle.parser_base.specs.Lexemes.{Lexeme, Literal, Name, Text, Mark}
-use Rattle.parser_base.specs.Spelling.{makes_value, is_builtin, behind, separated, joined, before, expression_words, precedence, binary_kind}
+use Rattle.parser_base.specs.Spelling.{makes_value, is_builtin, following, separated, joined, before, expression_words, precedence, binary_kind}
 use Rattle.parser_base.specs.Reading.{is_kind, begins}
 use Rattle.parser_simple.specs.declared.form.Form.{Form}
 use Rattle.parser_simple.specs.declared.form.Form.TheVariants as forms
@@ -143,7 +143,7 @@ form_strong false (Mark kind ∷ ws) o e = period_strong kind (is_kind kind kind
 
 -- ---- lvalues
 
-pub fields_form : (fs : List (List ℕ)) (ws : List Lexeme) → form_of false (separated name_words (behind kinds.Period) fs ws) ≡ form_of false ws
+pub fields_form : (fs : List (List ℕ)) (ws : List Lexeme) → form_of false (separated name_words (following kinds.Period) fs ws) ≡ form_of false ws
 unfolding form_of
 fields_form [] ws = refl
 fields_form (f ∷ fs) ws = fields_form fs ws
@@ -152,7 +152,7 @@ first_false : (a b : Bool) → (a || b) ≡ false → a ≡ false
 first_false true b e = absurd cc
 first_false false b e = refl
 
-pub fields_shut : (fs : List (List ℕ)) (ws : List Lexeme) → begins_with kinds.LeftParenthesis ws ≡ false → begins_with kinds.LeftParenthesis (separated name_words (behind kinds.Period) fs ws) ≡ false
+pub fields_shut : (fs : List (List ℕ)) (ws : List Lexeme) → begins_with kinds.LeftParenthesis ws ≡ false → begins_with kinds.LeftParenthesis (separated name_words (following kinds.Period) fs ws) ≡ false
 unfolding begins_with
 fields_shut [] ws shut = shut
 fields_shut (f ∷ fs) ws shut = refl
@@ -166,28 +166,28 @@ plain_makes_none name plain =
     first_false (makes_value name) close (first_false (makes_value name || close) print (first_false (makes_value name || close || print) println plain))
 
 -- a statement that begins with an lvalue has the form of what follows that
-pub led_formed : (literals defining : Bool) (most room : ℕ) (p : Place) (ws : List Lexeme) → IsPlace p
-    → led literals defining most room (place_words p ws) ≡ formed literals defining most room (form_of false ws) (place_words p ws)
+pub led_formed : (literals defining : Bool) (most depth_left : ℕ) (p : Place) (ws : List Lexeme) → IsPlace p
+    → led literals defining most depth_left (place_words p ws) ≡ formed literals defining most depth_left (form_of false ws) (place_words p ws)
 unfolding led form_of
-led_formed literals defining most room p ws is =
+led_formed literals defining most depth_left p ws is =
     rw (is.0, plain_makes_none p.name is.0, fields_form p.fields ws) refl
 
 -- ---- names and lvalues before a mark
 
-pub defines_names : (name : List ℕ) (ns : List (List ℕ)) (ws : List Lexeme) → defines true (joined name_words (behind kinds.Comma) (name ∷ ns) (Mark kinds.Define ∷ ws)) ≡ true
+pub defines_names : (name : List ℕ) (ns : List (List ℕ)) (ws : List Lexeme) → defines true (joined name_words (following kinds.Comma) (name ∷ ns) (Mark kinds.Define ∷ ws)) ≡ true
 unfolding defines
 defines_names name [] ws = refl
 defines_names name (n ∷ ns) ws = defines_names n ns ws
 
-no_defines_fields : (fs : List (List ℕ)) (ws : List Lexeme) → defines false ws ≡ false → defines false (separated name_words (behind kinds.Period) fs ws) ≡ false
+no_defines_fields : (fs : List (List ℕ)) (ws : List Lexeme) → defines false ws ≡ false → defines false (separated name_words (following kinds.Period) fs ws) ≡ false
 unfolding defines
 no_defines_fields [] ws none = none
 no_defines_fields (f ∷ fs) ws none = refl
 
-pub no_defines : (p : Place) (ps : List Place) (ws : List Lexeme) → defines true (joined place_words (behind kinds.Comma) (p ∷ ps) (Mark kinds.Assign ∷ ws)) ≡ false
+pub no_defines : (p : Place) (ps : List Place) (ws : List Lexeme) → defines true (joined place_words (following kinds.Comma) (p ∷ ps) (Mark kinds.Assign ∷ ws)) ≡ false
 unfolding defines
 no_defines p [] ws = no_defines_fields p.fields (Mark kinds.Assign ∷ ws) refl
-no_defines p (q ∷ ps) ws = no_defines_fields p.fields (Mark kinds.Comma ∷ joined place_words (behind kinds.Comma) (q ∷ ps) (Mark kinds.Assign ∷ ws)) (no_defines q ps ws)
+no_defines p (q ∷ ps) ws = no_defines_fields p.fields (Mark kinds.Comma ∷ joined place_words (following kinds.Comma) (q ∷ ps) (Mark kinds.Assign ∷ ws)) (no_defines q ps ws)
 
 -- ---- values
 
@@ -210,22 +210,22 @@ no_form (MakeSized channel size) ws none = refl
 no_form (Length channel) ws none = refl
 no_form (Capacity channel) ws none = refl
 
-named_none : (literals defining : Bool) (most room : ℕ) (name : List ℕ) (b : Bool) (ws : List Lexeme) → is_builtin name ≡ b → form_of true (Name name ∷ ws) ≡ forms.Other → begins (Name name ∷ ws) ≡ true
-    → led literals defining most room (Name name ∷ ws) ≡ Ok (None, Name name ∷ ws)
+named_none : (literals defining : Bool) (most depth_left : ℕ) (name : List ℕ) (b : Bool) (ws : List Lexeme) → is_builtin name ≡ b → form_of true (Name name ∷ ws) ≡ forms.Other → begins (Name name ∷ ws) ≡ true
+    → led literals defining most depth_left (Name name ∷ ws) ≡ Ok (None, Name name ∷ ws)
 unfolding led formed begins
-named_none literals defining most room name true ws is form begun =
+named_none literals defining most depth_left name true ws is form begun =
     let makes = rw is at begun in
     rw makes refl
-named_none literals defining most room name false ws is form begun = rw (is, plain_makes_none name is, form) refl
+named_none literals defining most depth_left name false ws is form begun = rw (is, plain_makes_none name is, form) refl
 
 -- no other simple statement begins with a value
-pub led_none : (literals defining : Bool) (most room : ℕ) (ws : List Lexeme) → begins ws ≡ true → form_of true ws ≡ forms.Other → led literals defining most room ws ≡ Ok (None, ws)
+pub led_none : (literals defining : Bool) (most depth_left : ℕ) (ws : List Lexeme) → begins ws ≡ true → form_of true ws ≡ forms.Other → led literals defining most depth_left ws ≡ Ok (None, ws)
 unfolding led
-led_none literals defining most room [] begun form = refl
-led_none literals defining most room (Literal value ∷ ws) begun form = refl
-led_none literals defining most room (Text bytes ∷ ws) begun form = refl
-led_none literals defining most room (Mark kind ∷ ws) begun form = refl
-led_none literals defining most room (Name name ∷ ws) begun form = named_none literals defining most room name (is_builtin name) ws refl form begun
+led_none literals defining most depth_left [] begun form = refl
+led_none literals defining most depth_left (Literal value ∷ ws) begun form = refl
+led_none literals defining most depth_left (Text bytes ∷ ws) begun form = refl
+led_none literals defining most depth_left (Mark kind ∷ ws) begun form = refl
+led_none literals defining most depth_left (Name name ∷ ws) begun form = named_none literals defining most depth_left name (is_builtin name) ws refl form begun
 
 -- ---- what begins with an lvalue
 
@@ -240,5 +240,5 @@ pub name_form : (name : List ℕ) (ws : List Lexeme) → is_builtin name ≡ fal
 unfolding begins_name form_of
 name_form name ws plain = rw plain refl
 
-pub form_behind : (p : Place) (ws : List Lexeme) → IsPlace p → place_form (place_words p ws) ≡ form_of false ws
-form_behind p ws is = name_form p.name (separated name_words (behind kinds.Period) p.fields ws) is.0 ∙ fields_form p.fields ws
+pub form_after : (p : Place) (ws : List Lexeme) → IsPlace p → place_form (place_words p ws) ≡ form_of false ws
+form_after p ws is = name_form p.name (separated name_words (following kinds.Period) p.fields ws) is.0 ∙ fields_form p.fields ws

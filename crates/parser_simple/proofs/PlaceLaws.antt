@@ -7,7 +7,7 @@ use Rattle.syntax.specs.Measures.{Entries as EntriesLimit, SelectClauses, entrie
 use Rattle.parser_base.specs.declared.list.Next.{Next}
 use Rattle.parser_base.specs.declared.list.Next.TheVariants.{More, End}
 use Rattle.parser_base.specs.Lexemes.{Lexeme, Literal, Name, Text, Mark}
-use Rattle.parser_base.specs.Spelling.{behind, separated, joined, AreAll, AreSome}
+use Rattle.parser_base.specs.Spelling.{following, separated, joined, AreAll, AreSome}
 use Rattle.parser_base.specs.Reading.{Syntax, TooMany, ◌>>=◌, is_kind, expect, plain_name}
 use Rattle.parser_base.proofs.Marks.{bind_ok, ok_is, kind_is, is_kind_same, expect_is, plain_name_is, plain_name_again}
 use Rattle.parser_base.proofs.ListLaws.{ReadBack, Found, High, Many, Entries, IsReadAgain, Separates, listed_again, all_again, ReadsSoundly, listed_sound, ends_with, goes_on_with, all_of}
@@ -81,11 +81,11 @@ listed_names separator most = record {
   one = plain_name;
   next = separator_next begins_name separator;
   each = name_words;
-  separator = behind separator;
+  separator = following separator;
   ending = λ trailing rest. rest;
   height = λ name. 0;
   longest = λ listing name. 0;
-  room = 0;
+  depth_left = 0;
   most = most;
   IsOne = IsName;
 }
@@ -105,7 +105,7 @@ names_separate separator most rest none = record {
 }
 
 pub names_again : (separator : TokenKind) (most : ℕ) (name : List ℕ) (ns : List (List ℕ)) (rest : List Lexeme) → AreAll IsName (name ∷ ns) → begins_with separator rest ≡ false
-    → ReadBack (names separator most (joined name_words (behind separator) (name ∷ ns) rest)) (name ∷ ns, false) rest 0 0 (λ listing. entries listing (length (name ∷ ns))) most
+    → ReadBack (names separator most (joined name_words (following separator) (name ∷ ns) rest)) (name ∷ ns, false) rest 0 0 (λ listing. entries listing (length (name ∷ ns))) most
 names_again separator most name ns rest all none =
     let l = listed_names separator most in
     let each = all_again IsName (IsReadAgain l Anything) (name_again separator most) (name ∷ ns) all in
@@ -123,7 +123,7 @@ names_soundly separator most = record {
 }
 
 pub record AreNames (separator : TokenKind) (most : ℕ) (ws : List Lexeme) (ns : List (List ℕ)) (rest : List Lexeme) : Type 0 where
-  pub parts : ws ≡ joined name_words (behind separator) ns rest
+  pub parts : ws ≡ joined name_words (following separator) ns rest
   pub are : AreSome IsName ns
   pub count : length ns ≤ most
 
@@ -146,11 +146,11 @@ unfolding fields
 no_fields rest none = rw none refl
 
 some_fields : (field : List ℕ) (fs : List (List ℕ)) (rest : List Lexeme) → AreAll IsName (field ∷ fs) → begins_with kinds.Period rest ≡ false
-    → fields (separated name_words (behind kinds.Period) (field ∷ fs) rest) ≡ Ok (field ∷ fs, rest)
+    → fields (separated name_words (following kinds.Period) (field ∷ fs) rest) ≡ Ok (field ∷ fs, rest)
 unfolding fields begins_with expect
 some_fields field fs rest all none =
-    let first = joined name_words (behind kinds.Period) (field ∷ fs) rest in
-    let enough = length_separated name_words (behind kinds.Period) fs rest (λ x ws. omega arith) (λ ws. omega arith) in
+    let first = joined name_words (following kinds.Period) (field ∷ fs) rest in
+    let enough = length_separated name_words (following kinds.Period) fs rest (λ x ws. omega arith) (λ ws. omega arith) in
     elim (names_again kinds.Period (length first) field fs rest all none) [
       | Found low few e ↦ rw e refl
       | High high e ↦ absurd (omega (arith, high))
@@ -158,24 +158,24 @@ some_fields field fs rest all none =
       | Many SelectClauses many e ↦ absurd (omega (arith, many))
     ]
 
-fields_again : (fs : List (List ℕ)) (rest : List Lexeme) → AreAll IsName fs → begins_with kinds.Period rest ≡ false → fields (separated name_words (behind kinds.Period) fs rest) ≡ Ok (fs, rest)
+fields_again : (fs : List (List ℕ)) (rest : List Lexeme) → AreAll IsName fs → begins_with kinds.Period rest ≡ false → fields (separated name_words (following kinds.Period) fs rest) ≡ Ok (fs, rest)
 fields_again [] rest all none = no_fields rest none
 fields_again (field ∷ fs) rest all none = some_fields field fs rest all none
 
 pub place_again : (p : Place) (rest : List Lexeme) → IsPlace p → begins_with kinds.Period rest ≡ false → place (place_words p rest) ≡ Ok (p, rest)
 unfolding place
-place_again p rest is none = rw (plain_name_again p.name (separated name_words (behind kinds.Period) p.fields rest) is.0, fields_again p.fields rest is.1 none) refl
+place_again p rest is none = rw (plain_name_again p.name (separated name_words (following kinds.Period) p.fields rest) is.0, fields_again p.fields rest is.1 none) refl
 
 abbrev listed_places : (most : ℕ) → Entries Place
 listed_places most = record {
   one = place;
   next = separator_next begins_name kinds.Comma;
   each = place_words;
-  separator = behind kinds.Comma;
+  separator = following kinds.Comma;
   ending = λ trailing rest. rest;
   height = λ p. 0;
   longest = λ listing p. 0;
-  room = 0;
+  depth_left = 0;
   most = most;
   IsOne = IsPlace;
 }
@@ -187,13 +187,13 @@ places_separate : (most : ℕ) (rest : List Lexeme) → NoField rest → begins_
 unfolding begins_with
 places_separate most rest no_field none = record {
   separator = λ p words one. refl;
-  more = λ p words one. separator_again begins_name kinds.Comma (place_words p words) (name_begins p.name (separated name_words (behind kinds.Period) p.fields words) one.0);
+  more = λ p words one. separator_again begins_name kinds.Comma (place_words p words) (name_begins p.name (separated name_words (following kinds.Period) p.fields words) one.0);
   ending = no_field;
   end = no_separator begins_name kinds.Comma rest none;
 }
 
 pub places_again : (most : ℕ) (p : Place) (ps : List Place) (rest : List Lexeme) → AreAll IsPlace (p ∷ ps) → begins_with kinds.Period rest ≡ false → begins_with kinds.Comma rest ≡ false
-    → ReadBack (places most (joined place_words (behind kinds.Comma) (p ∷ ps) rest)) (p ∷ ps, false) rest 0 0 (λ listing. entries listing (length (p ∷ ps))) most
+    → ReadBack (places most (joined place_words (following kinds.Comma) (p ∷ ps) rest)) (p ∷ ps, false) rest 0 0 (λ listing. entries listing (length (p ∷ ps))) most
 places_again most p ps rest all no_field none =
     let l = listed_places most in
     let again : (x : Place) → IsPlace x → IsReadAgain l NoField x = λ x is after ends. Found (omega arith) (λ listing. omega arith) (place_again x after is ends) in
@@ -208,12 +208,12 @@ places_again most p ps rest all no_field none =
 abbrev pub with_rest : {A : Type 0} → A → List Lexeme → A × List Lexeme
 with_rest x rest = (x, rest)
 
-separated_some : (ns : List (List ℕ)) (rest : List Lexeme) → AreSome IsName ns → Mark kinds.Period ∷ joined name_words (behind kinds.Period) ns rest ≡ separated name_words (behind kinds.Period) ns rest
+separated_some : (ns : List (List ℕ)) (rest : List Lexeme) → AreSome IsName ns → Mark kinds.Period ∷ joined name_words (following kinds.Period) ns rest ≡ separated name_words (following kinds.Period) ns rest
 separated_some [] rest some = absurd some
 separated_some (n ∷ ns) rest some = refl
 
 record AreFields (ws : List Lexeme) (fs : List (List ℕ)) (rest : List Lexeme) : Type 0 where
-  parts : ws ≡ separated name_words (behind kinds.Period) fs rest
+  parts : ws ≡ separated name_words (following kinds.Period) fs rest
   are : AreAll IsName fs
 
 either_fields : (b : Bool) (ws : List Lexeme) (fs : List (List ℕ)) (rest : List Lexeme)
@@ -244,7 +244,7 @@ place_sound ws p rest e =
     (n.0 ∙ ap (λ (x : List Lexeme). Name a.0.0 ∷ x) f.parts, (n.1, f.are))
 
 pub record ArePlaces (most : ℕ) (ws : List Lexeme) (ps : List Place) (rest : List Lexeme) : Type 0 where
-  pub parts : ws ≡ joined place_words (behind kinds.Comma) ps rest
+  pub parts : ws ≡ joined place_words (following kinds.Comma) ps rest
   pub are : AreSome IsPlace ps
   pub count : length ps ≤ most
 

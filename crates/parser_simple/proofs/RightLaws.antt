@@ -5,7 +5,7 @@ use Rattle.syntax.specs.declared.node.UnaryOperator.TheVariants as unaries
 use Rattle.syntax.specs.Tree.{Expression, Integer, Named, Parenthesized, Selection, Composite, Unary, Binary, Call, Receive, Make, MakeSized, Length, Capacity, Arguments}
 use Rattle.syntax.specs.Measures.{Entries as EntriesLimit, entries, highest, expression_height, expression_longest, arguments_height, arguments_longest, list_longest}
 use Rattle.parser_base.specs.Lexemes.{Lexeme, Name, Mark}
-use Rattle.parser_base.specs.Spelling.{behind, joined, before, AreAll, expression_words, outer_precedence, IsGrouped}
+use Rattle.parser_base.specs.Spelling.{following, joined, before, AreAll, expression_words, outer_precedence, IsGrouped}
 use Rattle.parser_base.specs.Reading.{Syntax, TooMany, Reading, ◌>>=◌, expect, step_at, begins, expression, values, argument}
 use Rattle.parser_base.proofs.Marks.{bind_ok, when_ok, expect_is}
 use Rattle.parser_base.proofs.ListLaws.{ReadBack, High, entries-le, Entries, IsReadAgain, Separates, listed_again, all_again, ReadsSoundly, listed_sound}
@@ -35,12 +35,12 @@ ends_at literals least rest ends = record { none = none_above 0 least rest (omeg
 
 -- ---- values and operands
 
-abbrev pub ExpressionOutcome : (literals : Bool) (most room : ℕ) → Reading Expression → Expression → List Lexeme → Type 0
-ExpressionOutcome literals most room read e rest = ReadBack read e rest (expression_height e) room (λ listing. expression_longest listing e) most
+abbrev pub ExpressionOutcome : (literals : Bool) (most depth_left : ℕ) → Reading Expression → Expression → List Lexeme → Type 0
+ExpressionOutcome literals most depth_left read e rest = ReadBack read e rest (expression_height e) depth_left (λ listing. expression_longest listing e) most
 
-pub value_again : (literals : Bool) (most room : ℕ) (e : Expression) (rest : List Lexeme) → IsGrouped literals e → EndsExpression literals rest
-    → ExpressionOutcome literals most room (expression literals most room 0 (before e rest)) e rest
-value_again literals most room e rest is ends = reads literals most e is room 0 rest (omega arith) ends.none ends.shut
+pub value_again : (literals : Bool) (most depth_left : ℕ) (e : Expression) (rest : List Lexeme) → IsGrouped literals e → EndsExpression literals rest
+    → ExpressionOutcome literals most depth_left (expression literals most depth_left 0 (before e rest)) e rest
+value_again literals most depth_left e rest is ends = reads literals most e is depth_left 0 rest (omega arith) ends.none ends.shut
 
 pub begins_primary_again : (literals : Bool) (e : Expression) (rest : List Lexeme) → IsPrimary literals e → begins_primary (before e rest) ≡ true
 unfolding begins_primary
@@ -59,88 +59,88 @@ begins_primary_again literals (MakeSized channel size) rest is = refl
 begins_primary_again literals (Length channel) rest is = refl
 begins_primary_again literals (Capacity channel) rest is = refl
 
-pub primary_again : (literals : Bool) (most room : ℕ) (e : Expression) (rest : List Lexeme) → IsPrimary literals e → EndsExpression literals rest
-    → ExpressionOutcome literals most room (primary literals most room (before e rest)) e rest
+pub primary_again : (literals : Bool) (most depth_left : ℕ) (e : Expression) (rest : List Lexeme) → IsPrimary literals e → EndsExpression literals rest
+    → ExpressionOutcome literals most depth_left (primary literals most depth_left (before e rest)) e rest
 unfolding primary
-primary_again literals most room e rest is ends =
-    rw (begins_primary_again literals e rest is) (reads literals most e is.0 room 7 rest (omega (arith, is.1)) (none_above 0 7 rest (omega arith) ends.none) ends.shut)
+primary_again literals most depth_left e rest is ends =
+    rw (begins_primary_again literals e rest is) (reads literals most e is.0 depth_left 7 rest (omega (arith, is.1)) (none_above 0 7 rest (omega arith) ends.none) ends.shut)
 
-pub received_again : (literals : Bool) (most room : ℕ) (e : Expression) (rest : List Lexeme) → IsUnary literals e → EndsAt literals 6 rest
-    → ExpressionOutcome literals most room (received literals most room (Mark kinds.Arrow ∷ before e rest)) e rest
+pub received_again : (literals : Bool) (most depth_left : ℕ) (e : Expression) (rest : List Lexeme) → IsUnary literals e → EndsAt literals 6 rest
+    → ExpressionOutcome literals most depth_left (received literals most depth_left (Mark kinds.Arrow ∷ before e rest)) e rest
 unfolding expect
-received_again literals most room e rest is ends = reads literals most e is.0 room 6 rest is.1 ends.none ends.is_shut
+received_again literals most depth_left e rest is ends = reads literals most e is.0 depth_left 6 rest is.1 ends.none ends.is_shut
 
-pub arguments_again : (literals : Bool) (most room : ℕ) (all : Arguments) (rest : List Lexeme) → AreArguments literals all
-    → ReadBack (arguments literals most room (arguments_words all rest)) all rest (arguments_height all) room (λ listing. arguments_longest listing all) most
+pub arguments_again : (literals : Bool) (most depth_left : ℕ) (all : Arguments) (rest : List Lexeme) → AreArguments literals all
+    → ReadBack (arguments literals most depth_left (arguments_words all rest)) all rest (arguments_height all) depth_left (λ listing. arguments_longest listing all) most
 unfolding arguments expect
-arguments_again literals most room all rest are =
+arguments_again literals most depth_left all rest are =
     let each = all_again (IsGrouped literals) _ (λ e is. reads literals most e is) all.values are.0 in
     made_again (λ (found : List Expression × Bool). passed found.0 found.1)
-    (values_again literals most room kinds.RightParenthesis all.values all.trailing rest parenthesis_closes are.0 each are.1) (λ high. high) (λ low. low) (λ listing. refl)
+    (values_again literals most depth_left kinds.RightParenthesis all.values all.trailing rest parenthesis_closes are.0 each are.1) (λ high. high) (λ low. low) (λ listing. refl)
 
-pub argument_again : (literals : Bool) (most room : ℕ) (e : Expression) (rest : List Lexeme) → IsGrouped literals e
-    → ExpressionOutcome literals most room (argument (expression literals most room) (Mark kinds.LeftParenthesis ∷ before e (Mark kinds.RightParenthesis ∷ rest))) e rest
-argument_again literals most room e rest is = parenthesized_again literals most room e rest (reads literals most e is)
+pub argument_again : (literals : Bool) (most depth_left : ℕ) (e : Expression) (rest : List Lexeme) → IsGrouped literals e
+    → ExpressionOutcome literals most depth_left (argument (expression literals most depth_left) (Mark kinds.LeftParenthesis ∷ before e (Mark kinds.RightParenthesis ∷ rest))) e rest
+argument_again literals most depth_left e rest is = parenthesized_again literals most depth_left e rest (reads literals most e is)
 
 -- ---- values with commas
 
-abbrev pub right_values : (literals : Bool) (most room : ℕ) → Entries Expression
-right_values literals most room = record {
-  one = expression literals most room 0;
+abbrev pub right_values : (literals : Bool) (most depth_left : ℕ) → Entries Expression
+right_values literals most depth_left = record {
+  one = expression literals most depth_left 0;
   next = separator_next begins kinds.Comma;
   each = before;
-  separator = behind kinds.Comma;
+  separator = following kinds.Comma;
   ending = λ trailing rest. rest;
   height = expression_height;
   longest = expression_longest;
-  room = room;
+  depth_left = depth_left;
   most = most;
   IsOne = IsGrouped literals;
 }
 
-values_separate : (literals : Bool) (most room : ℕ) (rest : List Lexeme) → Stops literals rest → Separates (right_values literals most room) (EndsExpression literals) false rest
-values_separate literals most room rest stops = record {
+values_separate : (literals : Bool) (most depth_left : ℕ) (rest : List Lexeme) → Stops literals rest → Separates (right_values literals most depth_left) (EndsExpression literals) false rest
+values_separate literals most depth_left rest stops = record {
   separator = λ e words one. comma_ends literals (before e words);
   more = λ e words one. separator_again begins kinds.Comma (before e words) (begins_again literals e words one);
   ending = stops.ends;
   end = no_separator begins kinds.Comma rest stops.comma;
 }
 
-value_list_again : (literals : Bool) (most room : ℕ) (v : Expression) (vs : List Expression) (rest : List Lexeme) → AreAll (IsGrouped literals) (v ∷ vs) → Stops literals rest
-    → ReadBack (value_list literals most room (joined before (behind kinds.Comma) (v ∷ vs) rest)) (v ∷ vs, false) rest (highest expression_height (v ∷ vs)) room
+value_list_again : (literals : Bool) (most depth_left : ℕ) (v : Expression) (vs : List Expression) (rest : List Lexeme) → AreAll (IsGrouped literals) (v ∷ vs) → Stops literals rest
+    → ReadBack (value_list literals most depth_left (joined before (following kinds.Comma) (v ∷ vs) rest)) (v ∷ vs, false) rest (highest expression_height (v ∷ vs)) depth_left
     (λ listing. max (entries listing (length (v ∷ vs))) (highest (expression_longest listing) (v ∷ vs))) most
-value_list_again literals most room v vs rest all stops =
-    let l = right_values literals most room in
-    let each = all_again (IsGrouped literals) (IsReadAgain l (EndsExpression literals)) (λ e is after ends. value_again literals most room e after is ends) (v ∷ vs) all in
-    listed_outcome (listed_again l (EndsExpression literals) false rest (TooMany EntriesLimit) (values_separate literals most room rest stops) vs most v all each)
+value_list_again literals most depth_left v vs rest all stops =
+    let l = right_values literals most depth_left in
+    let each = all_again (IsGrouped literals) (IsReadAgain l (EndsExpression literals)) (λ e is after ends. value_again literals most depth_left e after is ends) (v ∷ vs) all in
+    listed_outcome (listed_again l (EndsExpression literals) false rest (TooMany EntriesLimit) (values_separate literals most depth_left rest stops) vs most v all each)
 
 pub right_positive : (literals : Bool) (vs : List Expression) → IsRight literals vs → 1 ≤ highest expression_height vs
 right_positive literals [] is = absurd is
 right_positive literals (v ∷ vs) is = omega (arith, height_positive v)
 
-pub right_again : (literals : Bool) (most room : ℕ) (vs : List Expression) (rest : List Lexeme) → IsRight literals vs → Stops literals rest
-    → ReadBack (right literals most room (right_words vs rest)) vs rest (highest expression_height vs) room (λ listing. list_longest expression_longest listing vs) most
+pub right_again : (literals : Bool) (most depth_left : ℕ) (vs : List Expression) (rest : List Lexeme) → IsRight literals vs → Stops literals rest
+    → ReadBack (right literals most depth_left (right_words vs rest)) vs rest (highest expression_height vs) depth_left (λ listing. list_longest expression_longest listing vs) most
 unfolding right
 right_again literals most zero vs rest is stops = High (right_positive literals vs is) refl
-right_again literals most (suc room) [] rest is stops = absurd is
-right_again literals most (suc room) (v ∷ vs) rest is stops =
-    made_again (λ (found : List Expression × Bool). found.0) (value_list_again literals most (suc room) v vs rest is stops) (λ high. high) (λ low. low) (λ listing. refl)
+right_again literals most (suc depth_left) [] rest is stops = absurd is
+right_again literals most (suc depth_left) (v ∷ vs) rest is stops =
+    made_again (λ (found : List Expression × Bool). found.0) (value_list_again literals most (suc depth_left) v vs rest is stops) (λ high. high) (λ low. low) (λ listing. refl)
 
 -- ---- what is read is spelt so
 
-abbrev pub ExpressionSound : (literals : Bool) (most room : ℕ) → List Lexeme → Expression → List Lexeme → Type 0
-ExpressionSound literals most room = Sound before (IsGrouped literals) expression_height room expression_longest most
+abbrev pub ExpressionSound : (literals : Bool) (most depth_left : ℕ) → List Lexeme → Expression → List Lexeme → Type 0
+ExpressionSound literals most depth_left = Sound before (IsGrouped literals) expression_height depth_left expression_longest most
 
-pub value_sound : (literals : Bool) (most room : ℕ) (ws : List Lexeme) (e : Expression) (rest : List Lexeme) → expression literals most room 0 ws ≡ gave e rest → ExpressionSound literals most room ws e rest
-value_sound literals most room ws e rest is =
-    let s = expression_sound literals most room 0 ws e rest is in
+pub value_sound : (literals : Bool) (most depth_left : ℕ) (ws : List Lexeme) (e : Expression) (rest : List Lexeme) → expression literals most depth_left 0 ws ≡ gave e rest → ExpressionSound literals most depth_left ws e rest
+value_sound literals most depth_left ws e rest is =
+    let s = expression_sound literals most depth_left 0 ws e rest is in
     record { parts = s.parts; is = s.grouped; low = s.low; few = s.few }
 
-abbrev pub PrimarySound : (literals : Bool) (most room : ℕ) → List Lexeme → Expression → List Lexeme → Type 0
-PrimarySound literals most room = Sound before (IsPrimary literals) expression_height room expression_longest most
+abbrev pub PrimarySound : (literals : Bool) (most depth_left : ℕ) → List Lexeme → Expression → List Lexeme → Type 0
+PrimarySound literals most depth_left = Sound before (IsPrimary literals) expression_height depth_left expression_longest most
 
-abbrev pub UnarySound : (literals : Bool) (most room : ℕ) → List Lexeme → Expression → List Lexeme → Type 0
-UnarySound literals most room = Sound (λ e rest. Mark kinds.Arrow ∷ before e rest) (IsUnary literals) expression_height room expression_longest most
+abbrev pub UnarySound : (literals : Bool) (most depth_left : ℕ) → List Lexeme → Expression → List Lexeme → Type 0
+UnarySound literals most depth_left = Sound (λ e rest. Mark kinds.Arrow ∷ before e rest) (IsUnary literals) expression_height depth_left expression_longest most
 
 -- what begins as an operand, and is no binary operation, has no operation but selections
 pub primary_is : (literals : Bool) (e : Expression) (rest : List Lexeme) → IsGrouped literals e → 6 ≤ outer_precedence e → begins_primary (before e rest) ≡ true → outer_precedence e ≡ 7
@@ -162,32 +162,32 @@ primary_is literals (MakeSized channel size) rest g strong is = refl
 primary_is literals (Length channel) rest g strong is = refl
 primary_is literals (Capacity channel) rest g strong is = refl
 
-pub primary_sound : (literals : Bool) (most room : ℕ) (ws : List Lexeme) (e : Expression) (rest : List Lexeme) → primary literals most room ws ≡ gave e rest → PrimarySound literals most room ws e rest
+pub primary_sound : (literals : Bool) (most depth_left : ℕ) (ws : List Lexeme) (e : Expression) (rest : List Lexeme) → primary literals most depth_left ws ≡ gave e rest → PrimarySound literals most depth_left ws e rest
 unfolding primary
-primary_sound literals most room ws e rest is =
-    let w = when_ok (begins_primary ws) Syntax (expression literals most room 7 ws) (e, rest) is in
-    let s = expression_sound literals most room 7 ws e rest w.1 in
+primary_sound literals most depth_left ws e rest is =
+    let w = when_ok (begins_primary ws) Syntax (expression literals most depth_left 7 ws) (e, rest) is in
+    let s = expression_sound literals most depth_left 7 ws e rest w.1 in
     record { parts = s.parts; is = (s.grouped, primary_is literals e rest s.grouped (omega (arith, s.strong)) (sym (ap begins_primary s.parts) ∙ w.0)); low = s.low; few = s.few }
 
-pub received_sound : (literals : Bool) (most room : ℕ) (ws : List Lexeme) (e : Expression) (rest : List Lexeme) → received literals most room ws ≡ gave e rest → UnarySound literals most room ws e rest
-received_sound literals most room ws e rest is =
-    let a = bind_ok (expect kinds.Arrow ws) (expression literals most room 6) (e, rest) is in
-    let s = expression_sound literals most room 6 a.0 e rest a.2 in
+pub received_sound : (literals : Bool) (most depth_left : ℕ) (ws : List Lexeme) (e : Expression) (rest : List Lexeme) → received literals most depth_left ws ≡ gave e rest → UnarySound literals most depth_left ws e rest
+received_sound literals most depth_left ws e rest is =
+    let a = bind_ok (expect kinds.Arrow ws) (expression literals most depth_left 6) (e, rest) is in
+    let s = expression_sound literals most depth_left 6 a.0 e rest a.2 in
     record { parts = expect_is kinds.Arrow ws a.0 a.1 ∙ ap (λ (x : List Lexeme). Mark kinds.Arrow ∷ x) s.parts; is = (s.grouped, omega (arith, s.strong)); low = s.low; few = s.few }
 
-abbrev pub ArgumentsSound : (literals : Bool) (most room : ℕ) → List Lexeme → Arguments → List Lexeme → Type 0
-ArgumentsSound literals most room = Sound arguments_words (AreArguments literals) arguments_height room arguments_longest most
+abbrev pub ArgumentsSound : (literals : Bool) (most depth_left : ℕ) → List Lexeme → Arguments → List Lexeme → Type 0
+ArgumentsSound literals most depth_left = Sound arguments_words (AreArguments literals) arguments_height depth_left arguments_longest most
 
 abbrev arguments_of : List Expression × Bool → Arguments
 arguments_of all = passed all.0 all.1
 
-pub arguments_sound : (literals : Bool) (most room : ℕ) (ws : List Lexeme) (all : Arguments) (rest : List Lexeme) → arguments literals most room ws ≡ gave all rest → ArgumentsSound literals most room ws all rest
+pub arguments_sound : (literals : Bool) (most depth_left : ℕ) (ws : List Lexeme) (all : Arguments) (rest : List Lexeme) → arguments literals most depth_left ws ≡ gave all rest → ArgumentsSound literals most depth_left ws all rest
 unfolding arguments
-arguments_sound literals most room ws all rest e =
-    let a = bind_ok (expect kinds.LeftParenthesis ws) (λ inside. values (expression literals most room) kinds.RightParenthesis most inside >>= λ found. gave (arguments_of found.0) found.1) (all, rest) e in
-    let b = made_is arguments_of (values (expression literals most room) kinds.RightParenthesis most a.0) all rest a.2 in
-    let v = values_sound literals most room kinds.RightParenthesis (expression literals most room) (expression_sound literals most room) a.0 b.0.0 b.0.1 rest b.1 in
-    subst (λ (x : Arguments). ArgumentsSound literals most room ws x rest) b.2 (record {
+arguments_sound literals most depth_left ws all rest e =
+    let a = bind_ok (expect kinds.LeftParenthesis ws) (λ inside. values (expression literals most depth_left) kinds.RightParenthesis most inside >>= λ found. gave (arguments_of found.0) found.1) (all, rest) e in
+    let b = made_is arguments_of (values (expression literals most depth_left) kinds.RightParenthesis most a.0) all rest a.2 in
+    let v = values_sound literals most depth_left kinds.RightParenthesis (expression literals most depth_left) (expression_sound literals most depth_left) a.0 b.0.0 b.0.1 rest b.1 in
+    subst (λ (x : Arguments). ArgumentsSound literals most depth_left ws x rest) b.2 (record {
       parts = expect_is kinds.LeftParenthesis ws a.0 a.1 ∙ ap (λ (x : List Lexeme). Mark kinds.LeftParenthesis ∷ x) v.parts;
       is = (v.are, v.last);
       low = v.low;
@@ -198,33 +198,33 @@ arguments_sound literals most room ws all rest e =
 abbrev pub enclosed : Expression → List Lexeme → List Lexeme
 enclosed e rest = Mark kinds.LeftParenthesis ∷ before e (Mark kinds.RightParenthesis ∷ rest)
 
-pub argument_sound : (literals : Bool) (most room : ℕ) (ws : List Lexeme) (e : Expression) (rest : List Lexeme) → argument (expression literals most room) ws ≡ gave e rest → Sound enclosed (IsGrouped literals) expression_height room expression_longest most ws e rest
-argument_sound literals most room ws e rest is =
-    let a = parenthesized_sound literals most (expression literals most room) room (expression_sound literals most room) ws e rest is in
+pub argument_sound : (literals : Bool) (most depth_left : ℕ) (ws : List Lexeme) (e : Expression) (rest : List Lexeme) → argument (expression literals most depth_left) ws ≡ gave e rest → Sound enclosed (IsGrouped literals) expression_height depth_left expression_longest most ws e rest
+argument_sound literals most depth_left ws e rest is =
+    let a = parenthesized_sound literals most (expression literals most depth_left) depth_left (expression_sound literals most depth_left) ws e rest is in
     record { parts = a.0; is = a.1; low = a.2; few = a.3 }
 
 -- ---- right sides
 
-values_soundly : (literals : Bool) (most room : ℕ) → ReadsSoundly (right_values literals most room)
-values_soundly literals most room = record {
-  one = λ ws e rest is. let s = value_sound literals most room ws e rest is in record { parts = s.parts; is = s.is; low = s.low; few = s.few };
+values_soundly : (literals : Bool) (most depth_left : ℕ) → ReadsSoundly (right_values literals most depth_left)
+values_soundly literals most depth_left = record {
+  one = λ ws e rest is. let s = value_sound literals most depth_left ws e rest is in record { parts = s.parts; is = s.is; low = s.low; few = s.few };
   more = separator_more_sound begins kinds.Comma;
   end = λ ws trailing rest e. separator_end_sound begins kinds.Comma ws trailing rest e;
 }
 
-abbrev pub RightSound : (literals : Bool) (most room : ℕ) → List Lexeme → List Expression → List Lexeme → Type 0
-RightSound literals most room = Sound right_words (IsRight literals) (highest expression_height) room (list_longest expression_longest) most
+abbrev pub RightSound : (literals : Bool) (most depth_left : ℕ) → List Lexeme → List Expression → List Lexeme → Type 0
+RightSound literals most depth_left = Sound right_words (IsRight literals) (highest expression_height) depth_left (list_longest expression_longest) most
 
 abbrev values_of : List Expression × Bool → List Expression
 values_of all = all.0
 
-pub right_sound : (literals : Bool) (most room : ℕ) (ws : List Lexeme) (vs : List Expression) (rest : List Lexeme) → right literals most room ws ≡ gave vs rest → RightSound literals most room ws vs rest
+pub right_sound : (literals : Bool) (most depth_left : ℕ) (ws : List Lexeme) (vs : List Expression) (rest : List Lexeme) → right literals most depth_left ws ≡ gave vs rest → RightSound literals most depth_left ws vs rest
 unfolding right
 right_sound literals most zero ws vs rest e = absurd cc
-right_sound literals most (suc room) ws vs rest e =
-    let a = made_is values_of (value_list literals most (suc room) ws) vs rest e in
-    let s = listed_sound (right_values literals most (suc room)) (TooMany EntriesLimit) (values_soundly literals most (suc room)) most ws (a.0, rest) a.1 in
-    subst (λ (x : List Expression). RightSound literals most (suc room) ws x rest) a.2 (record {
+right_sound literals most (suc depth_left) ws vs rest e =
+    let a = made_is values_of (value_list literals most (suc depth_left) ws) vs rest e in
+    let s = listed_sound (right_values literals most (suc depth_left)) (TooMany EntriesLimit) (values_soundly literals most (suc depth_left)) most ws (a.0, rest) a.1 in
+    subst (λ (x : List Expression). RightSound literals most (suc depth_left) ws x rest) a.2 (record {
       parts = s.parts;
       is = s.are;
       low = s.low;

@@ -6,7 +6,7 @@ use Rattle.scanner.specs.declared.kind.TokenKind.TheVariants as kinds
 use Rattle.syntax.specs.Tree.{Expression, Arguments, Place, Part, Value, Text as TextPart, Simple, CallAlone, Close, Print, ReceiveAlone, Send, Increment, Decrement, Assign, Define, Update}
 use Rattle.syntax.specs.Measures.{expression_size, arguments_size, part_size, simple_size}
 use Rattle.parser_base.specs.Lexemes.{Lexeme, Mark}
-use Rattle.parser_base.specs.Spelling.{behind, separated, joined, closing, before, expression_words}
+use Rattle.parser_base.specs.Spelling.{following, separated, joined, closing, before, expression_words}
 use Rattle.parser_base.proofs.Sizes.{expression_size-le}
 use Rattle.parser_simple.specs.Spelling.{name_words, place_words, arguments_words, right_words, part_words, update_kind, simple_words}
 
@@ -17,16 +17,16 @@ value_size e rest = omega (arith, expression_size-le e, length-append (expressio
 
 -- what is counted in a list is not more than its words
 pub separated_size : {A : Type 0} (count : A → ℕ) (each : A → List Lexeme → List Lexeme) (separator : TokenKind) (xs : List A) (rest : List Lexeme) → ((x : A) (ws : List Lexeme) → count x + length ws ≤ length (each x ws))
-    → sum_by count xs + length rest ≤ length (separated each (behind separator) xs rest)
+    → sum_by count xs + length rest ≤ length (separated each (following separator) xs rest)
 separated_size count each separator [] rest grows = omega arith
 separated_size count each separator (x ∷ xs) rest grows =
-    omega (arith, sum_by-cons count x xs, separated_size count each separator xs rest grows, grows x (separated each (behind separator) xs rest))
+    omega (arith, sum_by-cons count x xs, separated_size count each separator xs rest grows, grows x (separated each (following separator) xs rest))
 
 joined_size : {A : Type 0} (count : A → ℕ) (each : A → List Lexeme → List Lexeme) (separator : TokenKind) (xs : List A) (rest : List Lexeme) → ((x : A) (ws : List Lexeme) → count x + length ws ≤ length (each x ws))
-    → sum_by count xs + length rest ≤ length (joined each (behind separator) xs rest)
+    → sum_by count xs + length rest ≤ length (joined each (following separator) xs rest)
 joined_size count each separator [] rest grows = omega arith
 joined_size count each separator (x ∷ xs) rest grows =
-    omega (arith, sum_by-cons count x xs, separated_size count each separator xs rest grows, grows x (separated each (behind separator) xs rest))
+    omega (arith, sum_by-cons count x xs, separated_size count each separator xs rest grows, grows x (separated each (following separator) xs rest))
 
 pub closing_size : (separator close : TokenKind) (trailing : Bool) (rest : List Lexeme) → length rest < length (closing separator close trailing rest)
 closing_size separator close true rest = omega arith
@@ -44,22 +44,22 @@ right_grows vs rest = joined_size expression_size before kinds.Comma vs rest val
 
 -- ---- simple statements
 
-pub names_grow : (ns : List (List ℕ)) (rest : List Lexeme) → length rest ≤ length (joined name_words (behind kinds.Comma) ns rest)
+pub names_grow : (ns : List (List ℕ)) (rest : List Lexeme) → length rest ≤ length (joined name_words (following kinds.Comma) ns rest)
 names_grow ns rest = omega (arith, joined_size (λ (n : List ℕ). 0) name_words kinds.Comma ns rest (λ n ws. omega arith))
 
-fields_grow : (fs : List (List ℕ)) (rest : List Lexeme) → length rest ≤ length (separated name_words (behind kinds.Period) fs rest)
+fields_grow : (fs : List (List ℕ)) (rest : List Lexeme) → length rest ≤ length (separated name_words (following kinds.Period) fs rest)
 fields_grow fs rest = omega (arith, separated_size (λ (n : List ℕ). 0) name_words kinds.Period fs rest (λ n ws. omega arith))
 
 pub place_grows : (p : Place) (rest : List Lexeme) → length rest < length (place_words p rest)
 place_grows p rest = omega (arith, fields_grow p.fields rest)
 
-more_places : (ps : List Place) (rest : List Lexeme) → length ps + length rest ≤ length (separated place_words (behind kinds.Comma) ps rest)
+more_places : (ps : List Place) (rest : List Lexeme) → length ps + length rest ≤ length (separated place_words (following kinds.Comma) ps rest)
 more_places [] rest = omega arith
-more_places (p ∷ ps) rest = omega (arith, more_places ps rest, place_grows p (separated place_words (behind kinds.Comma) ps rest))
+more_places (p ∷ ps) rest = omega (arith, more_places ps rest, place_grows p (separated place_words (following kinds.Comma) ps rest))
 
-places_grow : (ps : List Place) (rest : List Lexeme) → length ps + length rest ≤ length (joined place_words (behind kinds.Comma) ps rest)
+places_grow : (ps : List Place) (rest : List Lexeme) → length ps + length rest ≤ length (joined place_words (following kinds.Comma) ps rest)
 places_grow [] rest = omega arith
-places_grow (p ∷ ps) rest = omega (arith, more_places ps rest, place_grows p (separated place_words (behind kinds.Comma) ps rest))
+places_grow (p ∷ ps) rest = omega (arith, more_places ps rest, place_grows p (separated place_words (following kinds.Comma) ps rest))
 
 part_grows : (p : Part) (rest : List Lexeme) → part_size p + length rest ≤ length (part_words p rest)
 part_grows (Value v) rest = value_size v rest

@@ -17,8 +17,8 @@ use Rattle.parser_simple.specs.declared.form.Form.TheVariants as forms
 use Rattle.parser_simple.specs.Spelling.{update_kind}
 
 -- what follows a mark that is required here
-abbrev pub behind_mark : {A : Type 0} → TokenKind → (List Lexeme → Reading A) → List Lexeme → Reading A
-behind_mark kind one words = expect kind words >>= one
+abbrev pub after_mark : {A : Type 0} → TokenKind → (List Lexeme → Reading A) → List Lexeme → Reading A
+after_mark kind one words = expect kind words >>= one
 
 -- this mark comes next
 unfoldable pub begins_with : TokenKind → List Lexeme → Bool
@@ -121,22 +121,22 @@ goes_on header literals alone kinds.LeftParenthesis = alone
 goes_on header literals alone kinds.LeftBrace = header || (literals && alone)
 goes_on header literals alone kind = header && is_operator (binary_of kind)
 
--- why `height` levels are refused, if they are more than `room`, by whether they `go` on as a value
-abbrev pub within : (height room : ℕ) → (goes : Bool) → Result (Unit {0}) Refusal
-within height room goes = if nat_le height room then Ok tt else (if goes then Err TooDeep else Err Syntax)
+-- why `height` levels are refused, if they are more than `depth_left`, by whether they `go` on as a value
+abbrev pub within : (height depth_left : ℕ) → (goes : Bool) → Result (Unit {0}) Refusal
+within height depth_left goes = if nat_le height depth_left then Ok tt else (if goes then Err TooDeep else Err Syntax)
 
 -- like `within` if no value goes on; after a period, when a name must come next, no level is allowed
-abbrev pub stopped : (named : Bool) → (height room : ℕ) → Result (Unit {0}) Refusal
-stopped named height room = within height (if named then 0 else room) false
+abbrev pub stopped : (named : Bool) → (height depth_left : ℕ) → Result (Unit {0}) Refusal
+stopped named height depth_left = within height (if named then 0 else depth_left) false
 
 -- why a name or a selection at the front is refused, if it is too high as a value: only what follows shows that it is no lvalue. `height`
 -- names of it were read before, and one comes next if `named` holds
-unfoldable pub fits : (header literals named : Bool) → (height room : ℕ) → List Lexeme → Result (Unit {0}) Refusal
-fits header literals true height room (Name name ∷ rest) = if is_builtin name then stopped true height room else fits header literals false (height + 1) room rest
-fits header literals true height room words = stopped true height room
-fits header literals false height room (Mark kind ∷ rest) =
-    if is_kind kind kinds.Period then fits header literals true height room rest else within height room (goes_on header literals (nat_le height 1) kind)
-fits header literals false height room words = stopped false height room
+unfoldable pub fits : (header literals named : Bool) → (height depth_left : ℕ) → List Lexeme → Result (Unit {0}) Refusal
+fits header literals true height depth_left (Name name ∷ rest) = if is_builtin name then stopped true height depth_left else fits header literals false (height + 1) depth_left rest
+fits header literals true height depth_left words = stopped true height depth_left
+fits header literals false height depth_left (Mark kind ∷ rest) =
+    if is_kind kind kinds.Period then fits header literals true height depth_left rest else within height depth_left (goes_on header literals (nat_le height 1) kind)
+fits header literals false height depth_left words = stopped false height depth_left
 
 -- ---- values
 
@@ -150,11 +150,11 @@ begins_primary (Mark kind ∷ rest) = is_kind kind kinds.LeftParenthesis
 
 -- the operand of a send
 unfoldable pub primary : Bool → ℕ → ℕ → List Lexeme → Reading Expression
-primary literals most room words = if begins_primary words then expression literals most room 7 words else Err Syntax
+primary literals most depth_left words = if begins_primary words then expression literals most depth_left 7 words else Err Syntax
 
 -- a receive: its arrow, and its operand
 abbrev pub received : Bool → ℕ → ℕ → List Lexeme → Reading Expression
-received literals most room words = behind_mark kinds.Arrow (expression literals most room 6) words
+received literals most depth_left words = after_mark kinds.Arrow (expression literals most depth_left 6) words
 
 -- these values as arguments
 abbrev pub passed : List Expression → (trailing : Bool) → Arguments
@@ -162,19 +162,19 @@ passed all trailing = record { values = all; trailing = trailing }
 
 -- arguments in parentheses
 unfoldable pub arguments : Bool → ℕ → ℕ → List Lexeme → Reading Arguments
-arguments literals most room words = do
+arguments literals most depth_left words = do
   inside ← expect kinds.LeftParenthesis words
-  all ← values (expression literals most room) kinds.RightParenthesis most inside
+  all ← values (expression literals most depth_left) kinds.RightParenthesis most inside
   Ok (passed all.0.0 all.0.1, all.1)
 
 -- values with a comma between each two
 abbrev pub value_list : Bool → ℕ → ℕ → List Lexeme → Reading (List Expression × Bool)
-value_list literals most room words = listed (expression literals most room 0) (separator_next begins kinds.Comma) (TooMany Entries) most words
+value_list literals most depth_left words = listed (expression literals most depth_left 0) (separator_next begins kinds.Comma) (TooMany Entries) most words
 
--- the right side of an assignment, of at most `room` levels
+-- the right side of an assignment, of at most `depth_left` levels
 unfoldable pub right : Bool → ℕ → ℕ → List Lexeme → Reading (List Expression)
 right literals most zero words = Err TooDeep
-right literals most (suc room) words = value_list literals most (suc room) words >>= λ all. Ok (all.0.0, all.1)
+right literals most (suc depth_left) words = value_list literals most (suc depth_left) words >>= λ all. Ok (all.0.0, all.1)
 
 -- ---- simple statements
 
@@ -186,42 +186,42 @@ begins_part words = begins words
 -- an argument of print or println
 unfoldable pub part : Bool → ℕ → ℕ → List Lexeme → Reading Part
 part literals most zero words = Err TooDeep
-part literals most (suc room) (Text bytes ∷ rest) = Ok (TextPart bytes, rest)
-part literals most (suc room) words = as_one Value (expression literals most (suc room) 0 words)
+part literals most (suc depth_left) (Text bytes ∷ rest) = Ok (TextPart bytes, rest)
+part literals most (suc depth_left) words = as_one Value (expression literals most (suc depth_left) 0 words)
 
 -- the arguments of print or println, after the opening parenthesis
 unfoldable pub parts : Bool → ℕ → ℕ → List Lexeme → Reading (List Part × Bool)
-parts literals most room words =
-    if begins_part words then listed (part literals most room) (entry_next kinds.Comma begins_part kinds.RightParenthesis) (TooMany Entries) most words
+parts literals most depth_left words =
+    if begins_part words then listed (part literals most depth_left) (entry_next kinds.Comma begins_part kinds.RightParenthesis) (TooMany Entries) most words
     else (expect kinds.RightParenthesis words >>= λ after. Ok (([], false), after))
 
 -- a print or, if `line` holds, a println, after its name
 unfoldable pub print : (line : Bool) → Bool → ℕ → ℕ → List Lexeme → Reading Simple
-print line literals most room words = do
+print line literals most depth_left words = do
   inside ← expect kinds.LeftParenthesis words
-  all ← parts literals most room inside
+  all ← parts literals most depth_left inside
   Ok (Print line all.0.0 all.0.1, all.1)
 
 -- a call of a built-in function as a statement, after its name
 unfoldable pub builtin_call : Bool → ℕ → ℕ → List ℕ → List Lexeme → Reading Simple
-builtin_call literals most room name rest =
-    if bytes_eq name (codes "println") then print true literals most room rest
-    else (if bytes_eq name (codes "print") then print false literals most room rest
-    else (if bytes_eq name (codes "close") then needing 1 room (as_one Close (argument (expression literals most room) rest))
+builtin_call literals most depth_left name rest =
+    if bytes_eq name (codes "println") then print true literals most depth_left rest
+    else (if bytes_eq name (codes "print") then print false literals most depth_left rest
+    else (if bytes_eq name (codes "close") then needing 1 depth_left (as_one Close (argument (expression literals most depth_left) rest))
     else Err Syntax))
 
 -- an assignment to lvalues
 unfoldable pub assigned : Bool → ℕ → ℕ → List Lexeme → Reading Simple
-assigned literals most room words = do
+assigned literals most depth_left words = do
   all ← places most words
-  value ← behind_mark kinds.Assign (right literals most room) all.1
+  value ← after_mark kinds.Assign (right literals most depth_left) all.1
   Ok (Assign all.0.0 value.0, value.1)
 
 -- a `:=`
 unfoldable pub defined : Bool → ℕ → ℕ → List Lexeme → Reading Simple
-defined literals most room words = do
+defined literals most depth_left words = do
   all ← names kinds.Comma most words
-  value ← behind_mark kinds.Define (right literals most room) all.1
+  value ← after_mark kinds.Define (right literals most depth_left) all.1
   Ok (Define all.0.0 value.0, value.1)
 
 -- an lvalue before this mark
@@ -234,51 +234,51 @@ stepped make kind words = as_one make (before_mark kind words)
 
 -- an assignment with an operator
 unfoldable pub updated : Bool → ℕ → ℕ → BinaryOperator → List Lexeme → Reading Simple
-updated literals most room operator words = do
+updated literals most depth_left operator words = do
   target ← place words
-  value ← behind_mark (update_kind operator) (expression literals most room 0) target.1
+  value ← after_mark (update_kind operator) (expression literals most depth_left 0) target.1
   Ok (Update target.0 operator value.0, value.1)
 
 -- what needs a level, from what follows an lvalue on
-abbrev pub behind_place : {A : Type 0} → (room : ℕ) → List Lexeme → Reading A → Reading A
-behind_place room words read = if nat_le 1 room then read else (place words >>= λ target. Err TooDeep)
+abbrev pub after_place : {A : Type 0} → (depth_left : ℕ) → List Lexeme → Reading A → Reading A
+after_place depth_left words read = if nat_le 1 depth_left then read else (place words >>= λ target. Err TooDeep)
 
 -- a statement of this form, or None if it has none of them
 unfoldable pub formed : (literals defining : Bool) → ℕ → ℕ → Form → List Lexeme → Reading (Option Simple)
-formed literals defining most room forms.Increment words = as_one (λ s. Some s) (stepped Increment kinds.Increment words)
-formed literals defining most room forms.Decrement words = as_one (λ s. Some s) (stepped Decrement kinds.Decrement words)
-formed literals defining most room (forms.Update operator) words = as_one (λ s. Some s) (updated literals most room operator words)
-formed literals defining most room (forms.Assign ranges) words = as_one (λ s. Some s) (assigned literals most room words)
-formed literals defining most room (forms.Define ranges) words =
-    as_one (λ s. Some s) (if defining && defines true words then defined literals most room words else assigned literals most room words)
-formed literals defining most room forms.List words =
-    behind_place room words (as_one (λ s. Some s) (if defining && defines true words then defined literals most room words else assigned literals most room words))
-formed literals defining most room forms.Other words = Ok (None, words)
+formed literals defining most depth_left forms.Increment words = as_one (λ s. Some s) (stepped Increment kinds.Increment words)
+formed literals defining most depth_left forms.Decrement words = as_one (λ s. Some s) (stepped Decrement kinds.Decrement words)
+formed literals defining most depth_left (forms.Update operator) words = as_one (λ s. Some s) (updated literals most depth_left operator words)
+formed literals defining most depth_left (forms.Assign ranges) words = as_one (λ s. Some s) (assigned literals most depth_left words)
+formed literals defining most depth_left (forms.Define ranges) words =
+    as_one (λ s. Some s) (if defining && defines true words then defined literals most depth_left words else assigned literals most depth_left words)
+formed literals defining most depth_left forms.List words =
+    after_place depth_left words (as_one (λ s. Some s) (if defining && defines true words then defined literals most depth_left words else assigned literals most depth_left words))
+formed literals defining most depth_left forms.Other words = Ok (None, words)
 
 -- a simple statement that begins with an lvalue or with the name of a built-in function, or None if a value comes next, or
 -- no statement
 unfoldable pub led : (literals defining : Bool) → ℕ → ℕ → List Lexeme → Reading (Option Simple)
-led literals defining most room (Name name ∷ rest) =
+led literals defining most depth_left (Name name ∷ rest) =
     if makes_value name then Ok (None, Name name ∷ rest)
-    else (if is_builtin name then as_one (λ s. Some s) (builtin_call literals most room name rest)
-    else formed literals defining most room (form_of true (Name name ∷ rest)) (Name name ∷ rest))
-led literals defining most room words = Ok (None, words)
+    else (if is_builtin name then as_one (λ s. Some s) (builtin_call literals most depth_left name rest)
+    else formed literals defining most depth_left (form_of true (Name name ∷ rest)) (Name name ∷ rest))
+led literals defining most depth_left words = Ok (None, words)
 
 -- the operand of a send, which may begin as an lvalue does
 unfoldable pub send_operand : Bool → ℕ → ℕ → List Lexeme → Reading Expression
-send_operand literals most room words = fits false literals true 0 room words >>= λ low. primary literals most room words
+send_operand literals most depth_left words = fits false literals true 0 depth_left words >>= λ low. primary literals most depth_left words
 
 -- a send
 unfoldable pub sent : {A : Type 0} → (Expression → Expression → A) → Bool → ℕ → ℕ → List Lexeme → Reading A
-sent make literals most room words = do
-  channel ← send_operand literals most room words
-  value ← behind_mark kinds.Arrow (expression literals most room 0) channel.1
+sent make literals most depth_left words = do
+  channel ← send_operand literals most depth_left words
+  value ← after_mark kinds.Arrow (expression literals most depth_left 0) channel.1
   Ok (make channel.0 value.0, value.1)
 
 -- a simple statement, or a send if none was read yet
 abbrev pub led_or_sent : Bool → ℕ → ℕ → Option Simple × List Lexeme → Reading Simple
-led_or_sent literals most room (Some simple, rest) = Ok (simple, rest)
-led_or_sent literals most room (None, rest) = sent Send literals most room rest
+led_or_sent literals most depth_left (Some simple, rest) = Ok (simple, rest)
+led_or_sent literals most depth_left (None, rest) = sent Send literals most depth_left rest
 
 -- whether a call comes next of a function that is not built in
 unfoldable pub begins_call : List Lexeme → Bool
@@ -291,9 +291,9 @@ call_of function arguments = Call function (expressions arguments.values) argume
 
 -- a send whose channel begins with the operand `left`, which may be one level too high
 unfoldable pub sent_on : Bool → ℕ → ℕ → Expression → List Lexeme → Reading Simple
-sent_on literals most room left words =
-    resumed literals most room 7 left words >>= λ channel.
-    needing (expression_height channel.0) room (as_one (Send channel.0) (behind_mark kinds.Arrow (expression literals most room 0) channel.1))
+sent_on literals most depth_left left words =
+    resumed literals most depth_left 7 left words >>= λ channel.
+    needing (expression_height channel.0) depth_left (as_one (Send channel.0) (after_mark kinds.Arrow (expression literals most depth_left 0) channel.1))
 
 -- whether a call goes on as the channel of a send
 abbrev pub sends_on : List Lexeme → Bool
@@ -301,21 +301,21 @@ sends_on words = begins_with kinds.Period words || begins_with kinds.Arrow words
 
 -- a call alone, or a send whose channel begins with it
 abbrev pub alone_or_sent : Bool → ℕ → ℕ → List ℕ → Arguments × List Lexeme → Reading Simple
-alone_or_sent literals most room function (all, words) =
-    if sends_on words then sent_on literals most room (call_of function all) words
+alone_or_sent literals most depth_left function (all, words) =
+    if sends_on words then sent_on literals most depth_left (call_of function all) words
     else Ok (CallAlone function all, words)
 
 -- a statement that begins with a call
 unfoldable pub called : Bool → ℕ → ℕ → List Lexeme → Reading Simple
-called literals most room words = do
+called literals most depth_left words = do
   function ← plain_name words
-  all ← arguments literals most room function.1
-  alone_or_sent literals most room function.0 all
+  all ← arguments literals most depth_left function.1
+  alone_or_sent literals most depth_left function.0 all
 
--- a simple statement below which there are at most `room` levels, whose lists have at most `most` entries. Composite literals are
+-- a simple statement below which there are at most `depth_left` levels, whose lists have at most `most` entries. Composite literals are
 -- allowed in it only if `literals` is true, and it may be a `:=` only if `defining` is.
 unfoldable pub simple : (literals defining : Bool) → ℕ → ℕ → List Lexeme → Reading Simple
-simple literals defining most room words =
-    if begins_with kinds.Arrow words then as_one ReceiveAlone (received literals most room words)
-    else (if begins_call words then called literals most room words
-    else (led literals defining most room words >>= led_or_sent literals most room))
+simple literals defining most depth_left words =
+    if begins_with kinds.Arrow words then as_one ReceiveAlone (received literals most depth_left words)
+    else (if begins_call words then called literals most depth_left words
+    else (led literals defining most depth_left words >>= led_or_sent literals most depth_left))

@@ -8,7 +8,7 @@ use Rattle.syntax.specs.declared.node.BinaryOperator.{BinaryOperator}
 use Rattle.syntax.specs.declared.node.BinaryOperator.TheVariants as binaries
 use Rattle.syntax.specs.Tree.{Expression, Arguments, Place, Part, Value, Text as TextPart, Simple, CallAlone, Close, Print, ReceiveAlone, Send, Increment, Decrement, Assign, Define, Update}
 use Rattle.parser_base.specs.Lexemes.{Lexeme, Name, Text, Mark}
-use Rattle.parser_base.specs.Spelling.{is_builtin, behind, separated, joined, closing, before, AreAll, AreSome, IsTrailing, outer_precedence, precedence, IsGrouped}
+use Rattle.parser_base.specs.Spelling.{is_builtin, following, separated, joined, closing, before, AreAll, AreSome, IsTrailing, outer_precedence, precedence, IsGrouped}
 
 -- ---- names and lvalues
 
@@ -21,7 +21,7 @@ IsName name = is_builtin name ≡ false
 
 -- a name, and fields each after a period
 abbrev pub place_words : Place → List Lexeme → List Lexeme
-place_words place rest = Name place.name ∷ separated name_words (behind kinds.Period) place.fields rest
+place_words place rest = Name place.name ∷ separated name_words (following kinds.Period) place.fields rest
 
 abbrev pub IsPlace : Place → Type 0
 IsPlace place = IsName place.name × AreAll IsName place.fields
@@ -38,14 +38,14 @@ IsUnary literals expression = IsGrouped literals expression × (6 ≤ outer_prec
 
 abbrev pub arguments_words : Arguments → List Lexeme → List Lexeme
 arguments_words arguments rest =
-    Mark kinds.LeftParenthesis ∷ joined before (behind kinds.Comma) arguments.values (closing kinds.Comma kinds.RightParenthesis arguments.trailing rest)
+    Mark kinds.LeftParenthesis ∷ joined before (following kinds.Comma) arguments.values (closing kinds.Comma kinds.RightParenthesis arguments.trailing rest)
 
 abbrev pub AreArguments : (literals : Bool) → Arguments → Type 0
 AreArguments literals arguments = AreAll (IsGrouped literals) arguments.values × IsTrailing arguments.values arguments.trailing
 
 -- the right side of an assignment: values with a comma between each two
 abbrev pub right_words : List Expression → List Lexeme → List Lexeme
-right_words values rest = joined before (behind kinds.Comma) values rest
+right_words values rest = joined before (following kinds.Comma) values rest
 
 abbrev pub IsRight : (literals : Bool) → List Expression → Type 0
 IsRight literals values = AreSome (IsGrouped literals) values
@@ -88,13 +88,13 @@ abbrev pub simple_words : Simple → List Lexeme → List Lexeme
 simple_words (CallAlone function arguments) rest = Name function ∷ arguments_words arguments rest
 simple_words (Close channel) rest = builtin_words (codes "close") (before channel (Mark kinds.RightParenthesis ∷ rest))
 simple_words (Print line parts trailing) rest =
-    builtin_words (print_name line) (joined part_words (behind kinds.Comma) parts (closing kinds.Comma kinds.RightParenthesis trailing rest))
+    builtin_words (print_name line) (joined part_words (following kinds.Comma) parts (closing kinds.Comma kinds.RightParenthesis trailing rest))
 simple_words (ReceiveAlone channel) rest = Mark kinds.Arrow ∷ before channel rest
 simple_words (Send channel value) rest = before channel (Mark kinds.Arrow ∷ before value rest)
 simple_words (Increment place) rest = place_words place (Mark kinds.Increment ∷ rest)
 simple_words (Decrement place) rest = place_words place (Mark kinds.Decrement ∷ rest)
-simple_words (Assign places right) rest = joined place_words (behind kinds.Comma) places (Mark kinds.Assign ∷ right_words right rest)
-simple_words (Define names right) rest = joined name_words (behind kinds.Comma) names (Mark kinds.Define ∷ right_words right rest)
+simple_words (Assign places right) rest = joined place_words (following kinds.Comma) places (Mark kinds.Assign ∷ right_words right rest)
+simple_words (Define names right) rest = joined name_words (following kinds.Comma) names (Mark kinds.Define ∷ right_words right rest)
 simple_words (Update place operator value) rest = place_words place (Mark (update_kind operator) ∷ before value rest)
 
 -- Composite literals are allowed only if `literals` is true, and a `:=` only if `defining` is. The operators that assign are

@@ -202,10 +202,10 @@ pub fn defines(cursor: Cursor<'_>) -> bool
 {
     let mut rest = cursor;
     for _ in 0..cursor.len() {
-        let Some((Word::Name(_), behind)) = rest.next() else {
+        let Some((Word::Name(_), following)) = rest.next() else {
             return false;
         };
-        let Some((Word::Mark(kind), after)) = behind.next() else {
+        let Some((Word::Mark(kind), after)) = following.next() else {
             return false;
         };
         if kind == TokenKind::Define {
@@ -232,32 +232,47 @@ fn goes_on(header: bool, literals: bool, alone: bool, kind: TokenKind) -> bool
     }
 }
 
-/// Refuses a `height` above `room`, at `behind`: as too deep if it `goes` on as a value, else as a syntax error.
-pub fn within(height: usize, room: u32, goes: bool, behind: Cursor<'_>) -> Result<(), ParseFault>
-    ensures gives { Gives (λ x. x) result (within height room goes) }
+/// Refuses a `height` above `depth_left`, at `following`: as too deep if it `goes` on as a value, else as a syntax error.
+pub fn within(
+    height: usize,
+    depth_left: u32,
+    goes: bool,
+    following: Cursor<'_>,
+) -> Result<(), ParseFault>
+    ensures gives { Gives (λ x. x) result (within height depth_left goes) }
     ensures refused { IfErr result NamesRefusal }
 {
-    if height <= room as usize {
+    if height <= depth_left as usize {
         return Ok(());
     }
     if goes {
-        return Err(ParseFault::TooDeep(behind.place()));
+        return Err(ParseFault::TooDeep(following.place()));
     }
-    Err(ParseFault::Syntax(behind.place()))
+    Err(ParseFault::Syntax(following.place()))
 }
 
 /// Like `within` if no value goes on. After a period, when a name must come next, no level is allowed.
-fn stopped(named: bool, height: usize, room: u32, behind: Cursor<'_>) -> Result<(), ParseFault>
-    ensures gives { Gives (λ x. x) result (stopped named height room) }
+fn stopped(
+    named: bool,
+    height: usize,
+    depth_left: u32,
+    following: Cursor<'_>,
+) -> Result<(), ParseFault>
+    ensures gives { Gives (λ x. x) result (stopped named height depth_left) }
     ensures refused { IfErr result NamesRefusal }
 {
-    within(height, if named { 0 } else { room }, false, behind)
+    within(height, if named { 0 } else { depth_left }, false, following)
 }
 
 /// Refuses a name or a selection here that is too high as a value, at what follows it, since up to there it could be an lvalue.
 #[tactic(auto, unfolding(crate::specs::Reading::fits))]
-pub fn fits(header: bool, literals: bool, room: u32, cursor: Cursor<'_>) -> Result<(), ParseFault>
-    ensures gives { Gives (λ x. x) result (fits header literals true 0 room (ahead cursor.entry)) }
+pub fn fits(
+    header: bool,
+    literals: bool,
+    depth_left: u32,
+    cursor: Cursor<'_>,
+) -> Result<(), ParseFault>
+    ensures gives { Gives (λ x. x) result (fits header literals true 0 depth_left (ahead cursor.entry)) }
     ensures refused { IfErr result NamesRefusal }
 {
     let mut named = true;
@@ -273,13 +288,13 @@ pub fn fits(header: bool, literals: bool, room: u32, cursor: Cursor<'_>) -> Resu
             (false, Some((Word::Mark(kind), after))) => {
                 if kind != TokenKind::Period {
                     let goes = goes_on(header, literals, height <= 1, kind);
-                    return within(height, room, goes, rest);
+                    return within(height, depth_left, goes, rest);
                 }
                 named = true;
                 rest = after;
             }
-            _ => return stopped(named, height, room, rest),
+            _ => return stopped(named, height, depth_left, rest),
         }
     }
-    stopped(named, height, room, rest)
+    stopped(named, height, depth_left, rest)
 }

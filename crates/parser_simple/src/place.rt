@@ -39,9 +39,9 @@ pub fn names(
     let mut entries = Vec::new(alloc);
     let mut rest = cursor;
     for _ in 0..most {
-        let (one, behind) = name_at(alloc, rest)?;
+        let (one, following) = name_at(alloc, rest)?;
         entries.push(one)?;
-        let (next, after) = name_next(separator, behind)?;
+        let (next, after) = name_next(separator, following)?;
         match next {
             Next::More => rest = after,
             Next::End(trailing) => return Ok(List {

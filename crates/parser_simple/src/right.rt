@@ -7,7 +7,7 @@ ghost use Rattle.syntax.specs.Measures.{highest, expression_height};
 ghost use Rattle.syntax.specs.View.{expression_of, arguments_of, right_of};
 ghost use Rattle.parser_base.specs.Cursor.{ahead};
 ghost use Rattle.parser_base.specs.Reading.{Gives, expression};
-ghost use Rattle.parser_simple.specs.Reading.{behind_mark, begins_primary, primary, received, passed, arguments, call_of, value_list, right};
+ghost use Rattle.parser_simple.specs.Reading.{after_mark, begins_primary, primary, received, passed, arguments, call_of, value_list, right};
 
 use crate::form::value_next;
 use parser_base::cursor::{Cursor, Word, is_builtin, makes_value};
@@ -39,33 +39,33 @@ fn begins_primary(cursor: Cursor<'_>) -> bool
 pub fn primary_expression(
     alloc: Global,
     literals: bool,
-    room: u32,
+    depth_left: u32,
     cursor: Cursor<'_>,
 ) -> Result<Found<'_, ExpressionNode>, ParseFault>
-    ensures { Gives (λ x. (expression_of x.node, ahead x.rest)) result (primary literals MAX_ENTRIES room (ahead cursor.entry)) }
+    ensures { Gives (λ x. (expression_of x.node, ahead x.rest)) result (primary literals MAX_ENTRIES depth_left (ahead cursor.entry)) }
 {
     if !begins_primary(cursor) {
         return Err(ParseFault::Syntax(cursor.place()));
     }
-    expression(alloc, literals, room, 7, cursor)
+    expression(alloc, literals, depth_left, 7, cursor)
 }
 
 /// An expression after this mark. If no level is left for it, the mark is too deep.
 #[tactic(auto, unfolding(parser_base::specs::Reading::expression))]
-pub fn expression_behind(
+pub fn expression_after(
     alloc: Global,
     literals: bool,
-    room: u32,
+    depth_left: u32,
     mark: TokenKind,
     cursor: Cursor<'_>,
 ) -> Result<Found<'_, ExpressionNode>, ParseFault>
-    ensures { Gives (λ x. (expression_of x.node, ahead x.rest)) result (behind_mark mark (expression literals MAX_ENTRIES room 0) (ahead cursor.entry)) }
+    ensures { Gives (λ x. (expression_of x.node, ahead x.rest)) result (after_mark mark (expression literals MAX_ENTRIES depth_left 0) (ahead cursor.entry)) }
 {
     let rest = cursor.expect(mark)?;
-    if room == 0 {
+    if depth_left == 0 {
         return Err(ParseFault::TooDeep(cursor.place()));
     }
-    expression(alloc, literals, room, 0, rest)
+    expression(alloc, literals, depth_left, 0, rest)
 }
 
 /// A receive: its arrow, and its operand. If no level is left for the operand, the arrow is too deep.
@@ -73,17 +73,17 @@ pub fn expression_behind(
 pub fn receive_operand(
     alloc: Global,
     literals: bool,
-    room: u32,
+    depth_left: u32,
     cursor: Cursor<'_>,
 ) -> Result<Measured<'_>, ParseFault>
-    ensures tree { Gives (λ x. (expression_of x.node, ahead x.rest)) result (received literals MAX_ENTRIES room (ahead cursor.entry)) }
-    ensures height { IfOk result (λ x. (x.height ≡ expression_height (expression_of x.node)) × (x.height ≤ room)) }
+    ensures tree { Gives (λ x. (expression_of x.node, ahead x.rest)) result (received literals MAX_ENTRIES depth_left (ahead cursor.entry)) }
+    ensures height { IfOk result (λ x. (x.height ≡ expression_height (expression_of x.node)) × (x.height ≤ depth_left)) }
 {
     let rest = cursor.expect(TokenKind::Arrow)?;
-    if room == 0 {
+    if depth_left == 0 {
         return Err(ParseFault::TooDeep(cursor.place()));
     }
-    measured_expression(alloc, literals, room, 6, rest)
+    measured_expression(alloc, literals, depth_left, 6, rest)
 }
 
 /// Arguments in parentheses, and the height of the highest one, or 0.
@@ -91,28 +91,28 @@ pub fn receive_operand(
 pub fn measured_arguments(
     alloc: Global,
     literals: bool,
-    room: u32,
+    depth_left: u32,
     cursor: Cursor<'_>,
 ) -> Result<(List<'_, ExpressionNode>, usize), ParseFault>
-    ensures arguments { Gives (λ x. (passed (map expression_of x.0.entries.items) x.0.trailing, ahead x.0.rest)) result (arguments literals MAX_ENTRIES room (ahead cursor.entry)) }
+    ensures arguments { Gives (λ x. (passed (map expression_of x.0.entries.items) x.0.trailing, ahead x.0.rest)) result (arguments literals MAX_ENTRIES depth_left (ahead cursor.entry)) }
     ensures height { IfOk result (λ x. x.1 ≡ highest expression_height (map expression_of x.0.entries.items)) }
-    ensures within { IfOk result (λ x. x.1 ≤ room) }
+    ensures within { IfOk result (λ x. x.1 ≤ depth_left) }
 {
     let inside = cursor.expect(TokenKind::LeftParenthesis)?;
     let close = TokenKind::RightParenthesis;
-    values(alloc, literals, room, close, inside)
+    values(alloc, literals, depth_left, close, inside)
 }
 
 /// Arguments in parentheses.
 pub fn arguments(
     alloc: Global,
     literals: bool,
-    room: u32,
+    depth_left: u32,
     cursor: Cursor<'_>,
 ) -> Result<Found<'_, ArgumentsNode>, ParseFault>
-    ensures { Gives (λ x. (arguments_of x.node, ahead x.rest)) result (arguments literals MAX_ENTRIES room (ahead cursor.entry)) }
+    ensures { Gives (λ x. (arguments_of x.node, ahead x.rest)) result (arguments literals MAX_ENTRIES depth_left (ahead cursor.entry)) }
 {
-    let (all, _) = measured_arguments(alloc, literals, room, cursor)?;
+    let (all, _) = measured_arguments(alloc, literals, depth_left, cursor)?;
     Ok(Found {
         node: ArgumentsNode {
             values: all.entries,
@@ -164,15 +164,15 @@ pub fn receive_from(alloc: Global, channel: Measured<'_>) -> Result<Measured<'_>
 fn expression_list(
     alloc: Global,
     literals: bool,
-    room: u32,
+    depth_left: u32,
     cursor: Cursor<'_>,
 ) -> Result<List<'_, ExpressionNode>, ParseFault>
-    ensures { Gives (λ x. ((map expression_of x.entries.items, x.trailing), ahead x.rest)) result (value_list literals MAX_ENTRIES room (ahead cursor.entry)) }
+    ensures { Gives (λ x. ((map expression_of x.entries.items, x.trailing), ahead x.rest)) result (value_list literals MAX_ENTRIES depth_left (ahead cursor.entry)) }
 {
     let mut entries = Vec::new(alloc);
     let mut rest = cursor;
     for _ in 0..MAX_ENTRIES {
-        let one = expression(alloc, literals, room, 0, rest)?;
+        let one = expression(alloc, literals, depth_left, 0, rest)?;
         entries.push(one.node)?;
         let (next, after) = value_next(one.rest)?;
         match next {
@@ -187,37 +187,37 @@ fn expression_list(
     Err(ParseFault::TooManyEntries(rest.place()))
 }
 
-/// The right side of an assignment, of at most `room` levels.
+/// The right side of an assignment, of at most `depth_left` levels.
 #[tactic(auto, unfolding(crate::specs::Reading::right))]
 pub fn right_side(
     alloc: Global,
     literals: bool,
-    room: u32,
+    depth_left: u32,
     cursor: Cursor<'_>,
 ) -> Result<(Vec<ExpressionNode>, Cursor<'_>), ParseFault>
-    ensures { Gives (λ x. (right_of x.0, ahead x.1)) result (right literals MAX_ENTRIES room (ahead cursor.entry)) }
+    ensures { Gives (λ x. (right_of x.0, ahead x.1)) result (right literals MAX_ENTRIES depth_left (ahead cursor.entry)) }
 {
-    if room == 0 {
+    if depth_left == 0 {
         return Err(ParseFault::TooDeep(cursor.place()));
     }
-    let values = expression_list(alloc, literals, room, cursor)?;
+    let values = expression_list(alloc, literals, depth_left, cursor)?;
     Ok((values.entries, values.rest))
 }
 
 /// The right side of an assignment after this mark. If no level is left for it, the mark is too deep.
 #[tactic(auto, unfolding(crate::specs::Reading::right))]
-pub fn right_behind(
+pub fn right_after(
     alloc: Global,
     literals: bool,
-    room: u32,
+    depth_left: u32,
     mark: TokenKind,
     cursor: Cursor<'_>,
 ) -> Result<(Vec<ExpressionNode>, Cursor<'_>), ParseFault>
-    ensures { Gives (λ x. (right_of x.0, ahead x.1)) result (behind_mark mark (right literals MAX_ENTRIES room) (ahead cursor.entry)) }
+    ensures { Gives (λ x. (right_of x.0, ahead x.1)) result (after_mark mark (right literals MAX_ENTRIES depth_left) (ahead cursor.entry)) }
 {
     let rest = cursor.expect(mark)?;
-    if room == 0 {
+    if depth_left == 0 {
         return Err(ParseFault::TooDeep(cursor.place()));
     }
-    right_side(alloc, literals, room, rest)
+    right_side(alloc, literals, depth_left, rest)
 }

@@ -7,13 +7,13 @@ ghost use Rattle.syntax.specs.Measures.{Entries, highest, expression_height};
 ghost use Rattle.syntax.specs.View.{expression_of, part_of, simple_of};
 ghost use Rattle.parser_base.specs.Cursor.{ahead};
 ghost use Rattle.parser_base.specs.Reading.{Gives, NamesRefusal, Reading, TooMany, as_one, entry_next, listed, closed, argument, expression};
-ghost use Rattle.parser_simple.specs.Reading.{begins_part, part, parts, print, received, passed, builtin_call, assigned, defined, stepped, updated, behind_place, formed, led, send_operand, sent, led_or_sent, sent_on, alone_or_sent, called, simple, defines};
+ghost use Rattle.parser_simple.specs.Reading.{begins_part, part, parts, print, received, passed, builtin_call, assigned, defined, stepped, updated, after_place, formed, led, send_operand, sent, led_or_sent, sent_on, alone_or_sent, called, simple, defines};
 
 use crate::form::{Form, begins_call, begins_with, defines, fits, form_of, update_kind};
 use crate::place::{names, place, place_before, places};
 use crate::right::{
-    call_operand, expression_behind, measured_arguments, primary_expression, receive_operand,
-    right_behind,
+    call_operand, expression_after, measured_arguments, primary_expression, receive_operand,
+    right_after,
 };
 use go_text::is_word;
 use parser_base::beside::beside;
@@ -40,24 +40,24 @@ fn begins_print_argument(cursor: Cursor<'_>) -> bool
     }
 }
 
-/// An argument of `print` or `println`, of at most `room` levels.
+/// An argument of `print` or `println`, of at most `depth_left` levels.
 #[tactic(auto, unfolding(crate::specs::Reading::part))]
 fn print_argument(
     alloc: Global,
-    room: u32,
+    depth_left: u32,
     literals: bool,
     cursor: Cursor<'_>,
 ) -> Result<(PartNode, Cursor<'_>), ParseFault>
-    ensures { Gives (λ x. (part_of x.0, ahead x.1)) result (part literals MAX_ENTRIES room (ahead cursor.entry)) }
+    ensures { Gives (λ x. (part_of x.0, ahead x.1)) result (part literals MAX_ENTRIES depth_left (ahead cursor.entry)) }
 {
-    if room == 0 {
+    if depth_left == 0 {
         return Err(ParseFault::TooDeep(cursor.place()));
     }
     if let Some((Word::Text(quoted), rest)) = cursor.next() {
         let node = PartNode::Text(text(alloc, quoted)?);
         return Ok((node, rest));
     }
-    let value = expression(alloc, literals, room, 0, cursor)?;
+    let value = expression(alloc, literals, depth_left, 0, cursor)?;
     Ok((PartNode::Value(value.node), value.rest))
 }
 
@@ -83,18 +83,18 @@ fn print_argument_next(cursor: Cursor<'_>) -> Result<(Next, Cursor<'_>), ParseFa
 /// At least one argument of `print` or `println`, to the closing parenthesis.
 fn print_argument_list(
     alloc: Global,
-    room: u32,
+    depth_left: u32,
     literals: bool,
     cursor: Cursor<'_>,
 ) -> Result<List<'_, PartNode>, ParseFault>
-    ensures { Gives (λ x. ((map part_of x.entries.items, x.trailing), ahead x.rest)) result (listed (part literals MAX_ENTRIES room) (entry_next TokenKind.Comma begins_part TokenKind.RightParenthesis) (TooMany Entries) MAX_ENTRIES (ahead cursor.entry)) }
+    ensures { Gives (λ x. ((map part_of x.entries.items, x.trailing), ahead x.rest)) result (listed (part literals MAX_ENTRIES depth_left) (entry_next TokenKind.Comma begins_part TokenKind.RightParenthesis) (TooMany Entries) MAX_ENTRIES (ahead cursor.entry)) }
 {
     let mut entries = Vec::new(alloc);
     let mut rest = cursor;
     for _ in 0..MAX_ENTRIES {
-        let (one, behind) = print_argument(alloc, room, literals, rest)?;
+        let (one, following) = print_argument(alloc, depth_left, literals, rest)?;
         entries.push(one)?;
-        let (next, after) = print_argument_next(behind)?;
+        let (next, after) = print_argument_next(following)?;
         match next {
             Next::More => rest = after,
             Next::End(trailing) => return Ok(List {
@@ -111,14 +111,14 @@ fn print_argument_list(
 #[tactic(auto, unfolding(crate::specs::Reading::parts))]
 fn print_arguments(
     alloc: Global,
-    room: u32,
+    depth_left: u32,
     literals: bool,
     cursor: Cursor<'_>,
 ) -> Result<List<'_, PartNode>, ParseFault>
-    ensures { Gives (λ x. ((map part_of x.entries.items, x.trailing), ahead x.rest)) result (parts literals MAX_ENTRIES room (ahead cursor.entry)) }
+    ensures { Gives (λ x. ((map part_of x.entries.items, x.trailing), ahead x.rest)) result (parts literals MAX_ENTRIES depth_left (ahead cursor.entry)) }
 {
     if begins_print_argument(cursor) {
-        return print_argument_list(alloc, room, literals, cursor);
+        return print_argument_list(alloc, depth_left, literals, cursor);
     }
     let rest = cursor.expect(TokenKind::RightParenthesis)?;
     Ok(List {
@@ -134,13 +134,13 @@ fn print_call(
     alloc: Global,
     line: bool,
     literals: bool,
-    room: u32,
+    depth_left: u32,
     cursor: Cursor<'_>,
 ) -> Result<Found<'_, SimpleNode>, ParseFault>
-    ensures { Gives (λ x. (simple_of x.node, ahead x.rest)) result (print line literals MAX_ENTRIES room (ahead cursor.entry)) }
+    ensures { Gives (λ x. (simple_of x.node, ahead x.rest)) result (print line literals MAX_ENTRIES depth_left (ahead cursor.entry)) }
 {
     let inside = cursor.expect(TokenKind::LeftParenthesis)?;
-    let all = print_arguments(alloc, room, literals, inside)?;
+    let all = print_arguments(alloc, depth_left, literals, inside)?;
     Ok(Found {
         node: SimpleNode::Print(line, all.entries, all.trailing),
         rest: all.rest,
@@ -151,12 +151,12 @@ fn print_call(
 fn close_call(
     alloc: Global,
     literals: bool,
-    room: u32,
+    depth_left: u32,
     cursor: Cursor<'_>,
 ) -> Result<Found<'_, SimpleNode>, ParseFault>
-    ensures { Gives (λ x. (simple_of x.node, ahead x.rest)) result (as_one Close (argument (expression literals MAX_ENTRIES room) (ahead cursor.entry))) }
+    ensures { Gives (λ x. (simple_of x.node, ahead x.rest)) result (as_one Close (argument (expression literals MAX_ENTRIES depth_left) (ahead cursor.entry))) }
 {
-    let channel = argument(alloc, literals, room, cursor)?;
+    let channel = argument(alloc, literals, depth_left, cursor)?;
     Ok(Found {
         node: SimpleNode::Close(channel.node),
         rest: channel.rest,
@@ -168,24 +168,24 @@ fn close_call(
 fn builtin_call<'a>(
     alloc: Global,
     literals: bool,
-    room: u32,
+    depth_left: u32,
     name: &[u8],
     first: Cursor<'a>,
     cursor: Cursor<'a>,
 ) -> Result<Found<'a, SimpleNode>, ParseFault>
-    ensures { Gives (λ x. (simple_of x.node, ahead x.rest)) result (builtin_call literals MAX_ENTRIES room name.now (ahead cursor.entry)) }
+    ensures { Gives (λ x. (simple_of x.node, ahead x.rest)) result (builtin_call literals MAX_ENTRIES depth_left name.now (ahead cursor.entry)) }
 {
     if is_word(name, b"println") {
-        return print_call(alloc, true, literals, room, cursor);
+        return print_call(alloc, true, literals, depth_left, cursor);
     }
     if is_word(name, b"print") {
-        return print_call(alloc, false, literals, room, cursor);
+        return print_call(alloc, false, literals, depth_left, cursor);
     }
     if is_word(name, b"close") {
-        if room < 1 {
+        if depth_left < 1 {
             return Err(ParseFault::TooDeep(first.place()));
         }
-        return close_call(alloc, literals, room, cursor);
+        return close_call(alloc, literals, depth_left, cursor);
     }
     Err(ParseFault::Syntax(first.place()))
 }
@@ -216,19 +216,19 @@ pub fn call_alone<'a>(
 fn send_on<'a>(
     alloc: Global,
     literals: bool,
-    room: u32,
+    depth_left: u32,
     left: Measured<'a>,
 ) -> Result<Found<'a, SimpleNode>, ParseFault>
     requires { left.height ≡ expression_height (expression_of left.node) }
-    ensures { Gives (λ x. (simple_of x.node, ahead x.rest)) result (sent_on literals MAX_ENTRIES room (expression_of left.entry.node) (ahead left.entry.rest)) }
+    ensures { Gives (λ x. (simple_of x.node, ahead x.rest)) result (sent_on literals MAX_ENTRIES depth_left (expression_of left.entry.node) (ahead left.entry.rest)) }
 {
-    let channel = resumed_expression(alloc, literals, room, 7, left)?;
-    if channel.height > room as usize {
+    let channel = resumed_expression(alloc, literals, depth_left, 7, left)?;
+    if channel.height > depth_left as usize {
         return Err(ParseFault::TooDeep(channel.rest.place()));
     }
     let (channel, value) = beside(
         channel.node,
-        expression_behind(alloc, literals, room, TokenKind::Arrow, channel.rest),
+        expression_after(alloc, literals, depth_left, TokenKind::Arrow, channel.rest),
     )?;
     Ok(Found {
         node: SimpleNode::Send(channel, value.node),
@@ -240,18 +240,18 @@ fn send_on<'a>(
 fn alone_or_send<'a>(
     alloc: Global,
     literals: bool,
-    room: u32,
+    depth_left: u32,
     name: &[u8],
     all: List<'a, ExpressionNode>,
     levels: usize,
 ) -> Result<Found<'a, SimpleNode>, ParseFault>
     requires height { levels ≡ highest expression_height (map expression_of all.entries.items) }
     requires low { levels < 2 ^ 32 }
-    ensures { Gives (λ x. (simple_of x.node, ahead x.rest)) result (alone_or_sent literals MAX_ENTRIES room name.now (passed (map expression_of all.entry.entries.items) all.entry.trailing, ahead all.entry.rest)) }
+    ensures { Gives (λ x. (simple_of x.node, ahead x.rest)) result (alone_or_sent literals MAX_ENTRIES depth_left name.now (passed (map expression_of all.entry.entries.items) all.entry.trailing, ahead all.entry.rest)) }
 {
     if begins_with(TokenKind::Period, all.rest) || begins_with(TokenKind::Arrow, all.rest) {
         let left = call_operand(alloc, name, all, levels)?;
-        return send_on(alloc, literals, room, left);
+        return send_on(alloc, literals, depth_left, left);
     }
     call_alone(alloc, name, all)
 }
@@ -261,26 +261,26 @@ fn alone_or_send<'a>(
 fn call_statement(
     alloc: Global,
     literals: bool,
-    room: u32,
+    depth_left: u32,
     cursor: Cursor<'_>,
 ) -> Result<Found<'_, SimpleNode>, ParseFault>
-    ensures { Gives (λ x. (simple_of x.node, ahead x.rest)) result (called literals MAX_ENTRIES room (ahead cursor.entry)) }
+    ensures { Gives (λ x. (simple_of x.node, ahead x.rest)) result (called literals MAX_ENTRIES depth_left (ahead cursor.entry)) }
 {
-    let (name, behind) = cursor.plain_name()?;
-    let (all, levels) = measured_arguments(alloc, literals, room, behind)?;
-    alone_or_send(alloc, literals, room, name, all, levels)
+    let (name, following) = cursor.plain_name()?;
+    let (all, levels) = measured_arguments(alloc, literals, depth_left, following)?;
+    alone_or_send(alloc, literals, depth_left, name, all, levels)
 }
 
 /// A receive alone.
 fn receive_statement(
     alloc: Global,
     literals: bool,
-    room: u32,
+    depth_left: u32,
     cursor: Cursor<'_>,
 ) -> Result<Found<'_, SimpleNode>, ParseFault>
-    ensures { Gives (λ x. (simple_of x.node, ahead x.rest)) result (as_one ReceiveAlone (received literals MAX_ENTRIES room (ahead cursor.entry))) }
+    ensures { Gives (λ x. (simple_of x.node, ahead x.rest)) result (as_one ReceiveAlone (received literals MAX_ENTRIES depth_left (ahead cursor.entry))) }
 {
-    let channel = receive_operand(alloc, literals, room, cursor)?;
+    let channel = receive_operand(alloc, literals, depth_left, cursor)?;
     Ok(Found {
         node: SimpleNode::Receive(channel.node),
         rest: channel.rest,
@@ -292,15 +292,15 @@ fn receive_statement(
 fn assignment(
     alloc: Global,
     literals: bool,
-    room: u32,
+    depth_left: u32,
     cursor: Cursor<'_>,
 ) -> Result<Found<'_, SimpleNode>, ParseFault>
-    ensures { Gives (λ x. (simple_of x.node, ahead x.rest)) result (assigned literals MAX_ENTRIES room (ahead cursor.entry)) }
+    ensures { Gives (λ x. (simple_of x.node, ahead x.rest)) result (assigned literals MAX_ENTRIES depth_left (ahead cursor.entry)) }
 {
     let all = places(alloc, cursor)?;
     let (entries, value) = beside(
         all.entries,
-        right_behind(alloc, literals, room, TokenKind::Assign, all.rest),
+        right_after(alloc, literals, depth_left, TokenKind::Assign, all.rest),
     )?;
     Ok(Found {
         node: SimpleNode::Assign(entries, value.0),
@@ -313,15 +313,15 @@ fn assignment(
 fn short_var_declaration(
     alloc: Global,
     literals: bool,
-    room: u32,
+    depth_left: u32,
     cursor: Cursor<'_>,
 ) -> Result<Found<'_, SimpleNode>, ParseFault>
-    ensures { Gives (λ x. (simple_of x.node, ahead x.rest)) result (defined literals MAX_ENTRIES room (ahead cursor.entry)) }
+    ensures { Gives (λ x. (simple_of x.node, ahead x.rest)) result (defined literals MAX_ENTRIES depth_left (ahead cursor.entry)) }
 {
     let all = names(alloc, TokenKind::Comma, MAX_ENTRIES as usize, cursor)?;
     let (entries, value) = beside(
         all.entries,
-        right_behind(alloc, literals, room, TokenKind::Define, all.rest),
+        right_after(alloc, literals, depth_left, TokenKind::Define, all.rest),
     )?;
     Ok(Found {
         node: SimpleNode::Define(entries, value.0),
@@ -364,16 +364,22 @@ fn decrement_statement(
 fn operator_assignment(
     alloc: Global,
     literals: bool,
-    room: u32,
+    depth_left: u32,
     operator: BinaryOperator,
     cursor: Cursor<'_>,
 ) -> Result<Found<'_, SimpleNode>, ParseFault>
-    ensures { Gives (λ x. (simple_of x.node, ahead x.rest)) result (updated literals MAX_ENTRIES room operator (ahead cursor.entry)) }
+    ensures { Gives (λ x. (simple_of x.node, ahead x.rest)) result (updated literals MAX_ENTRIES depth_left operator (ahead cursor.entry)) }
 {
     let target = place(alloc, cursor)?;
     let (place, value) = beside(
         target.node,
-        expression_behind(alloc, literals, room, update_kind(operator), target.rest),
+        expression_after(
+            alloc,
+            literals,
+            depth_left,
+            update_kind(operator),
+            target.rest,
+        ),
     )?;
     Ok(Found {
         node: SimpleNode::Update(place, operator, value.node),
@@ -401,27 +407,27 @@ fn place_statement(
     alloc: Global,
     literals: bool,
     defining: bool,
-    room: u32,
+    depth_left: u32,
     form: Form,
     cursor: Cursor<'_>,
 ) -> Result<Found<'_, Option<SimpleNode>>, ParseFault>
-    ensures { Gives (λ x. (option_map simple_of x.node, ahead x.rest)) result (formed literals defining MAX_ENTRIES room form (ahead cursor.entry)) }
+    ensures { Gives (λ x. (option_map simple_of x.node, ahead x.rest)) result (formed literals defining MAX_ENTRIES depth_left form (ahead cursor.entry)) }
 {
     match form {
         Form::Increment => as_some(increment_statement(alloc, cursor)),
         Form::Decrement => as_some(decrement_statement(alloc, cursor)),
         Form::Update(operator) => as_some(operator_assignment(
-            alloc, literals, room, operator, cursor,
+            alloc, literals, depth_left, operator, cursor,
         )),
-        Form::Assign(_) => as_some(assignment(alloc, literals, room, cursor)),
-        Form::List if room < 1 => {
+        Form::Assign(_) => as_some(assignment(alloc, literals, depth_left, cursor)),
+        Form::List if depth_left < 1 => {
             let first = place(alloc, cursor)?;
             Err(ParseFault::TooDeep(first.rest.place()))
         }
         Form::Define(_) | Form::List if defining && defines(cursor) => {
-            as_some(short_var_declaration(alloc, literals, room, cursor))
+            as_some(short_var_declaration(alloc, literals, depth_left, cursor))
         }
-        Form::Define(_) | Form::List => as_some(assignment(alloc, literals, room, cursor)),
+        Form::Define(_) | Form::List => as_some(assignment(alloc, literals, depth_left, cursor)),
         Form::Other => Ok(Found {
             node: None,
             rest: cursor,
@@ -435,18 +441,18 @@ pub fn statement_unless_value(
     alloc: Global,
     literals: bool,
     defining: bool,
-    room: u32,
+    depth_left: u32,
     cursor: Cursor<'_>,
 ) -> Result<Found<'_, Option<SimpleNode>>, ParseFault>
-    ensures { Gives (λ x. (option_map simple_of x.node, ahead x.rest)) result (led literals defining MAX_ENTRIES room (ahead cursor.entry)) }
+    ensures { Gives (λ x. (option_map simple_of x.node, ahead x.rest)) result (led literals defining MAX_ENTRIES depth_left (ahead cursor.entry)) }
 {
     match cursor.next() {
         Some((Word::Name(name), rest)) if !makes_value(name) => {
             if is_builtin(name) {
-                return as_some(builtin_call(alloc, literals, room, name, cursor, rest));
+                return as_some(builtin_call(alloc, literals, depth_left, name, cursor, rest));
             }
             let form = form_of(cursor);
-            place_statement(alloc, literals, defining, room, form, cursor)
+            place_statement(alloc, literals, defining, depth_left, form, cursor)
         }
         _ => Ok(Found {
             node: None,
@@ -460,13 +466,13 @@ pub fn statement_unless_value(
 pub fn send_operand(
     alloc: Global,
     literals: bool,
-    room: u32,
+    depth_left: u32,
     cursor: Cursor<'_>,
 ) -> Result<Found<'_, ExpressionNode>, ParseFault>
-    ensures { Gives (λ x. (expression_of x.node, ahead x.rest)) result (send_operand literals MAX_ENTRIES room (ahead cursor.entry)) }
+    ensures { Gives (λ x. (expression_of x.node, ahead x.rest)) result (send_operand literals MAX_ENTRIES depth_left (ahead cursor.entry)) }
 {
-    fits(false, literals, room, cursor)?;
-    primary_expression(alloc, literals, room, cursor)
+    fits(false, literals, depth_left, cursor)?;
+    primary_expression(alloc, literals, depth_left, cursor)
 }
 
 /// A send.
@@ -474,15 +480,15 @@ pub fn send_operand(
 fn send_statement(
     alloc: Global,
     literals: bool,
-    room: u32,
+    depth_left: u32,
     cursor: Cursor<'_>,
 ) -> Result<Found<'_, SimpleNode>, ParseFault>
-    ensures { Gives (λ x. (simple_of x.node, ahead x.rest)) result (sent Send literals MAX_ENTRIES room (ahead cursor.entry)) }
+    ensures { Gives (λ x. (simple_of x.node, ahead x.rest)) result (sent Send literals MAX_ENTRIES depth_left (ahead cursor.entry)) }
 {
-    let channel = send_operand(alloc, literals, room, cursor)?;
+    let channel = send_operand(alloc, literals, depth_left, cursor)?;
     let (channel, value) = beside(
         channel.node,
-        expression_behind(alloc, literals, room, TokenKind::Arrow, channel.rest),
+        expression_after(alloc, literals, depth_left, TokenKind::Arrow, channel.rest),
     )?;
     Ok(Found {
         node: SimpleNode::Send(channel, value.node),
@@ -490,27 +496,29 @@ fn send_statement(
     })
 }
 
-/// A simple statement, below which there are at most `room` levels ("Simple statements" of the Go specification). It may have composite
+/// A simple statement, below which there are at most `depth_left` levels ("Simple statements" of the Go specification). It may have composite
 /// literals only if `literals` holds, and be a `:=` only if `defining` does.
 #[tactic(auto, unfolding(crate::specs::Reading::simple))]
 pub fn simple_statement(
     alloc: Global,
     literals: bool,
     defining: bool,
-    room: u32,
+    depth_left: u32,
     cursor: Cursor<'_>,
 ) -> Result<Found<'_, SimpleNode>, ParseFault>
-    ensures { Gives (λ x. (simple_of x.node, ahead x.rest)) result (simple literals defining MAX_ENTRIES room (ahead cursor.entry)) }
+    ensures { Gives (λ x. (simple_of x.node, ahead x.rest)) result (simple literals defining MAX_ENTRIES depth_left (ahead cursor.entry)) }
 {
     if begins_with(TokenKind::Arrow, cursor) {
-        return receive_statement(alloc, literals, room, cursor);
+        return receive_statement(alloc, literals, depth_left, cursor);
     }
     if begins_call(cursor) {
-        return call_statement(alloc, literals, room, cursor);
+        return call_statement(alloc, literals, depth_left, cursor);
     }
-    let Found { node, rest } = statement_unless_value(alloc, literals, defining, room, cursor)?;
+    let Found { node, rest } = statement_unless_value(
+        alloc, literals, defining, depth_left, cursor,
+    )?;
     match node {
         Some(node) => Ok(Found { node, rest }),
-        None => send_statement(alloc, literals, room, rest),
+        None => send_statement(alloc, literals, depth_left, rest),
     }
 }

@@ -4,5 +4,5 @@ pub mod StatementLists
 pub mod StatementAgain
 pub mod StatementSound
 pub mod StatementLaws
-pub mod Rooms
+pub mod DepthsLeft
 pub mod Parts

@@ -5,7 +5,7 @@ use Rattle.scanner.specs.declared.kind.TokenKind.TheVariants as kinds
 use Rattle.syntax.specs.Tree.{Expression, Comm, Returned, NoValue, ReturnedValue, Statement, Statements, NoStatement, Then, Empty, Alone, VarTyped, VarUntyped, Block, If, For, Select, Go, Return, Break, Continue, Branch, Conditional, Otherwise, NoElse, ElseBlock, ElseIf, Clauses, NoClause, Clause, statements_in}
 use Rattle.syntax.specs.Measures.{expression_size, comm_size, returned_size, statement_size, statements_size, branch_size, otherwise_size, clauses_size, if_any}
 use Rattle.parser_base.specs.Lexemes.{Lexeme, Mark}
-use Rattle.parser_base.specs.Spelling.{behind, AreAll, AreSome, separated, joined, before, type_words}
+use Rattle.parser_base.specs.Spelling.{following, AreAll, AreSome, separated, joined, before, type_words}
 use Rattle.parser_base.proofs.TypeLaws.{type_size-le}
 use Rattle.parser_simple.specs.Spelling.{right_words}
 use Rattle.parser_statement.specs.Spelling.{returned_words, initial_words, clause_start, statement_words, body_words, more_words, branch_words, otherwise_words, clauses_words, IsStatement}
@@ -69,8 +69,8 @@ mutual
   clauses_grow : (all : Clauses) (rest : List Lexeme) → clauses_size all + length rest ≤ length (clauses_words all rest)
   clauses_grow NoClause rest = omega arith
   clauses_grow (Clause c body others) rest =
-      let behind' = clauses_words others rest in
-      omega (arith, start_grows c (body_words body behind'), body_grows body behind', clauses_grow others rest)
+      let following' = clauses_words others rest in
+      omega (arith, start_grows c (body_words body following'), body_grows body following', clauses_grow others rest)
 
 pub statement_grows : (s : Statement) (rest : List Lexeme) → IsStatement s → statement_size s + length rest ≤ length (statement_words s rest) + 1
 statement_grows s rest is = grows s rest
@@ -96,21 +96,21 @@ positive Continue = omega arith
 pub statement_longer : (s : Statement) (rest : List Lexeme) → IsStatement s → length rest ≤ length (statement_words s rest)
 statement_longer s rest is = omega (arith, grows s rest, positive s)
 
-pub separated_grows : (ss : List Statement) (rest : List Lexeme) → AreAll IsStatement ss → sum_by statement_size ss + length rest ≤ length (separated statement_words (behind kinds.Semicolon) ss rest)
+pub separated_grows : (ss : List Statement) (rest : List Lexeme) → AreAll IsStatement ss → sum_by statement_size ss + length rest ≤ length (separated statement_words (following kinds.Semicolon) ss rest)
 separated_grows [] rest are = omega arith
 separated_grows (s ∷ ss) rest are =
-    omega (arith, sum_by-cons statement_size s ss, separated_grows ss rest are.1, statement_grows s (separated statement_words (behind kinds.Semicolon) ss rest) are.0)
+    omega (arith, sum_by-cons statement_size s ss, separated_grows ss rest are.1, statement_grows s (separated statement_words (following kinds.Semicolon) ss rest) are.0)
 
 -- there are no more statements than words
-pub separated_longer : (ss : List Statement) (rest : List Lexeme) → AreAll IsStatement ss → 1 ≤ length rest → length ss + 1 ≤ length (separated statement_words (behind kinds.Semicolon) ss rest)
+pub separated_longer : (ss : List Statement) (rest : List Lexeme) → AreAll IsStatement ss → 1 ≤ length rest → length ss + 1 ≤ length (separated statement_words (following kinds.Semicolon) ss rest)
 separated_longer [] rest are some = omega (arith, some)
 separated_longer (s ∷ ss) rest are some =
-    omega (arith, separated_longer ss rest are.1 some, statement_longer s (separated statement_words (behind kinds.Semicolon) ss rest) are.0)
+    omega (arith, separated_longer ss rest are.1 some, statement_longer s (separated statement_words (following kinds.Semicolon) ss rest) are.0)
 
-pub joined_grows : (ss : List Statement) (rest : List Lexeme) → AreSome IsStatement ss → sum_by statement_size ss + length rest ≤ length (joined statement_words (behind kinds.Semicolon) ss rest) + 1
+pub joined_grows : (ss : List Statement) (rest : List Lexeme) → AreSome IsStatement ss → sum_by statement_size ss + length rest ≤ length (joined statement_words (following kinds.Semicolon) ss rest) + 1
 joined_grows [] rest are = absurd are
 joined_grows (s ∷ ss) rest are =
-    omega (arith, sum_by-cons statement_size s ss, separated_grows ss rest are.1, statement_grows s (separated statement_words (behind kinds.Semicolon) ss rest) are.0)
+    omega (arith, sum_by-cons statement_size s ss, separated_grows ss rest are.1, statement_grows s (separated statement_words (following kinds.Semicolon) ss rest) are.0)
 
 pub sum_in : (ss : Statements) → sum_by statement_size (statements_in ss) ≡ statements_size ss
 sum_in NoStatement = refl

@@ -5,18 +5,18 @@ use Rattle.syntax.specs.Tree.{Statements, NoStatement, Then, statements_in, Clau
 use Rattle.syntax.specs.Measures.{Listing, Entries, SelectClauses, highest, if_any, comm_height, comm_longest, statement_height, statements_height, statement_longest, statements_longest, clauses_height, clauses_longest, clauses_count, clauses as clause_entries}
 use Rattle.syntax.specs.View.{OneClause, clauses}
 use Rattle.parser_base.specs.Lexemes.{Lexeme}
-use Rattle.parser_base.specs.Spelling.{behind, separated, joined, AreAll, AreSome}
+use Rattle.parser_base.specs.Spelling.{following, separated, joined, AreAll, AreSome}
 use Rattle.parser_base.proofs.ListLaws.{AreFew}
 use Rattle.parser_header.specs.Spelling.{IsAny, IsComm}
 use Rattle.parser_statement.specs.Spelling.{clause_start, statement_words, body_words, more_words, clauses_words, IsStatement, IsBody, AreStatements, AreClauses}
 
 -- ---- statements
 
-pub more_list : (body : Statements) (rest : List Lexeme) → more_words body rest ≡ separated statement_words (behind kinds.Semicolon) (statements_in body) rest
+pub more_list : (body : Statements) (rest : List Lexeme) → more_words body rest ≡ separated statement_words (following kinds.Semicolon) (statements_in body) rest
 more_list NoStatement rest = refl
-more_list (Then s ss) rest = ap (λ (ws : List Lexeme). behind kinds.Semicolon (statement_words s ws)) (more_list ss rest)
+more_list (Then s ss) rest = ap (λ (ws : List Lexeme). following kinds.Semicolon (statement_words s ws)) (more_list ss rest)
 
-pub body_list : (body : Statements) (rest : List Lexeme) → body_words body rest ≡ joined statement_words (behind kinds.Semicolon) (statements_in body) rest
+pub body_list : (body : Statements) (rest : List Lexeme) → body_words body rest ≡ joined statement_words (following kinds.Semicolon) (statements_in body) rest
 body_list NoStatement rest = refl
 body_list (Then s ss) rest = ap (statement_words s) (more_list ss rest)
 

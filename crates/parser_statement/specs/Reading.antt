@@ -11,7 +11,7 @@ use Rattle.parser_base.specs.declared.list.Next.TheVariants.{More, End}
 use Rattle.parser_base.specs.Lexemes.{Lexeme, Name, Mark}
 use Rattle.parser_base.specs.Spelling.{is_builtin}
 use Rattle.parser_base.specs.Reading.{Syntax, TooDeep, TooMany, Reading, ◌>>=◌, as_one, needing, expect, plain_name, begins, listed, expression, type_at}
-use Rattle.parser_simple.specs.Reading.{behind_mark, begins_with, names, arguments, right, simple}
+use Rattle.parser_simple.specs.Reading.{after_mark, begins_with, names, arguments, right, simple}
 use Rattle.parser_header.specs.Reading.{comm, if_header, for_header}
 
 -- ---- what ends a statement
@@ -42,52 +42,52 @@ clause_next words = if ends_statement words then Ok (End false, words) else Err 
 
 -- ---- statements that contain none
 
--- a value after `return`, at most `room` levels deep
+-- a value after `return`, at most `depth_left` levels deep
 unfoldable pub returned_value : ℕ → ℕ → List Lexeme → Reading Returned
 returned_value most zero words = if begins words then Err TooDeep else Err Syntax
-returned_value most (suc room) words = as_one ReturnedValue (expression true most (suc room) 0 words)
+returned_value most (suc depth_left) words = as_one ReturnedValue (expression true most (suc depth_left) 0 words)
 
 -- what follows `return`
 unfoldable pub returned : ℕ → ℕ → List Lexeme → Reading Returned
-returned most room words = if ends_statement words then Ok (NoValue, words) else returned_value most room words
+returned most depth_left words = if ends_statement words then Ok (NoValue, words) else returned_value most depth_left words
 
 -- what follows `go`
 unfoldable pub started : ℕ → ℕ → List Lexeme → Reading Statement
-started most room words = plain_name words >>= λ name. as_one (Go name.0) (arguments true most room name.1)
+started most depth_left words = plain_name words >>= λ name. as_one (Go name.0) (arguments true most depth_left name.1)
 
 -- if this mark comes next, what follows it
-abbrev pub behind_next : {A : Type 0} → TokenKind → (List Lexeme → Reading A) → List Lexeme → Reading (Option A)
-behind_next kind one words = if begins_with kind words then as_one (λ x. Some x) (behind_mark kind one words) else Ok (None, words)
+abbrev pub after_next : {A : Type 0} → TokenKind → (List Lexeme → Reading A) → List Lexeme → Reading (Option A)
+after_next kind one words = if begins_with kind words then as_one (λ x. Some x) (after_mark kind one words) else Ok (None, words)
 
 -- the type and the values of what is declared
 unfoldable pub typed : List (List ℕ) → ℕ → ℕ → List Lexeme → Reading Statement
-typed all most room words = do
-  kind ← type_at room words
-  value ← behind_next kinds.Assign (right true most room) kind.1
+typed all most depth_left words = do
+  kind ← type_at depth_left words
+  value ← after_next kinds.Assign (right true most depth_left) kind.1
   Ok (VarTyped all kind.0 value.0, value.1)
 
 -- the values of what is declared without a type
 unfoldable pub untyped : List (List ℕ) → ℕ → ℕ → List Lexeme → Reading Statement
-untyped all most room words = as_one (VarUntyped all) (behind_mark kinds.Assign (right true most room) words)
+untyped all most depth_left words = as_one (VarUntyped all) (after_mark kinds.Assign (right true most depth_left) words)
 
 -- the names after `var`, and their type or values
 unfoldable pub variables : ℕ → ℕ → List Lexeme → Reading Statement
-variables most room words =
+variables most depth_left words =
     names kinds.Comma most words >>= λ all.
-    if begins_with kinds.Assign all.1 then untyped all.0.0 most room all.1 else typed all.0.0 most room all.1
+    if begins_with kinds.Assign all.1 then untyped all.0.0 most depth_left all.1 else typed all.0.0 most depth_left all.1
 
 -- what follows `var`: a type or values
 abbrev pub variable : ℕ → ℕ → List Lexeme → Reading Statement
-variable most room words = needing 1 room (variables most room words)
+variable most depth_left words = needing 1 depth_left (variables most depth_left words)
 
--- a statement after this mark, which contains no other, with at most `room` levels below it
+-- a statement after this mark, which contains no other, with at most `depth_left` levels below it
 abbrev pub leaf : ℕ → ℕ → TokenKind → List Lexeme → Reading Statement
-leaf most room kinds.Go rest = started most room rest
-leaf most room kinds.Var rest = variable most room rest
-leaf most room kinds.Return rest = as_one Return (returned most room rest)
-leaf most room kinds.Break rest = Ok (Break, rest)
-leaf most room kinds.Continue rest = Ok (Continue, rest)
-leaf most room kind rest = if is_end kind then Ok (Empty, Mark kind ∷ rest) else as_one Alone (simple true true most room (Mark kind ∷ rest))
+leaf most depth_left kinds.Go rest = started most depth_left rest
+leaf most depth_left kinds.Var rest = variable most depth_left rest
+leaf most depth_left kinds.Return rest = as_one Return (returned most depth_left rest)
+leaf most depth_left kinds.Break rest = Ok (Break, rest)
+leaf most depth_left kinds.Continue rest = Ok (Continue, rest)
+leaf most depth_left kind rest = if is_end kind then Ok (Empty, Mark kind ∷ rest) else as_one Alone (simple true true most depth_left (Mark kind ∷ rest))
 
 -- ---- statements that contain others
 
@@ -110,20 +110,20 @@ otherwise block branch words =
 
 -- what follows `if`: a condition, and a block with a statement in it
 unfoldable pub branched : ℕ → ℕ → (block : List Lexeme → Reading Statements) → (branch : List Lexeme → Reading Branch) → List Lexeme → Reading Branch
-branched most room block branch words = needing 2 room (do
-  header ← if_header most room words
+branched most depth_left block branch words = needing 2 depth_left (do
+  header ← if_header most depth_left words
   body ← block header.1
   last ← otherwise block branch body.1
   Ok (Conditional header.0.0 header.0.1 body.0 last.0, last.1))
 
 -- what follows `for`: a block with a statement in it
 unfoldable pub repeated : ℕ → ℕ → (block : List Lexeme → Reading Statements) → List Lexeme → Reading Statement
-repeated most room block words = needing 2 room (for_header most room words >>= λ header. as_one (For header.0) (block header.1))
+repeated most depth_left block words = needing 2 depth_left (for_header most depth_left words >>= λ header. as_one (For header.0) (block header.1))
 
--- what a clause of a select waits for, at most `room` levels deep
+-- what a clause of a select waits for, at most `depth_left` levels deep
 unfoldable pub waited : ℕ → ℕ → List Lexeme → Reading Comm
 waited most zero words = Err TooDeep
-waited most (suc room) words = comm most room words
+waited most (suc depth_left) words = comm most depth_left words
 
 -- the statements of a clause, after its colon
 unfoldable pub clause_body : (one : List Lexeme → Reading Statement) → Option Comm → List Lexeme → Reading OneClause
@@ -132,11 +132,11 @@ clause_body one waits words = do
   all ← listed one clause_next Syntax (length inside) inside
   Ok (record { comm = waits; body = statements all.0.0 }, all.1)
 
--- a clause, with at most `room` levels below it
+-- a clause, with at most `depth_left` levels below it
 unfoldable pub one_clause : ℕ → ℕ → (one : List Lexeme → Reading Statement) → List Lexeme → Reading OneClause
-one_clause most room one (Mark kinds.Case ∷ rest) = needing 2 room (waited most room rest >>= λ waits. clause_body one (Some waits.0) waits.1)
-one_clause most room one (Mark kinds.Default ∷ rest) = needing 1 room (clause_body one None rest)
-one_clause most room one words = Err Syntax
+one_clause most depth_left one (Mark kinds.Case ∷ rest) = needing 2 depth_left (waited most depth_left rest >>= λ waits. clause_body one (Some waits.0) waits.1)
+one_clause most depth_left one (Mark kinds.Default ∷ rest) = needing 1 depth_left (clause_body one None rest)
+one_clause most depth_left one words = Err Syntax
 
 -- a clause for which no level is left
 unfoldable pub no_clause : List Lexeme → Reading OneClause
@@ -160,37 +160,37 @@ selected most clause words =
     if begins_with kinds.RightBrace inside then (expect kinds.RightBrace inside >>= λ after. Ok (clauses [], after))
     else (listed clause clauses_next (TooMany SelectClauses) most inside >>= λ all. Ok (clauses all.0.0, all.1))
 
--- a statement after this mark, with at most `room` levels below it
+-- a statement after this mark, with at most `depth_left` levels below it
 abbrev pub marked : ℕ → ℕ → (block : List Lexeme → Reading Statements) → (branch : List Lexeme → Reading Branch) → (clause : List Lexeme → Reading OneClause) → TokenKind → List Lexeme → Reading Statement
-marked most room block branch clause kinds.LeftBrace rest = needing 2 room (as_one Block (block (Mark kinds.LeftBrace ∷ rest)))
-marked most room block branch clause kinds.If rest = as_one If (branched most room block branch rest)
-marked most room block branch clause kinds.For rest = repeated most room block rest
-marked most room block branch clause kinds.Select rest = as_one Select (selected most clause rest)
-marked most room block branch clause kind rest = leaf most room kind rest
+marked most depth_left block branch clause kinds.LeftBrace rest = needing 2 depth_left (as_one Block (block (Mark kinds.LeftBrace ∷ rest)))
+marked most depth_left block branch clause kinds.If rest = as_one If (branched most depth_left block branch rest)
+marked most depth_left block branch clause kinds.For rest = repeated most depth_left block rest
+marked most depth_left block branch clause kinds.Select rest = as_one Select (selected most clause rest)
+marked most depth_left block branch clause kind rest = leaf most depth_left kind rest
 
--- a statement, with at most `room` levels below it
+-- a statement, with at most `depth_left` levels below it
 unfoldable pub stated : ℕ → ℕ → (block : List Lexeme → Reading Statements) → (branch : List Lexeme → Reading Branch) → (clause : List Lexeme → Reading OneClause) → List Lexeme → Reading Statement
-stated most room block branch clause (Mark kind ∷ rest) = marked most room block branch clause kind rest
-stated most room block branch clause words = as_one Alone (simple true true most room words)
+stated most depth_left block branch clause (Mark kind ∷ rest) = marked most depth_left block branch clause kind rest
+stated most depth_left block branch clause words = as_one Alone (simple true true most depth_left words)
 
--- at most `room` levels deep, with lists of at most `most` entries
+-- at most `depth_left` levels deep, with lists of at most `most` entries
 unfoldable mutual
   -- a statement
   pub statement : ℕ → ℕ → List Lexeme → Reading Statement
   statement most zero words = Err TooDeep
-  statement most (suc room) words = stated most room (block most room) (branch most room) (clause most room) words
+  statement most (suc depth_left) words = stated most depth_left (block most depth_left) (branch most depth_left) (clause most depth_left) words
 
   -- a block
   pub block : ℕ → ℕ → List Lexeme → Reading Statements
   block most zero words = Err TooDeep
-  block most (suc room) words = braced (statement most room) words
+  block most (suc depth_left) words = braced (statement most depth_left) words
 
   -- what follows an `if`
   pub branch : ℕ → ℕ → List Lexeme → Reading Branch
   branch most zero words = Err TooDeep
-  branch most (suc room) words = branched most room (block most room) (branch most room) words
+  branch most (suc depth_left) words = branched most depth_left (block most depth_left) (branch most depth_left) words
 
   -- a clause of a select
   pub clause : ℕ → ℕ → List Lexeme → Reading OneClause
   clause most zero words = no_clause words
-  clause most (suc room) words = one_clause most room (statement most room) words
+  clause most (suc depth_left) words = one_clause most depth_left (statement most depth_left) words

@@ -6,7 +6,7 @@ use Rattle.std.specs.Prelude.{ℕ, true, false, List, ◌∷◌, ◌++◌, Optio
 use Rattle.scanner.specs.declared.kind.TokenKind.TheVariants as kinds
 use Rattle.syntax.specs.Tree.{Expression, Comm, Returned, NoValue, ReturnedValue, Statement, Empty, Alone, VarTyped, VarUntyped, Block, If, For, Select, Go, Return, Break, Continue, Statements, NoStatement, Then, Branch, Conditional, Otherwise, NoElse, ElseBlock, ElseIf, Clauses, NoClause, Clause}
 use Rattle.parser_base.specs.Lexemes.{Lexeme, Name, Mark}
-use Rattle.parser_base.specs.Spelling.{behind, joined, before, AreSome, IsGrouped, type_words, IsType}
+use Rattle.parser_base.specs.Spelling.{following, joined, before, AreSome, IsGrouped, type_words, IsType}
 use Rattle.parser_simple.specs.Spelling.{name_words, IsName, arguments_words, AreArguments, right_words, IsRight, simple_words, IsSimple}
 use Rattle.parser_header.specs.Spelling.{IsAny, comm_words, IsComm, if_head_words, IsIfHead, for_head_words, IsForHead}
 
@@ -26,7 +26,7 @@ initial_words None rest = rest
 initial_words (Some right) rest = Mark kinds.Assign ∷ right_words right rest
 
 abbrev pub names_words : List (List ℕ) → List Lexeme → List Lexeme
-names_words names rest = joined name_words (behind kinds.Comma) names rest
+names_words names rest = joined name_words (following kinds.Comma) names rest
 
 -- ---- statements
 

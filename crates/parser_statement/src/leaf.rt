@@ -9,7 +9,7 @@ ghost use Rattle.parser_base.specs.Lexemes.{Mark};
 ghost use Rattle.parser_base.specs.Cursor.{ahead};
 ghost use Rattle.parser_base.specs.Reading.{Gives, as_one};
 ghost use Rattle.parser_simple.specs.Reading.{right, simple};
-ghost use Rattle.parser_statement.specs.Reading.{is_end, ends_statement, returned_value, returned, started, behind_next, typed, untyped, variables, variable, leaf};
+ghost use Rattle.parser_statement.specs.Reading.{is_end, ends_statement, returned_value, returned, started, after_next, typed, untyped, variables, variable, leaf};
 
 use go_text::Span;
 use parser_base::beside::beside;
@@ -19,7 +19,7 @@ use parser_base::fault::ParseFault;
 use parser_base::types::type_at;
 use parser_simple::form::begins_with;
 use parser_simple::place::{name_at, names};
-use parser_simple::right::{arguments, right_behind};
+use parser_simple::right::{arguments, right_after};
 use parser_simple::simple;
 use scanner::TokenKind;
 use std::alloc::Global;
@@ -47,48 +47,48 @@ pub(crate) fn ends_statement(cursor: Cursor<'_>) -> bool
     }
 }
 
-/// A simple statement, with at most `room` levels below it.
+/// A simple statement, with at most `depth_left` levels below it.
 pub(crate) fn simple_statement(
     alloc: Global,
-    room: u32,
+    depth_left: u32,
     cursor: Cursor<'_>,
 ) -> Result<(StatementNode, Cursor<'_>), ParseFault>
-    ensures { Gives (λ x. (statement_of x.0, ahead x.1)) result (as_one Alone (simple true true MAX_ENTRIES room (ahead cursor.entry))) }
+    ensures { Gives (λ x. (statement_of x.0, ahead x.1)) result (as_one Alone (simple true true MAX_ENTRIES depth_left (ahead cursor.entry))) }
 {
-    let found = simple::simple_statement(alloc, true, true, room, cursor)?;
+    let found = simple::simple_statement(alloc, true, true, depth_left, cursor)?;
     Ok((StatementNode::Simple(found.node), found.rest))
 }
 
-/// A `go` ("Go statements" of the Go specification), after its word, with at most `room` levels below it.
+/// A `go` ("Go statements" of the Go specification), after its word, with at most `depth_left` levels below it.
 #[tactic(auto, unfolding(crate::specs::Reading::started))]
 pub(crate) fn go_statement(
     alloc: Global,
-    room: u32,
+    depth_left: u32,
     cursor: Cursor<'_>,
 ) -> Result<(StatementNode, Cursor<'_>), ParseFault>
-    ensures { Gives (λ x. (statement_of x.0, ahead x.1)) result (started MAX_ENTRIES room (ahead cursor.entry)) }
+    ensures { Gives (λ x. (statement_of x.0, ahead x.1)) result (started MAX_ENTRIES depth_left (ahead cursor.entry)) }
 {
     let (function, rest) = name_at(alloc, cursor)?;
-    let (function, passed) = beside(function, arguments(alloc, true, room, rest))?;
+    let (function, passed) = beside(function, arguments(alloc, true, depth_left, rest))?;
     Ok((StatementNode::Go(function, passed.node), passed.rest))
 }
 
-/// A value after `return`, at most `room` levels deep.
+/// A value after `return`, at most `depth_left` levels deep.
 #[tactic(auto, unfolding(crate::specs::Reading::returned_value))]
 fn return_value(
     alloc: Global,
-    room: u32,
+    depth_left: u32,
     cursor: Cursor<'_>,
 ) -> Result<(ReturnNode, Cursor<'_>), ParseFault>
-    ensures { Gives (λ x. (returned_of x.0, ahead x.1)) result (returned_value MAX_ENTRIES room (ahead cursor.entry)) }
+    ensures { Gives (λ x. (returned_of x.0, ahead x.1)) result (returned_value MAX_ENTRIES depth_left (ahead cursor.entry)) }
 {
-    if room == 0 {
+    if depth_left == 0 {
         if begins(cursor) {
             return Err(ParseFault::TooDeep(cursor.place()));
         }
         return Err(ParseFault::Syntax(cursor.place()));
     }
-    let found = expression(alloc, true, room, 0, cursor)?;
+    let found = expression(alloc, true, depth_left, 0, cursor)?;
     Ok((ReturnNode::Value(found.node), found.rest))
 }
 
@@ -96,41 +96,41 @@ fn return_value(
 #[tactic(auto, unfolding(crate::specs::Reading::returned))]
 fn return_operand(
     alloc: Global,
-    room: u32,
+    depth_left: u32,
     cursor: Cursor<'_>,
 ) -> Result<(ReturnNode, Cursor<'_>), ParseFault>
-    ensures { Gives (λ x. (returned_of x.0, ahead x.1)) result (returned MAX_ENTRIES room (ahead cursor.entry)) }
+    ensures { Gives (λ x. (returned_of x.0, ahead x.1)) result (returned MAX_ENTRIES depth_left (ahead cursor.entry)) }
 {
     if ends_statement(cursor) {
         return Ok((ReturnNode::Nothing, cursor));
     }
-    return_value(alloc, room, cursor)
+    return_value(alloc, depth_left, cursor)
 }
 
-/// A `return` ("Return statements" of the Go specification), after its word, with at most `room` levels below it.
+/// A `return` ("Return statements" of the Go specification), after its word, with at most `depth_left` levels below it.
 pub(crate) fn return_statement(
     alloc: Global,
-    room: u32,
+    depth_left: u32,
     cursor: Cursor<'_>,
 ) -> Result<(StatementNode, Cursor<'_>), ParseFault>
-    ensures { Gives (λ x. (statement_of x.0, ahead x.1)) result (as_one Return (returned MAX_ENTRIES room (ahead cursor.entry))) }
+    ensures { Gives (λ x. (statement_of x.0, ahead x.1)) result (as_one Return (returned MAX_ENTRIES depth_left (ahead cursor.entry))) }
 {
-    let (returned, rest) = return_operand(alloc, room, cursor)?;
+    let (returned, rest) = return_operand(alloc, depth_left, cursor)?;
     Ok((StatementNode::Return(returned), rest))
 }
 
 /// Values after `=`, if it comes next.
 fn initial_values(
     alloc: Global,
-    room: u32,
+    depth_left: u32,
     cursor: Cursor<'_>,
 ) -> Result<(Option<Vec<ExpressionNode>>, Cursor<'_>), ParseFault>
-    ensures { Gives (λ x. (option_map right_of x.0, ahead x.1)) result (behind_next kinds.Assign (right true MAX_ENTRIES room) (ahead cursor.entry)) }
+    ensures { Gives (λ x. (option_map right_of x.0, ahead x.1)) result (after_next kinds.Assign (right true MAX_ENTRIES depth_left) (ahead cursor.entry)) }
 {
     if !begins_with(TokenKind::Assign, cursor) {
         return Ok((None, cursor));
     }
-    let (values, rest) = right_behind(alloc, true, room, TokenKind::Assign, cursor)?;
+    let (values, rest) = right_after(alloc, true, depth_left, TokenKind::Assign, cursor)?;
     Ok((Some(values), rest))
 }
 
@@ -138,16 +138,16 @@ fn initial_values(
 #[tactic(auto, unfolding(crate::specs::Reading::typed))]
 fn typed_var(
     alloc: Global,
-    room: u32,
+    depth_left: u32,
     names: Vec<Name>,
     cursor: Cursor<'_>,
 ) -> Result<(StatementNode, Cursor<'_>), ParseFault>
-    ensures { Gives (λ x. (statement_of x.0, ahead x.1)) result (typed (map name_of names.items) MAX_ENTRIES room (ahead cursor.entry)) }
+    ensures { Gives (λ x. (statement_of x.0, ahead x.1)) result (typed (map name_of names.items) MAX_ENTRIES depth_left (ahead cursor.entry)) }
 {
-    let (names, found) = beside(names, type_at(alloc, room, cursor))?;
+    let (names, found) = beside(names, type_at(alloc, depth_left, cursor))?;
     let ((names, kind), (right, rest)) = beside(
         (names, found.node),
-        initial_values(alloc, room, found.rest),
+        initial_values(alloc, depth_left, found.rest),
     )?;
     Ok((StatementNode::Typed(names, kind, right), rest))
 }
@@ -156,15 +156,15 @@ fn typed_var(
 #[tactic(auto, unfolding(crate::specs::Reading::untyped))]
 fn untyped_var(
     alloc: Global,
-    room: u32,
+    depth_left: u32,
     names: Vec<Name>,
     cursor: Cursor<'_>,
 ) -> Result<(StatementNode, Cursor<'_>), ParseFault>
-    ensures { Gives (λ x. (statement_of x.0, ahead x.1)) result (untyped (map name_of names.items) MAX_ENTRIES room (ahead cursor.entry)) }
+    ensures { Gives (λ x. (statement_of x.0, ahead x.1)) result (untyped (map name_of names.items) MAX_ENTRIES depth_left (ahead cursor.entry)) }
 {
     let (names, (values, rest)) = beside(
         names,
-        right_behind(alloc, true, room, TokenKind::Assign, cursor),
+        right_after(alloc, true, depth_left, TokenKind::Assign, cursor),
     )?;
     Ok((StatementNode::Untyped(names, values), rest))
 }
@@ -173,54 +173,54 @@ fn untyped_var(
 #[tactic(auto, unfolding(crate::specs::Reading::variables))]
 fn var_spec(
     alloc: Global,
-    room: u32,
+    depth_left: u32,
     cursor: Cursor<'_>,
 ) -> Result<(StatementNode, Cursor<'_>), ParseFault>
-    ensures { Gives (λ x. (statement_of x.0, ahead x.1)) result (variables MAX_ENTRIES room (ahead cursor.entry)) }
+    ensures { Gives (λ x. (statement_of x.0, ahead x.1)) result (variables MAX_ENTRIES depth_left (ahead cursor.entry)) }
 {
     let names = names(alloc, TokenKind::Comma, MAX_ENTRIES as usize, cursor)?;
     if begins_with(TokenKind::Assign, names.rest) {
-        return untyped_var(alloc, room, names.entries, names.rest);
+        return untyped_var(alloc, depth_left, names.entries, names.rest);
     }
-    typed_var(alloc, room, names.entries, names.rest)
+    typed_var(alloc, depth_left, names.entries, names.rest)
 }
 
-/// A `var` ("Variable declarations" of the Go specification), after its word, which is at `first`, with at most `room` levels
+/// A `var` ("Variable declarations" of the Go specification), after its word, which is at `first`, with at most `depth_left` levels
 /// below it.
 pub(crate) fn var_declaration(
     alloc: Global,
-    room: u32,
+    depth_left: u32,
     first: Span,
     cursor: Cursor<'_>,
 ) -> Result<(StatementNode, Cursor<'_>), ParseFault>
-    ensures statement { Gives (λ x. (statement_of x.0, ahead x.1)) result (variable MAX_ENTRIES room (ahead cursor.entry)) }
-    ensures deep { room < 1 → IfErr result (λ fault. fault ≡ faults.TooDeep first) }
+    ensures statement { Gives (λ x. (statement_of x.0, ahead x.1)) result (variable MAX_ENTRIES depth_left (ahead cursor.entry)) }
+    ensures deep { depth_left < 1 → IfErr result (λ fault. fault ≡ faults.TooDeep first) }
 {
-    if room < 1 {
+    if depth_left < 1 {
         return Err(ParseFault::TooDeep(first));
     }
-    var_spec(alloc, room, cursor)
+    var_spec(alloc, depth_left, cursor)
 }
 
-/// A statement that begins with this mark and contains no other statement, with at most `room`
+/// A statement that begins with this mark and contains no other statement, with at most `depth_left`
 /// levels below it.
 pub(crate) fn leaf<'a>(
     alloc: Global,
-    room: u32,
+    depth_left: u32,
     kind: TokenKind,
     rest: Cursor<'a>,
     cursor: Cursor<'a>,
 ) -> Result<(StatementNode, Cursor<'a>), ParseFault>
     requires { ahead cursor ≡ Mark kind ∷ ahead rest }
-    ensures { Gives (λ x. (statement_of x.0, ahead x.1)) result (leaf MAX_ENTRIES room kind (ahead rest.entry)) }
+    ensures { Gives (λ x. (statement_of x.0, ahead x.1)) result (leaf MAX_ENTRIES depth_left kind (ahead rest.entry)) }
 {
     match kind {
-        TokenKind::Go => go_statement(alloc, room, rest),
-        TokenKind::Var => var_declaration(alloc, room, cursor.place(), rest),
-        TokenKind::Return => return_statement(alloc, room, rest),
+        TokenKind::Go => go_statement(alloc, depth_left, rest),
+        TokenKind::Var => var_declaration(alloc, depth_left, cursor.place(), rest),
+        TokenKind::Return => return_statement(alloc, depth_left, rest),
         TokenKind::Break => Ok((StatementNode::Break, rest)),
         TokenKind::Continue => Ok((StatementNode::Continue, rest)),
         kind if is_end(kind) => Ok((StatementNode::Empty, cursor)),
-        _ => simple_statement(alloc, room, cursor),
+        _ => simple_statement(alloc, depth_left, cursor),
     }
 }

@@ -115,22 +115,22 @@ fn clause_node(comm: Option<CommNode>, body: Vec<StatementNode>) -> ClauseNode
 
 // ---- blocks
 
-/// The statements of a block or, if `clause` holds, of a clause, up to what ends them; each at most `room` levels deep.
+/// The statements of a block or, if `clause` holds, of a clause, up to what ends them; each at most `depth_left` levels deep.
 #[cycle(statement)]
 fn statements_to_end(
     alloc: Global,
-    room: u32,
+    depth_left: u32,
     clause: bool,
     cursor: Cursor<'_>,
 ) -> Result<List<'_, StatementNode>, ParseFault>
-    ensures { Gives (λ x. ((map statement_of x.entries.items, x.trailing), ahead x.rest)) result (listed (statement MAX_ENTRIES room) (next_of clause) Syntax (length (ahead cursor.entry)) (ahead cursor.entry)) }
+    ensures { Gives (λ x. ((map statement_of x.entries.items, x.trailing), ahead x.rest)) result (listed (statement MAX_ENTRIES depth_left) (next_of clause) Syntax (length (ahead cursor.entry)) (ahead cursor.entry)) }
 {
     let mut entries = Vec::new(alloc);
     let mut rest = cursor;
     for _ in 0..cursor.len() {
-        let (one, behind) = statement(alloc, room, rest)?;
+        let (one, following) = statement(alloc, depth_left, rest)?;
         entries.push(one)?;
-        let (next, after) = next_of(clause, behind)?;
+        let (next, after) = next_of(clause, following)?;
         match next {
             Next::More => rest = after,
             Next::End(trailing) => return Ok(List {
@@ -143,94 +143,94 @@ fn statements_to_end(
     Err(ParseFault::Syntax(rest.place()))
 }
 
-/// The statements of a block, each at most `room` levels deep, after its first brace.
+/// The statements of a block, each at most `depth_left` levels deep, after its first brace.
 #[cycle(statement)]
 pub fn statement_list(
     alloc: Global,
-    room: u32,
+    depth_left: u32,
     cursor: Cursor<'_>,
 ) -> Result<List<'_, StatementNode>, ParseFault>
-    ensures { Gives (λ x. ((map statement_of x.entries.items, x.trailing), ahead x.rest)) result (listed (statement MAX_ENTRIES room) statement_next Syntax (length (ahead cursor.entry)) (ahead cursor.entry)) }
+    ensures { Gives (λ x. ((map statement_of x.entries.items, x.trailing), ahead x.rest)) result (listed (statement MAX_ENTRIES depth_left) statement_next Syntax (length (ahead cursor.entry)) (ahead cursor.entry)) }
 {
-    statements_to_end(alloc, room, false, cursor)
+    statements_to_end(alloc, depth_left, false, cursor)
 }
 
-/// A block, at most `room` levels deep ("Blocks" of the Go specification).
+/// A block, at most `depth_left` levels deep ("Blocks" of the Go specification).
 #[cycle(statement)]
 #[tactic(auto, unfolding(crate::specs::Reading::statement, crate::specs::Reading::braced))]
 fn block(
     alloc: Global,
-    room: u32,
+    depth_left: u32,
     cursor: Cursor<'_>,
 ) -> Result<(Vec<StatementNode>, Cursor<'_>), ParseFault>
-    ensures { Gives (λ x. (body_of x.0.items, ahead x.1)) result (block MAX_ENTRIES room (ahead cursor.entry)) }
+    ensures { Gives (λ x. (body_of x.0.items, ahead x.1)) result (block MAX_ENTRIES depth_left (ahead cursor.entry)) }
 {
-    if room == 0 {
+    if depth_left == 0 {
         return Err(ParseFault::TooDeep(cursor.place()));
     }
     let rest = cursor.expect(TokenKind::LeftBrace)?;
-    let all = statement_list(alloc, room - 1, rest)?;
+    let all = statement_list(alloc, depth_left - 1, rest)?;
     Ok((all.entries, all.rest))
 }
 
 // ---- if and for
 
-/// What follows `else`: an `if` or a block, at most `room` levels deep.
+/// What follows `else`: an `if` or a block, at most `depth_left` levels deep.
 #[cycle(statement)]
 #[tactic(auto, unfolding(crate::specs::Reading::statement, crate::specs::Reading::other))]
 fn else_branch(
     alloc: Global,
-    room: u32,
+    depth_left: u32,
     cursor: Cursor<'_>,
 ) -> Result<(ElseNode, Cursor<'_>), ParseFault>
-    ensures { Gives (λ x. (otherwise_of x.0, ahead x.1)) result (other (block MAX_ENTRIES room) (branch MAX_ENTRIES room) (ahead cursor.entry)) }
+    ensures { Gives (λ x. (otherwise_of x.0, ahead x.1)) result (other (block MAX_ENTRIES depth_left) (branch MAX_ENTRIES depth_left) (ahead cursor.entry)) }
 {
     if begins_with(TokenKind::If, cursor) {
         let rest = cursor.expect(TokenKind::If)?;
-        if room == 0 {
+        if depth_left == 0 {
             return Err(ParseFault::TooDeep(cursor.place()));
         }
-        let (branch, rest) = if_statement(alloc, room - 1, cursor.place(), rest)?;
+        let (branch, rest) = if_statement(alloc, depth_left - 1, cursor.place(), rest)?;
         return Ok((else_node(alloc, branch)?, rest));
     }
-    let (body, rest) = block(alloc, room, cursor)?;
+    let (body, rest) = block(alloc, depth_left, cursor)?;
     Ok((ElseNode::Block(body), rest))
 }
 
-/// An `else`, at most `room` levels deep, if there is one.
+/// An `else`, at most `depth_left` levels deep, if there is one.
 #[cycle(statement)]
 #[tactic(auto, unfolding(crate::specs::Reading::otherwise))]
 fn optional_else(
     alloc: Global,
-    room: u32,
+    depth_left: u32,
     cursor: Cursor<'_>,
 ) -> Result<(ElseNode, Cursor<'_>), ParseFault>
-    ensures { Gives (λ x. (otherwise_of x.0, ahead x.1)) result (otherwise (block MAX_ENTRIES room) (branch MAX_ENTRIES room) (ahead cursor.entry)) }
+    ensures { Gives (λ x. (otherwise_of x.0, ahead x.1)) result (otherwise (block MAX_ENTRIES depth_left) (branch MAX_ENTRIES depth_left) (ahead cursor.entry)) }
 {
     if !begins_with(TokenKind::Else, cursor) {
         return Ok((ElseNode::Nothing, cursor));
     }
     let rest = cursor.expect(TokenKind::Else)?;
-    else_branch(alloc, room, rest)
+    else_branch(alloc, depth_left, rest)
 }
 
-/// What follows an `if` at `first` ("If statements" of the Go specification), with at most `room` levels below it.
+/// What follows an `if` at `first` ("If statements" of the Go specification), with at most `depth_left` levels below it.
 #[cycle(statement)]
 #[tactic(auto, unfolding(crate::specs::Reading::branched))]
 fn if_statement(
     alloc: Global,
-    room: u32,
+    depth_left: u32,
     first: Span,
     cursor: Cursor<'_>,
 ) -> Result<(IfNode, Cursor<'_>), ParseFault>
-    ensures { Gives (λ x. (branch_of x.0, ahead x.1)) result (branched MAX_ENTRIES room (block MAX_ENTRIES room) (branch MAX_ENTRIES room) (ahead cursor.entry)) }
+    ensures { Gives (λ x. (branch_of x.0, ahead x.1)) result (branched MAX_ENTRIES depth_left (block MAX_ENTRIES depth_left) (branch MAX_ENTRIES depth_left) (ahead cursor.entry)) }
 {
-    if room < 2 {
+    if depth_left < 2 {
         return Err(ParseFault::TooDeep(first));
     }
-    let (head, rest) = if_header(alloc, room, cursor)?;
-    let (head, (body, rest)) = beside(head, block(alloc, room, rest))?;
-    let (begun, (otherwise, rest)) = beside((head, body), optional_else(alloc, room, rest))?;
+    let (head, rest) = if_header(alloc, depth_left, cursor)?;
+    let (head, (body, rest)) = beside(head, block(alloc, depth_left, rest))?;
+    let (begun, (otherwise, rest)) = beside((head, body), optional_else(alloc, depth_left, rest))?;
     let ((header, condition), body) = begun;
     let branch = IfNode {
         header,
@@ -241,81 +241,81 @@ fn if_statement(
     Ok((branch, rest))
 }
 
-/// What follows a `for` at `first` ("For statements" of the Go specification), with at most `room` levels below it.
+/// What follows a `for` at `first` ("For statements" of the Go specification), with at most `depth_left` levels below it.
 #[cycle(statement)]
 #[tactic(auto, unfolding(crate::specs::Reading::repeated))]
 fn for_statement(
     alloc: Global,
-    room: u32,
+    depth_left: u32,
     first: Span,
     cursor: Cursor<'_>,
 ) -> Result<(StatementNode, Cursor<'_>), ParseFault>
-    ensures { Gives (λ x. (statement_of x.0, ahead x.1)) result (repeated MAX_ENTRIES room (block MAX_ENTRIES room) (ahead cursor.entry)) }
+    ensures { Gives (λ x. (statement_of x.0, ahead x.1)) result (repeated MAX_ENTRIES depth_left (block MAX_ENTRIES depth_left) (ahead cursor.entry)) }
 {
-    if room < 2 {
+    if depth_left < 2 {
         return Err(ParseFault::TooDeep(first));
     }
-    let (header, rest) = for_header(alloc, room, cursor)?;
-    let (header, (body, rest)) = beside(header, block(alloc, room, rest))?;
+    let (header, rest) = for_header(alloc, depth_left, cursor)?;
+    let (header, (body, rest)) = beside(header, block(alloc, depth_left, rest))?;
     Ok((StatementNode::For(header, body), rest))
 }
 
 // ---- select
 
-/// What a clause waits for, at most `room` levels deep.
+/// What a clause waits for, at most `depth_left` levels deep.
 #[tactic(auto, unfolding(crate::specs::Reading::waited))]
 fn comm_case(
     alloc: Global,
-    room: u32,
+    depth_left: u32,
     cursor: Cursor<'_>,
 ) -> Result<(CommNode, Cursor<'_>), ParseFault>
-    ensures { Gives (λ x. (comm_of x.0, ahead x.1)) result (waited MAX_ENTRIES room (ahead cursor.entry)) }
+    ensures { Gives (λ x. (comm_of x.0, ahead x.1)) result (waited MAX_ENTRIES depth_left (ahead cursor.entry)) }
 {
-    if room == 0 {
+    if depth_left == 0 {
         return Err(ParseFault::TooDeep(cursor.place()));
     }
-    comm_statement(alloc, room - 1, cursor)
+    comm_statement(alloc, depth_left - 1, cursor)
 }
 
-/// A clause from its colon on, with statements at most `room` levels deep.
+/// A clause from its colon on, with statements at most `depth_left` levels deep.
 #[cycle(statement)]
 #[tactic(auto, unfolding(crate::specs::Reading::clause_body))]
 fn clause_body(
     alloc: Global,
-    room: u32,
+    depth_left: u32,
     waits: Option<CommNode>,
     cursor: Cursor<'_>,
 ) -> Result<(ClauseNode, Cursor<'_>), ParseFault>
-    ensures { Gives (λ x. (clause_of x.0, ahead x.1)) result (clause_body (statement MAX_ENTRIES room) (option_map comm_of waits) (ahead cursor.entry)) }
+    ensures { Gives (λ x. (clause_of x.0, ahead x.1)) result (clause_body (statement MAX_ENTRIES depth_left) (option_map comm_of waits) (ahead cursor.entry)) }
 {
     let (waits, rest) = beside(waits, cursor.expect(TokenKind::Colon))?;
-    let (waits, body) = beside(waits, statements_to_end(alloc, room, true, rest))?;
+    let (waits, body) = beside(waits, statements_to_end(alloc, depth_left, true, rest))?;
     Ok((clause_node(waits, body.entries), body.rest))
 }
 
-/// A clause, with at most `room` levels below it.
+/// A clause, with at most `depth_left` levels below it.
 #[cycle(statement)]
 #[tactic(auto, unfolding(crate::specs::Reading::one_clause))]
 fn comm_clause_below(
     alloc: Global,
-    room: u32,
+    depth_left: u32,
     cursor: Cursor<'_>,
 ) -> Result<(ClauseNode, Cursor<'_>), ParseFault>
-    ensures { Gives (λ x. (clause_of x.0, ahead x.1)) result (one_clause MAX_ENTRIES room (statement MAX_ENTRIES room) (ahead cursor.entry)) }
+    ensures { Gives (λ x. (clause_of x.0, ahead x.1)) result (one_clause MAX_ENTRIES depth_left (statement MAX_ENTRIES depth_left) (ahead cursor.entry)) }
 {
     match cursor.next() {
         Some((Word::Mark(TokenKind::Case), rest)) => {
-            if room < 2 {
+            if depth_left < 2 {
                 return Err(ParseFault::TooDeep(cursor.place()));
             }
-            let (waits, rest) = comm_case(alloc, room, rest)?;
-            clause_body(alloc, room, Some(waits), rest)
+            let (waits, rest) = comm_case(alloc, depth_left, rest)?;
+            clause_body(alloc, depth_left, Some(waits), rest)
         }
         Some((Word::Mark(TokenKind::Default), rest)) => {
-            if room < 1 {
+            if depth_left < 1 {
                 return Err(ParseFault::TooDeep(cursor.place()));
             }
-            clause_body(alloc, room, None, rest)
+            clause_body(alloc, depth_left, None, rest)
         }
         _ => Err(ParseFault::Syntax(cursor.place())),
     }
@@ -334,37 +334,37 @@ fn no_clause(cursor: Cursor<'_>) -> ParseFault
     }
 }
 
-/// A clause, at most `room` levels deep.
+/// A clause, at most `depth_left` levels deep.
 #[cycle(statement)]
 #[tactic(auto, unfolding(crate::specs::Reading::statement))]
 fn comm_clause(
     alloc: Global,
-    room: u32,
+    depth_left: u32,
     cursor: Cursor<'_>,
 ) -> Result<(ClauseNode, Cursor<'_>), ParseFault>
-    ensures { Gives (λ x. (clause_of x.0, ahead x.1)) result (clause MAX_ENTRIES room (ahead cursor.entry)) }
+    ensures { Gives (λ x. (clause_of x.0, ahead x.1)) result (clause MAX_ENTRIES depth_left (ahead cursor.entry)) }
 {
-    if room == 0 {
+    if depth_left == 0 {
         return Err(no_clause(cursor));
     }
-    comm_clause_below(alloc, room - 1, cursor)
+    comm_clause_below(alloc, depth_left - 1, cursor)
 }
 
-/// The clauses of a `select`, each at most `room` levels deep.
+/// The clauses of a `select`, each at most `depth_left` levels deep.
 #[cycle(statement)]
 fn comm_clauses(
     alloc: Global,
-    room: u32,
+    depth_left: u32,
     cursor: Cursor<'_>,
 ) -> Result<List<'_, ClauseNode>, ParseFault>
-    ensures { Gives (λ x. ((map clause_of x.entries.items, x.trailing), ahead x.rest)) result (listed (clause MAX_ENTRIES room) clauses_next (TooMany SelectClauses) MAX_CLAUSES (ahead cursor.entry)) }
+    ensures { Gives (λ x. ((map clause_of x.entries.items, x.trailing), ahead x.rest)) result (listed (clause MAX_ENTRIES depth_left) clauses_next (TooMany SelectClauses) MAX_CLAUSES (ahead cursor.entry)) }
 {
     let mut entries = Vec::new(alloc);
     let mut rest = cursor;
     for _ in 0..MAX_CLAUSES {
-        let (one, behind) = comm_clause(alloc, room, rest)?;
+        let (one, following) = comm_clause(alloc, depth_left, rest)?;
         entries.push(one)?;
-        let (next, after) = clauses_next(behind)?;
+        let (next, after) = clauses_next(following)?;
         match next {
             Next::More => rest = after,
             Next::End(trailing) => return Ok(List {
@@ -377,85 +377,85 @@ fn comm_clauses(
     Err(ParseFault::TooManyClauses(rest.place()))
 }
 
-/// What follows a `select` ("Select statements" of the Go specification), with at most `room` levels below it.
+/// What follows a `select` ("Select statements" of the Go specification), with at most `depth_left` levels below it.
 #[cycle(statement)]
 #[tactic(auto, unfolding(crate::specs::Reading::selected))]
 fn select_statement(
     alloc: Global,
-    room: u32,
+    depth_left: u32,
     cursor: Cursor<'_>,
 ) -> Result<(StatementNode, Cursor<'_>), ParseFault>
-    ensures { Gives (λ x. (statement_of x.0, ahead x.1)) result (as_one Select (selected MAX_CLAUSES (clause MAX_ENTRIES room) (ahead cursor.entry))) }
+    ensures { Gives (λ x. (statement_of x.0, ahead x.1)) result (as_one Select (selected MAX_CLAUSES (clause MAX_ENTRIES depth_left) (ahead cursor.entry))) }
 {
     let inside = cursor.expect(TokenKind::LeftBrace)?;
     if begins_with(TokenKind::RightBrace, inside) {
         let rest = inside.expect(TokenKind::RightBrace)?;
         return Ok((select_node(Vec::new(alloc)), rest));
     }
-    let all = comm_clauses(alloc, room, inside)?;
+    let all = comm_clauses(alloc, depth_left, inside)?;
     Ok((select_node(all.entries), all.rest))
 }
 
 // ---- statements
 
-/// A statement that begins with this mark, with at most `room` levels below it.
+/// A statement that begins with this mark, with at most `depth_left` levels below it.
 #[cycle(statement)]
 fn keyword_statement<'a>(
     alloc: Global,
-    room: u32,
+    depth_left: u32,
     kind: TokenKind,
     rest: Cursor<'a>,
     cursor: Cursor<'a>,
 ) -> Result<(StatementNode, Cursor<'a>), ParseFault>
     requires { ahead cursor ≡ Mark kind ∷ ahead rest }
-    ensures { Gives (λ x. (statement_of x.0, ahead x.1)) result (marked MAX_ENTRIES room (block MAX_ENTRIES room) (branch MAX_ENTRIES room) (clause MAX_ENTRIES room) kind (ahead rest.entry)) }
+    ensures { Gives (λ x. (statement_of x.0, ahead x.1)) result (marked MAX_ENTRIES depth_left (block MAX_ENTRIES depth_left) (branch MAX_ENTRIES depth_left) (clause MAX_ENTRIES depth_left) kind (ahead rest.entry)) }
 {
     match kind {
         TokenKind::LeftBrace => {
-            if room < 2 {
+            if depth_left < 2 {
                 return Err(ParseFault::TooDeep(cursor.place()));
             }
-            let (body, rest) = block(alloc, room, cursor)?;
+            let (body, rest) = block(alloc, depth_left, cursor)?;
             Ok((StatementNode::Block(body), rest))
         }
         TokenKind::If => {
-            let (branch, rest) = if_statement(alloc, room, cursor.place(), rest)?;
+            let (branch, rest) = if_statement(alloc, depth_left, cursor.place(), rest)?;
             Ok((if_node(alloc, branch)?, rest))
         }
-        TokenKind::For => for_statement(alloc, room, cursor.place(), rest),
-        TokenKind::Select => select_statement(alloc, room, rest),
-        kind => leaf(alloc, room, kind, rest, cursor),
+        TokenKind::For => for_statement(alloc, depth_left, cursor.place(), rest),
+        TokenKind::Select => select_statement(alloc, depth_left, rest),
+        kind => leaf(alloc, depth_left, kind, rest, cursor),
     }
 }
 
-/// A statement, with at most `room` levels below it.
+/// A statement, with at most `depth_left` levels below it.
 #[cycle(statement)]
 #[tactic(auto, unfolding(crate::specs::Reading::stated))]
 fn statement_below(
     alloc: Global,
-    room: u32,
+    depth_left: u32,
     cursor: Cursor<'_>,
 ) -> Result<(StatementNode, Cursor<'_>), ParseFault>
-    ensures { Gives (λ x. (statement_of x.0, ahead x.1)) result (stated MAX_ENTRIES room (block MAX_ENTRIES room) (branch MAX_ENTRIES room) (clause MAX_ENTRIES room) (ahead cursor.entry)) }
+    ensures { Gives (λ x. (statement_of x.0, ahead x.1)) result (stated MAX_ENTRIES depth_left (block MAX_ENTRIES depth_left) (branch MAX_ENTRIES depth_left) (clause MAX_ENTRIES depth_left) (ahead cursor.entry)) }
 {
     match cursor.next() {
-        Some((Word::Mark(kind), rest)) => keyword_statement(alloc, room, kind, rest, cursor),
-        _ => simple_statement(alloc, room, cursor),
+        Some((Word::Mark(kind), rest)) => keyword_statement(alloc, depth_left, kind, rest, cursor),
+        _ => simple_statement(alloc, depth_left, cursor),
     }
 }
 
-/// A statement, at most `room` levels deep ("Statements" of the Go specification).
+/// A statement, at most `depth_left` levels deep ("Statements" of the Go specification).
 #[cycle(statement)]
 #[tactic(auto, unfolding(crate::specs::Reading::statement))]
 pub fn statement(
     alloc: Global,
-    room: u32,
+    depth_left: u32,
     cursor: Cursor<'_>,
 ) -> Result<(StatementNode, Cursor<'_>), ParseFault>
-    ensures { Gives (λ x. (statement_of x.0, ahead x.1)) result (statement MAX_ENTRIES room (ahead cursor.entry)) }
+    ensures { Gives (λ x. (statement_of x.0, ahead x.1)) result (statement MAX_ENTRIES depth_left (ahead cursor.entry)) }
 {
-    if room == 0 {
+    if depth_left == 0 {
         return Err(ParseFault::TooDeep(cursor.place()));
     }
-    statement_below(alloc, room - 1, cursor)
+    statement_below(alloc, depth_left - 1, cursor)
 }

@@ -6,9 +6,9 @@ use Rattle.bytecode.specs.declared.instr.Instr.{Instr}
 use Rattle.bytecode.specs.declared.instr.Instr.TheVariants as instrs
 use Rattle.bytecode.specs.declared.instr.WordKind.{WordKind}
 use Rattle.bytecode.specs.Code.{SelectTable}
-use Rattle.plan.specs.Plan.{Plan, Seq, IfElse, IfThen, Cycle, Endless, Choose, Way, reaches_end, turns, jump_behind, jump_size, size, flat}
+use Rattle.plan.specs.Plan.{Plan, Seq, IfElse, IfThen, Cycle, Endless, Choose, Way, reaches_end, turns, jump_after, jump_size, size, flat}
 use Rattle.plan.proofs.Lists.{length_if}
-use Rattle.plan.proofs.Places.{jump_behind_size, flat_size}
+use Rattle.plan.proofs.Places.{jump_after_size, flat_size}
 
 -- a plan's instructions come after the old ones
 abbrev pub Appends : (leave again : ℕ) (old new : List Instr) → Plan → Type 0
@@ -37,17 +37,17 @@ appends_seq leave again i0 i1 i2 first rest e1 e2 =
     let a = at leave again (length i0) i0 i1 first refl e1 in
     onto i0 i1 i2 (flat leave again (length i0) first) (cond (reaches_end first) (flat leave again (length i0 + size first) rest) []) e1 (e2 ∙ ap (λ n. i1 ++ cond (reaches_end first) (flat leave again n rest) []) a.1)
 
-pub appends_if_else : (leave again next to : ℕ) (i0 i1 i2 i3 i4 : List Instr) (so other : Plan) → i1 ≡ i0 ++ instrs.Unless next ∷ [] → Appends leave again i1 i2 so → i3 ≡ i2 ++ jump_behind so to → Appends leave again i3 i4 other
+pub appends_if_else : (leave again next to : ℕ) (i0 i1 i2 i3 i4 : List Instr) (so other : Plan) → i1 ≡ i0 ++ instrs.Unless next ∷ [] → Appends leave again i1 i2 so → i3 ≡ i2 ++ jump_after so to → Appends leave again i3 i4 other
     → next ≡ length i0 + 1 + size so + jump_size so → to ≡ next + size other → Appends leave again i0 i4 (IfElse so other)
 appends_if_else leave again next to i0 i1 i2 i3 i4 so other e1 e2 e3 e4 en et =
     let next' = length i0 + 1 + size so + jump_size so in
     let a = at leave again (length i0 + 1) i1 i2 so (omega (arith, ap length e1, length-append i0 (instrs.Unless next ∷ []))) e2 in
-    let b = at leave again next' i3 i4 other (omega (arith, a.1, ap length e3, length-append i2 (jump_behind so to), jump_behind_size so to)) e4 in
+    let b = at leave again next' i3 i4 other (omega (arith, a.1, ap length e3, length-append i2 (jump_after so to), jump_after_size so to)) e4 in
     let fs = flat leave again (length i0 + 1) so in
     let fo = flat leave again next' other in
-    let j = jump_behind so (next' + size other) in
+    let j = jump_after so (next' + size other) in
     onto i0 i1 i4 (instrs.Unless next' ∷ []) (fs ++ (j ++ fo)) (e1 ∙ ap (λ n. i0 ++ instrs.Unless n ∷ []) en)
-    (onto i1 i2 i4 fs (j ++ fo) a.0 (onto i2 i3 i4 j fo (e3 ∙ ap (λ n. i2 ++ jump_behind so n) (et ∙ ap (λ n. n + size other) en)) b.0))
+    (onto i1 i2 i4 fs (j ++ fo) a.0 (onto i2 i3 i4 j fo (e3 ∙ ap (λ n. i2 ++ jump_after so n) (et ∙ ap (λ n. n + size other) en)) b.0))
 
 pub appends_if_then : (leave again next : ℕ) (i0 i1 i2 : List Instr) (so : Plan) → i1 ≡ i0 ++ instrs.Unless next ∷ [] → Appends leave again i1 i2 so → next ≡ length i0 + 1 + size so → Appends leave again i0 i2 (IfThen so)
 appends_if_then leave again next i0 i1 i2 so e1 e2 en =
@@ -101,12 +101,12 @@ appends_choose leave again stop q make i0 i1 i2 ways e1 e2 es =
     let a = at stop again (length i0 + 1) i1 i2 ways (omega (arith, ap length e1, length-append i0 (instrs.Select q ∷ []))) e2 in
     onto i0 i1 i2 (instrs.Select q ∷ []) (flat (length i0 + 1 + size ways) again (length i0 + 1) ways) e1 (a.0 ∙ ap (λ n. i1 ++ flat n again (length i0 + 1) ways) es)
 
-pub appends_way : (leave again to : ℕ) (ks : List WordKind) (i0 i1 i2 i3 : List Instr) (body others : Plan) → Appends leave again i0 i1 body → i2 ≡ i1 ++ jump_behind body to → Appends leave again i2 i3 others → to ≡ length i0 + size body + jump_size body + size others
+pub appends_way : (leave again to : ℕ) (ks : List WordKind) (i0 i1 i2 i3 : List Instr) (body others : Plan) → Appends leave again i0 i1 body → i2 ≡ i1 ++ jump_after body to → Appends leave again i2 i3 others → to ≡ length i0 + size body + jump_size body + size others
     → Appends leave again i0 i3 (Way ks body others)
 appends_way leave again to ks i0 i1 i2 i3 body others e1 e2 e3 et =
     let next = length i0 + size body + jump_size body in
     let a = at leave again (length i0) i0 i1 body refl e1 in
-    let b = at leave again next i2 i3 others (omega (arith, a.1, ap length e2, length-append i1 (jump_behind body to), jump_behind_size body to)) e3 in
-    let j = jump_behind body (next + size others) in
+    let b = at leave again next i2 i3 others (omega (arith, a.1, ap length e2, length-append i1 (jump_after body to), jump_after_size body to)) e3 in
+    let j = jump_after body (next + size others) in
     let fo = flat leave again next others in
-    onto i0 i1 i3 (flat leave again (length i0) body) (j ++ fo) e1 (onto i1 i2 i3 j fo (e2 ∙ ap (λ n. i1 ++ jump_behind body n) et) b.0)
+    onto i0 i1 i3 (flat leave again (length i0) body) (j ++ fo) e1 (onto i1 i2 i3 j fo (e2 ∙ ap (λ n. i1 ++ jump_after body n) et) b.0)

@@ -38,8 +38,8 @@ first_left (y ∷ ys) zero x rest left = cc
 first_left (y ∷ ys) (suc place) x rest left = first_left ys place x rest left
 
 -- what is left after a part
-pub behind : {A : Type 0} (xs : List A) (place : ℕ) (part rest : List A) → drop place xs ≡ part ++ rest → drop (place + length part) xs ≡ rest
-behind xs place part rest left = sym (drop-drop (length part) place xs) ∙ ap (drop (length part)) left ∙ drop-append_seam part rest
+pub following : {A : Type 0} (xs : List A) (place : ℕ) (part rest : List A) → drop place xs ≡ part ++ rest → drop (place + length part) xs ≡ rest
+following xs place part rest left = sym (drop-drop (length part) place xs) ∙ ap (drop (length part)) left ∙ drop-append_seam part rest
 
 -- ---- a whole list
 

@@ -4,7 +4,7 @@ use Rattle.std.proofs.lemmas.Bool.{false≢true, and_from, or_left, or_right, co
 use Rattle.bytecode.specs.declared.instr.Instr.{Instr}
 use Rattle.bytecode.specs.declared.instr.Instr.TheVariants as instrs
 use Rattle.bytecode.specs.Code.{SelectTable}
-use Rattle.plan.specs.Plan.{Plan, Skip, Do, Seq, IfElse, IfThen, Cycle, Endless, Choose, Way, LastWay, Stop, Leave, Again, reaches_end, has_break, has_continue, turns, jump_behind, jump_size, size, flat, starts}
+use Rattle.plan.specs.Plan.{Plan, Skip, Do, Seq, IfElse, IfThen, Cycle, Endless, Choose, Way, LastWay, Stop, Leave, Again, reaches_end, has_break, has_continue, turns, jump_after, jump_size, size, flat, starts}
 use Rattle.plan.proofs.Lists.{Stand, split, stand_if, length_if}
 use Rattle.plan.proofs.Tables.{Tabled}
 
@@ -48,8 +48,8 @@ module _ (selects : List SelectTable) (is : List Instr) where
 
 -- ---- sizes
 
-pub jump_behind_size : (part : Plan) (to : ℕ) → length (jump_behind part to) ≡ jump_size part
-jump_behind_size part to = length_if (reaches_end part) (instrs.Jump to ∷ []) 1 refl
+pub jump_after_size : (part : Plan) (to : ℕ) → length (jump_after part to) ≡ jump_size part
+jump_after_size part to = length_if (reaches_end part) (instrs.Jump to ∷ []) 1 refl
 
 pub one_jump : (part : Plan) → IsTrue (reaches_end part) → jump_size part ≡ 1
 one_jump part e = cond-true {A = ℕ} (reaches_end part) 1 0 e
@@ -65,8 +65,8 @@ flat_size leave_at again_at place (IfElse so other) =
     let next = place + 1 + size so + jump_size so in
     let fs = flat leave_at again_at (place + 1) so in
     let fo = flat leave_at again_at next other in
-    let j = jump_behind so (next + size other) in
-    omega (arith, length-append fs (j ++ fo), length-append j fo, jump_behind_size so (next + size other), flat_size leave_at again_at (place + 1) so, flat_size leave_at again_at next other)
+    let j = jump_after so (next + size other) in
+    omega (arith, length-append fs (j ++ fo), length-append j fo, jump_after_size so (next + size other), flat_size leave_at again_at (place + 1) so, flat_size leave_at again_at next other)
 flat_size leave_at again_at place (IfThen so) = let e = flat_size leave_at again_at (place + 1) so in omega (arith, e)
 flat_size leave_at again_at place (Cycle test body post exit) =
     let body_at = place + size test + 1 in
@@ -89,8 +89,8 @@ flat_size leave_at again_at place (Way ks body others) =
     let next = place + size body + jump_size body in
     let fb = flat leave_at again_at place body in
     let fo = flat leave_at again_at next others in
-    let j = jump_behind body (next + size others) in
-    omega (arith, length-append fb (j ++ fo), length-append j fo, jump_behind_size body (next + size others), flat_size leave_at again_at place body, flat_size leave_at again_at next others)
+    let j = jump_after body (next + size others) in
+    omega (arith, length-append fb (j ++ fo), length-append j fo, jump_after_size body (next + size others), flat_size leave_at again_at place body, flat_size leave_at again_at next others)
 flat_size leave_at again_at place (LastWay ks body) = flat_size leave_at again_at place body
 flat_size leave_at again_at place Stop = refl
 flat_size leave_at again_at place Leave = refl
@@ -103,7 +103,7 @@ leads_on is p to None at l = l
 leads_on is p to (Some q) at l = by_jump at l
 
 -- a jump after a part leads on if the part's end is reached
-over : (is : List Instr) (part : Plan) (p to : ℕ) (out : Option ℕ) → Stand is p (jump_behind part to) → (IsTrue (reaches_end part) → Leads is to out) → IsTrue (reaches_end part) → Leads is p out
+over : (is : List Instr) (part : Plan) (p to : ℕ) (out : Option ℕ) → Stand is p (jump_after part to) → (IsTrue (reaches_end part) → Leads is to out) → IsTrue (reaches_end part) → Leads is p out
 over is part p to out h l e = leads_on is p to out (stand_if is p (reaches_end part) (instrs.Jump to ∷ []) e h).0 (l e)
 
 -- a part whose end leads to what comes after it, which is there if the end is reached
@@ -130,9 +130,9 @@ stands_on selects is leave again (IfElse so other) place out leave_at again_at e
     let j = place + 1 + size so in
     let next = j + jump_size so in
     let fo = flat leave_at again_at next other in
-    let jump = jump_behind so (next + size other) in
+    let jump = jump_after so (next + size other) in
     let s = split is (place + 1) (flat leave_at again_at (place + 1) so) (jump ++ fo) j (omega (arith, flat_size leave_at again_at (place + 1) so)) h.1 in
-    let t = split is j jump fo next (omega (arith, jump_behind_size so (next + size other))) s.1 in
+    let t = split is j jump fo next (omega (arith, jump_after_size so (next + size other))) s.1 in
     let z : end ≡ next + size other = omega (arith, e) in (
       next,
       h.0,
@@ -196,9 +196,9 @@ stands_on selects is leave again (Way ks body others) place out leave_at again_a
     let j = place + size body in
     let next = j + jump_size body in
     let fo = flat leave_at again_at next others in
-    let jump = jump_behind body (next + size others) in
+    let jump = jump_after body (next + size others) in
     let s = split is place (flat leave_at again_at place body) (jump ++ fo) j (omega (arith, flat_size leave_at again_at place body)) h in
-    let t = split is j jump fo next (omega (arith, jump_behind_size body (next + size others))) s.1 in
+    let t = split is j jump fo next (omega (arith, jump_after_size body (next + size others))) s.1 in
     let z : end ≡ next + size others = omega (arith, e) in (
       stands_on selects is leave again body place out leave_at again_at j tab.0 s.0 refl (over is body j (next + size others) out t.0 (λ x. subst (λ n. Leads is n out) z (l (or_left _ _ x)))) (λ x. b (or_left _ _ x)) (λ x. c (or_left _ _ x)),
       stands_on selects is leave again others next out leave_at again_at end tab.1 t.1 z (λ x. l (or_right _ _ x)) (λ x. b (or_right _ _ x)) (λ x. c (or_right _ _ x)),

@@ -12,10 +12,10 @@ use Rattle.bytecode.specs.Code.{Function, SelectTable, Code}
 use Rattle.bytecode.specs.Effects.{below, top_of, Fits, afterwards, targets, targets_in}
 use Rattle.bytecode.specs.Rules.{ways as ways_of, Path, Named, Inside, Directed, AreThere, Holds}
 use Rattle.bytecode.proofs.Options.{get_some}
-use Rattle.plan.specs.Plan.{Plan, Skip, Do, Seq, IfElse, IfThen, Cycle, Endless, Choose, Way, LastWay, Stop, Leave, Again, reaches_end, has_break, has_continue, turns, jump_behind, jump_size, size, flat, starts, entries}
+use Rattle.plan.specs.Plan.{Plan, Skip, Do, Seq, IfElse, IfThen, Cycle, Endless, Choose, Way, LastWay, Stop, Leave, Again, reaches_end, has_break, has_continue, turns, jump_after, jump_size, size, flat, starts, entries}
 use Rattle.plan.proofs.Lists.{Stand, split, length_if, whole}
 use Rattle.plan.proofs.Tables.{Tabled}
-use Rattle.plan.proofs.Places.{jump_behind_size, one_jump, flat_size}
+use Rattle.plan.proofs.Places.{jump_after_size, one_jump, flat_size}
 use Rattle.plan.proofs.Steps.{below_of, top_of_is}
 use Rattle.plan.proofs.Typed.{IsPlain, plain, Allowed, outside, in_loop, in_select, Typed}
 
@@ -292,7 +292,7 @@ module _ (code : Code) (f : Function) where
           let st = stacks a t.0 other out t.3 in
           let sj = cond (reaches_end so) (out ∷ []) [] in
           let fo = flat leave again next other in
-          let jump = jump_behind so (next + size other) in
+          let jump = jump_after so (next + size other) in
           let z : end ≡ next + size other = omega (arith, e) in
           let x = split T (place + 1) ss (sj ++ st) j (omega (arith, stacks_size a t.0 so out t.2)) s.1 in
           let y = split T j sj st next (omega (arith, length_if (reaches_end so) (out ∷ []) 1 refl)) x.1 in
@@ -302,7 +302,7 @@ module _ (code : Code) (f : Function) where
             unless_good place next ks t.0 t.1 (omega arith) (entry a t.0 so out t.2 (place + 1) j refl x.0 from_so) (entry a t.0 other out t.3 next end z y.1 from_other),
             covers_append (place + 1) (flat leave again (place + 1) so) (jump ++ fo) ss (sj ++ st) j (omega (arith, flat_size leave again (place + 1) so))
                 (covers a t.0 so out t.2 leave again (place + 1) j tab.0 refl x.0 from_so (reached_in a (IfElse so other) so leave again end j (or_left _ _) (or_left _ _) (omega (arith, e)) loop))
-                (covers_append j jump fo sj st next (omega (arith, jump_behind_size so (next + size other))) (jump_covers (reaches_end so) j (next + size other) out (λ r. omega (arith, one_jump so r)) from_jump)
+                (covers_append j jump fo sj st next (omega (arith, jump_after_size so (next + size other))) (jump_covers (reaches_end so) j (next + size other) out (λ r. omega (arith, one_jump so r)) from_jump)
                 (covers a t.0 other out t.3 leave again next end tab.1 z y.1 from_other (reached_in a (IfElse so other) other leave again end end (or_right _ _) (or_right _ _) (omega arith) loop))),
           )
       covers a ks (IfThen so) out t leave again place end tab e s exit loop =
@@ -400,13 +400,13 @@ module _ (code : Code) (f : Function) where
           let so = stacks a t.0 others out t.3 in
           let sj = cond (reaches_end body) (out ∷ []) [] in
           let fo = flat leave again next others in
-          let jump = jump_behind body (next + size others) in
+          let jump = jump_after body (next + size others) in
           let z : end ≡ next + size others = omega (arith, e) in
           let x = split T place sb (sj ++ so) j (omega (arith, stacks_size a js body out t.2)) s in
           let y = split T j sj so next (omega (arith, length_if (reaches_end body) (out ∷ []) 1 refl)) x.1 in
           covers_append place (flat leave again place body) (jump ++ fo) sb (sj ++ so) j (omega (arith, flat_size leave again place body))
           (covers a js body out t.2 leave again place j tab.0 refl x.0 (stand_jump T j (reaches_end body) out y.0) (reached_in a (Way js body others) body leave again end j (or_left _ _) (or_left _ _) (omega (arith, e)) loop))
-          (covers_append j jump fo sj so next (omega (arith, jump_behind_size body (next + size others)))
+          (covers_append j jump fo sj so next (omega (arith, jump_after_size body (next + size others)))
           (jump_covers (reaches_end body) j (next + size others) out (λ r. omega (arith, one_jump body r)) (λ r. ap (slice_get T) (sym z) ∙ exit (or_left _ _ r)))
           (covers a t.0 others out t.3 leave again next end tab.1 z y.1 (λ r. exit (or_right _ _ r)) (reached_in a (Way js body others) others leave again end end (or_right _ _) (or_right _ _) (omega arith) loop)))
       covers a ks (LastWay js body) out t leave again place end tab e s exit loop = covers a js body out t.1 leave again place end tab e s exit (reached_in a (LastWay js body) body leave again end end (λ b. b) (λ c. c) (omega arith) loop)

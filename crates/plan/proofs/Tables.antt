@@ -4,7 +4,7 @@ use Rattle.std.specs.Bool.{OnTrue}
 use Rattle.std.proofs.lemmas.List.Elements.{All-append}
 use Rattle.bytecode.specs.Code.{SelectTable}
 use Rattle.plan.specs.Plan.{Plan, Skip, Do, Seq, IfElse, IfThen, Cycle, Endless, Choose, Way, LastWay, Stop, Leave, Again, reaches_end, turns, jump_size, size, starts, tables, table_count}
-use Rattle.plan.proofs.Lists.{length_if, first_left, behind}
+use Rattle.plan.proofs.Lists.{length_if, first_left, following}
 
 -- the selects have these numbers in order, from n on
 abbrev pub Numbered : ℕ → Plan → Type 0
@@ -80,7 +80,7 @@ module _ (selects : List SelectTable) where
   beyond : (part : Plan) (place n : ℕ) (more rest : List SelectTable) → drop n selects ≡ (tables place part ++ more) ++ rest → (drop n selects ≡ tables place part ++ (more ++ rest)) × (drop (n + table_count part) selects ≡ more ++ rest)
   beyond part place n more rest e =
       let h = e ∙ append_assoc (tables place part) more rest in
-      (h, ap (λ m. drop (n + m) selects) (sym (tables_size part place)) ∙ behind selects n (tables place part) (more ++ rest) h)
+      (h, ap (λ m. drop (n + m) selects) (sym (tables_size part place)) ∙ following selects n (tables place part) (more ++ rest) h)
 
   beyond_if : (b : Bool) (part : Plan) (place n : ℕ) (more rest : List SelectTable) → drop n selects ≡ (cond b (tables place part) [] ++ more) ++ rest
       → (drop n selects ≡ cond b (tables place part) [] ++ (more ++ rest)) × (drop (n + cond b (table_count part) 0) selects ≡ more ++ rest)
@@ -133,7 +133,7 @@ module _ (selects : List SelectTable) where
   tabled (Choose q make ways) place n rest m e =
       let table = make (starts (place + 1) ways) in
       let more = tables (place + 1) ways ++ rest in
-      (ap (slice_get selects) m.0 ∙ first_left selects n table more e, tabled ways (place + 1) (n + 1) rest m.1 (behind selects n (table ∷ []) more e))
+      (ap (slice_get selects) m.0 ∙ first_left selects n table more e, tabled ways (place + 1) (n + 1) rest m.1 (following selects n (table ∷ []) more e))
   tabled (Way ks body others) place n rest m e =
       let next = place + size body + jump_size body in
       let h = beyond body place n (tables next others) rest e in

@@ -51,11 +51,11 @@ past (suc q) (w ∷ ws) [] le within = absurd (omega (arith, within))
 past (suc q) (w ∷ ws) (v ∷ ls) le within = past q ws ls (omega (arith, le)) (omega (arith, within))
 
 -- and what comes after them
-pub put_behind : (p q n : ℕ) (ws ls : Words) → p + length ws ≤ q → p + length ws ≤ length ls → part q n (put_at p ws ls) ≡ part q n ls
-put_behind zero q n ws ls le within = ap (part q n) (put_zero ws ls) ∙ ap (take n) (past q ws ls (omega (arith, le)) (omega (arith, within)))
-put_behind (suc p) zero n ws ls le within = absurd (omega (arith, le))
-put_behind (suc p) (suc q) n ws [] le within = absurd (omega (arith, within))
-put_behind (suc p) (suc q) n ws (v ∷ ls) le within = ap (part (suc q) n) (put_suc p ws v ls) ∙ put_behind p q n ws ls (omega (arith, le)) (omega (arith, within))
+pub put_after : (p q n : ℕ) (ws ls : Words) → p + length ws ≤ q → p + length ws ≤ length ls → part q n (put_at p ws ls) ≡ part q n ls
+put_after zero q n ws ls le within = ap (part q n) (put_zero ws ls) ∙ ap (take n) (past q ws ls (omega (arith, le)) (omega (arith, within)))
+put_after (suc p) zero n ws ls le within = absurd (omega (arith, le))
+put_after (suc p) (suc q) n ws [] le within = absurd (omega (arith, within))
+put_after (suc p) (suc q) n ws (v ∷ ls) le within = ap (part (suc q) n) (put_suc p ws v ls) ∙ put_after p q n ws ls (omega (arith, le)) (omega (arith, within))
 
 -- words put into a part of a part
 take_put : (n : ℕ) (ws ls : Words) → length ws ≤ n → take n (ws ++ drop (length ws) ls) ≡ ws ++ drop (length ws) (take n ls)
@@ -127,7 +127,7 @@ holds_below ls [] [] b next p ws lt within r h = tt
 holds_below ls [] (s ∷ sc) b next p ws lt within r h = absurd h
 holds_below ls (v ∷ env) [] b next p ws lt within r h = absurd h
 holds_below ls (v ∷ env) (s ∷ sc) b next p ws lt within r h =
-    (put_behind p s.local (length s.kinds) ws ls (omega (arith, lt, r.0)) within ∙ h.0, h.1, holds_below ls env sc (end_of s) next p ws (omega (arith, lt, r.0)) within r.1 h.2)
+    (put_after p s.local (length s.kinds) ws ls (omega (arith, lt, r.0)) within ∙ h.0, h.1, holds_below ls env sc (end_of s) next p ws (omega (arith, lt, r.0)) within r.1 h.2)
 
 -- a variable's words are written
 pub holds_put : (ls : Words) (env : List Words) (sc : List Slot) (b next x : ℕ) (s : Slot) (ws : Words) → slice_get sc x ≡ Some s → length ws ≡ length s.kinds → end_of s ≤ length ls → Rising b next sc → Holds ls env sc → AllHave ws s.kinds → Holds (put_at s.local ws ls) (put x ws env) sc

@@ -93,10 +93,10 @@ turns body = reaches_end body || has_continue body
 -- ---- instructions; unreachable code has none
 
 -- a jump over what comes after a part
-abbrev pub jump_behind : Plan → ℕ → List Instr
-jump_behind part to = cond (reaches_end part) (instrs.Jump to ∷ []) []
+abbrev pub jump_after : Plan → ℕ → List Instr
+jump_after part to = cond (reaches_end part) (instrs.Jump to ∷ []) []
 
--- how many jumps `jump_behind` has
+-- how many jumps `jump_after` has
 abbrev pub jump_size : Plan → ℕ
 jump_size part = cond (reaches_end part) 1 0
 
@@ -124,7 +124,7 @@ flat leave again place (Do i rest) = i ∷ flat leave again (place + 1) rest
 flat leave again place (Seq first rest) = flat leave again place first ++ cond (reaches_end first) (flat leave again (place + size first) rest) []
 flat leave again place (IfElse so other) =
     let next = place + 1 + size so + jump_size so in
-    instrs.Unless next ∷ (flat leave again (place + 1) so ++ (jump_behind so (next + size other) ++ flat leave again next other))
+    instrs.Unless next ∷ (flat leave again (place + 1) so ++ (jump_after so (next + size other) ++ flat leave again next other))
 flat leave again place (IfThen so) = instrs.Unless (place + 1 + size so) ∷ flat leave again (place + 1) so
 flat leave again place (Cycle test body post exit) =
     let body_at = place + size test + 1 in
@@ -138,7 +138,7 @@ flat leave again place (Endless body post) =
 flat leave again place (Choose q make ways) = instrs.Select q ∷ flat (place + 1 + size ways) again (place + 1) ways
 flat leave again place (Way ks body others) =
     let next = place + size body + jump_size body in
-    flat leave again place body ++ (jump_behind body (next + size others) ++ flat leave again next others)
+    flat leave again place body ++ (jump_after body (next + size others) ++ flat leave again next others)
 flat leave again place (LastWay ks body) = flat leave again place body
 flat leave again place Stop = instrs.Return ∷ []
 flat leave again place Leave = instrs.Jump leave ∷ []

@@ -2,7 +2,7 @@
 use Rattle.std.proofs.Common.{◌≡◌, ℕ, suc, ◌+◌, ◌≤◌, Bool, true, false, cond, List, [], ◌∷◌, Option, Some, None, option_map, bytes_eq, length, get_or, refl, sym, ap, ◌∙◌, arith}
 use Rattle.std.proofs.lemmas.List.{length-map}
 use Rattle.type_table.specs.Types.{ValueType, IntType, BoolType, StructType, ChannelType}
-use Rattle.type_table.specs.Containment.{Field, Structs, Selected, behind, field_among, field_of, fields_of, fields_width, kind_width, parts, variable_words, width, width_within, words_of}
+use Rattle.type_table.specs.Containment.{Field, Structs, Selected, following, field_among, field_of, fields_of, fields_width, kind_width, parts, variable_words, width, width_within, words_of}
 use Rattle.std.specs.Option.{IfSome}
 use Rattle.type_table.specs.declared.layout.Selected.{Selected as InTable}
 use Rattle.type_table.specs.Views.{AreWidths, kind_of}
@@ -34,18 +34,18 @@ first_lies structs (Some kind) m n w h e =
     let words : variable_words structs (Some kind) ≡ m = ap words_of h in
     omega (arith, words, e)
 
-behind_lies : (structs : Structs) (kind : Option ValueType) (found : Option Selected) (m n w : ℕ) → kind_width (width_within structs (suc (length structs))) kind ≡ Some m → w ≡ m + n
-    → LiesIn structs found n → LiesIn structs (option_map (behind (variable_words structs kind)) found) w
-behind_lies structs kind None m n w h e lies = tt
-behind_lies structs None (Some field) m n w h e lies = cc
-behind_lies structs (Some kind) (Some field) m n w h e lies =
+after_lies : (structs : Structs) (kind : Option ValueType) (found : Option Selected) (m n w : ℕ) → kind_width (width_within structs (suc (length structs))) kind ≡ Some m → w ≡ m + n
+    → LiesIn structs found n → LiesIn structs (option_map (following (variable_words structs kind)) found) w
+after_lies structs kind None m n w h e lies = tt
+after_lies structs None (Some field) m n w h e lies = cc
+after_lies structs (Some kind) (Some field) m n w h e lies =
     let words : variable_words structs (Some kind) ≡ m = ap words_of h in
     omega (arith, words, e, lies)
 
 one_lies : (structs : Structs) (kind : Option ValueType) (found : Option Selected) (same : Bool) (m n w : ℕ) → kind_width (width_within structs (suc (length structs))) kind ≡ Some m → w ≡ m + n
-    → LiesIn structs found n → LiesIn structs (cond same (Some (record { place = 0; kind = kind })) (option_map (behind (variable_words structs kind)) found)) w
+    → LiesIn structs found n → LiesIn structs (cond same (Some (record { place = 0; kind = kind })) (option_map (following (variable_words structs kind)) found)) w
 one_lies structs kind found true m n w h e lies = first_lies structs kind m n w h e
-one_lies structs kind found false m n w h e lies = behind_lies structs kind found m n w h e lies
+one_lies structs kind found false m n w h e lies = after_lies structs kind found m n w h e lies
 
 among_lies : (structs : Structs) (fields : List Field) (name : List ℕ) (w : ℕ) → fields_width (width_within structs (suc (length structs))) fields ≡ Some w → LiesIn structs (field_among structs fields name) w
 among_lies structs [] name w h = tt

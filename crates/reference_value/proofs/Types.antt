@@ -7,7 +7,7 @@ use Rattle.syntax.specs.Measures.{expression_size}
 use Rattle.type_table.specs.Scopes.{Globals, Scope, nothing_declared, type_named, variable_named}
 use Rattle.typing_rules.specs.Expressions.{default_type}
 use Rattle.typing_rules.specs.Expressions.{nodes_of}
-use Rattle.typing_rules.specs.Flaws.{Nodes}
+use Rattle.typing_rules.specs.Violations.{Nodes}
 use Rattle.typing_rules.specs.Operations.{Given, also_given, given_values, is_receive}
 use Rattle.typing_rules.specs.Worths.{Typed}
 use Rattle.type_table.specs.Types.{ValueType, BoolType}

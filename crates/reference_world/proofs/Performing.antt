@@ -40,7 +40,7 @@ meant_so w n k q is e = rw (← is, e) refl
 
 -- what is done after the event is counted, `perform` does
 pub performed : (old mid new last : SharedValue) (n c : ℕ) (q a : Request) (deed : Did) → old.ending ≡ None → (old.events + 1 == 2 ^ 62) ≡ false → mid ≡ record old { events = old.events + 1 } → a ≡ asked n q → Acts mid n c a deed new → new.events ≡ mid.events → new.ending ≡ mid.ending → last ≡ record new { ending = ending_of deed } → Performs old n c q deed last
-performed old mid new last n c q a deed going room before means acts events ending behind w shown =
+performed old mid new last n c q a deed going room before means acts events ending following w shown =
     let h : History = history_of w in
     let end : SharedValue = record new { ending = ending_of deed } in
     let mid_is : shared_with h mid mid.meeting ≡ w = ap (λ (v : SharedValue). shared_with h v v.meeting) before ∙ whole w old shown in
@@ -51,4 +51,4 @@ performed old mid new last n c q a deed going room before means acts events endi
     let done : perform w n c q ≡ deed_of h n c (meant w n q) deed end new.meeting = rw asks acted in
     let P : SharedValue → Type 0 = λ v. (perform w n c q ≡ deed_of h n c (meant w n q) deed v v.meeting) × IsShownBy (perform w n c q).shared v in
     let S : Deed → Type 0 = λ d. IsShownBy d.shared end in
-    subst P (sym behind) (done, subst S (sym done) (shown_after h n c (meant w n q) deed end old.events shown.events counted refl))
+    subst P (sym following) (done, subst S (sym done) (shown_after h n c (meant w n q) deed end old.events shown.events counted refl))

@@ -36,12 +36,12 @@ pub served : (h : History) (v : SharedValue) (old : MeetingValue) (n c : ℕ) (q
       started = [];
       shared = with_event h n c q v (record { asleep = left; channels = after }) (Done reply) (map (λ (y : ℕ × Reply). y.0) woken);
     }
-served h v old n c q k clause x p channels after asleep left offered front reply woken meets there sleep offers first behind gone tells wakes =
+served h v old n c q k clause x p channels after asleep left offered front reply woken meets there sleep offers first following gone tells wakes =
     let own : offered ≡ unwrap_or x.1.item [] = offers ∙ ap (λ (p : Partner). unwrap_or p.offer.item []) (sym meets) in
     let number : left ≡ without old.asleep x.0.number = gone ∙ ap (λ (ss : List Sleeper). without ss p.number) sleep ∙ ap (λ (p : Partner). without old.asleep p.number) (sym meets) in
     let waken : woken ≡ (x.0.number, sent x.1.case) ∷ [] = wakes ∙ ap (λ (p : Partner). (p.number, sent p.offer.case) ∷ []) (sym meets) in
     let front_is : (channel_of old.channels k).items ++ unwrap_or x.1.item [] ∷ [] ≡ front ∷ exchanged old.channels k (unwrap_or x.1.item []) = rw (there, own) at first in
-    let after_is : after ≡ slice_set old.channels k (record (channel_of old.channels k) { items = exchanged old.channels k (unwrap_or x.1.item []) }) = rw (there, own) at behind in
+    let after_is : after ≡ slice_set old.channels k (record (channel_of old.channels k) { items = exchanged old.channels k (unwrap_or x.1.item []) }) = rw (there, own) at following in
     taken (shared_with h v old) n c q k clause (channel_of old.channels k) (channel_of old.channels k).items x front (set-get_or old.channels k _) front_is
     ∙ rw (number, waken, tells, after_is) refl
 
@@ -59,8 +59,8 @@ pub sent_alone : (h : History) (v : SharedValue) (old : MeetingValue) (n c : ℕ
       started = [];
       shared = with_event h n c q v (record { asleep = asleep; channels = after }) (Done reply) (map (λ (y : ℕ × Reply). y.0) woken);
     }
-sent_alone h v old n c q k item clause channels after asleep reply woken stands alone there sleep behind tells wakes =
-    let after_is : after ≡ slice_set old.channels k (record (channel_of old.channels k) { items = (channel_of old.channels k).items ++ item ∷ [] }) = rw there at behind in
+sent_alone h v old n c q k item clause channels after asleep reply woken stands alone there sleep following tells wakes =
+    let after_is : after ≡ slice_set old.channels k (record (channel_of old.channels k) { items = (channel_of old.channels k).items ++ item ∷ [] }) = rw there at following in
     rw (stands, none_met (partner k false old.asleep) alone, after_is, sleep, tells, wakes) refl
 
 same_met : (x : Sleeper × Offer) (p : Partner) → Some p ≡ Some (met x) → met x ≡ p
@@ -97,8 +97,8 @@ pub closes : (h : History) (v : SharedValue) (old : MeetingValue) (n c : ℕ) (q
       started = [];
       shared = with_event h n c q v (record { asleep = left; channels = after }) (Done Nothing) (map (λ (y : ℕ × Reply). y.0) woken);
     }
-closes h v old n c q chan k zero channels after asleep left woken some stands empty there sleep wakes gone behind =
+closes h v old n c q chan k zero channels after asleep left woken some stands empty there sleep wakes gone following =
     let woken_is : woken ≡ closed_for (channel_of old.channels k).zero (partners k old.asleep) = rw (empty, sleep) at wakes in
     let left_is : left ≡ without_all old.asleep woken = rw sleep at gone in
-    let after_is : after ≡ slice_set old.channels k (record (channel_of old.channels k) { closed = true }) = rw there at behind in
+    let after_is : after ≡ slice_set old.channels k (record (channel_of old.channels k) { closed = true }) = rw there at following in
     rw (some, stands, left_is, woken_is, after_is) refl

@@ -1,7 +1,7 @@
 //! The folders of rows, and what is in them.
 
-use crate::flaw::Flaw;
 use crate::row::Row;
+use crate::row_error::RowError;
 use crate::written::bytes_of;
 use std::alloc::Global;
 use std::rt::Files;
@@ -123,13 +123,13 @@ impl<'a> RowFile<'a> {
     }
 
     /// Its program.
-    pub fn text<R: Files + AllocGlobal>(&self, rt: &R) -> Result<Vec<u8>, Flaw> {
+    pub fn text<R: Files + AllocGlobal>(&self, rt: &R) -> Result<Vec<u8>, RowError> {
         if let Some(text) = self.read(rt, self.text_name(), "go")? {
             return Ok(text);
         }
         match self.read(rt, self.text_name(), "gen")? {
             Some(written) => generated(rt.alloc(), written),
-            None => Err(Flaw::NoText),
+            None => Err(RowError::NoText),
         }
     }
 
@@ -138,20 +138,20 @@ impl<'a> RowFile<'a> {
         &self,
         rt: &R,
         extension: &str,
-    ) -> Result<Option<Vec<u8>>, Flaw> {
+    ) -> Result<Option<Vec<u8>>, RowError> {
         self.read(rt, self.stem, extension)
     }
 
     /// The file itself.
-    pub fn bytes<R: Files + AllocGlobal>(&self, rt: &R) -> Result<Vec<u8>, Flaw> {
+    pub fn bytes<R: Files + AllocGlobal>(&self, rt: &R) -> Result<Vec<u8>, RowError> {
         match self.read(rt, self.stem, self.extension)? {
             Some(bytes) => Ok(bytes),
-            None => Err(Flaw::Stranger),
+            None => Err(RowError::Stranger),
         }
     }
 
     /// What is expected of its runs.
-    pub fn row<R: Files + AllocGlobal>(&self, rt: &R) -> Result<Row, Flaw> {
+    pub fn row<R: Files + AllocGlobal>(&self, rt: &R) -> Result<Row, RowError> {
         match self.beside(rt, "row")? {
             Some(lines) => Row::parse(rt.alloc(), utf8(lines)?.as_str()),
             None => Ok(Row::new(rt.alloc())?),
@@ -164,19 +164,19 @@ impl<'a> RowFile<'a> {
         rt: &R,
         stem: &str,
         extension: &str,
-    ) -> Result<Option<Vec<u8>>, Flaw> {
+    ) -> Result<Option<Vec<u8>>, RowError> {
         let folder = self.folder;
         let path = format!(in rt.alloc(); "{folder}/{stem}.{extension}")?;
         match fs::read(rt, path.as_str()) {
             Ok(bytes) => Ok(Some(bytes)),
             Err(error) if error.kind() == io::ErrorKind::NotFound => Ok(None),
-            Err(error) => Err(Flaw::Io(error)),
+            Err(error) => Err(RowError::Io(error)),
         }
     }
 }
 
 /// The program that a `.gen` file stands for: its line breaks are ignored.
-fn generated(alloc: Global, written: Vec<u8>) -> Result<Vec<u8>, Flaw> {
+fn generated(alloc: Global, written: Vec<u8>) -> Result<Vec<u8>, RowError> {
     let mut text = Vec::new(alloc);
     for line in utf8(written)?.lines() {
         text.extend_from_slice(bytes_of(alloc, line)?.as_slice())?;
@@ -185,8 +185,8 @@ fn generated(alloc: Global, written: Vec<u8>) -> Result<Vec<u8>, Flaw> {
 }
 
 /// The text of a file other than a program.
-pub fn utf8(bytes: Vec<u8>) -> Result<String, Flaw> {
-    String::from_utf8(bytes).map_err(|_| Flaw::NotUtf8)
+pub fn utf8(bytes: Vec<u8>) -> Result<String, RowError> {
+    String::from_utf8(bytes).map_err(|_| RowError::NotUtf8)
 }
 
 /// The names of what is in a folder, sorted.

@@ -1,6 +1,6 @@
 //! What a row expects of a program's runs.
 
-use crate::flaw::Flaw;
+use crate::row_error::RowError;
 use std::alloc::{AllocError, Global};
 
 /// The clock limit if a row states none.
@@ -31,11 +31,11 @@ impl Row {
     }
 
     /// The row that the lines of a `.row` state.
-    pub fn parse(alloc: Global, text: &str) -> Result<Row, Flaw> {
+    pub fn parse(alloc: Global, text: &str) -> Result<Row, RowError> {
         let mut row = Row::new(alloc)?;
         for (before, line) in text.lines().enumerate() {
             if !row.take(alloc, line)? {
-                return Err(Flaw::Unread(before.saturating_add(1)));
+                return Err(RowError::Unread(before.saturating_add(1)));
             }
         }
         Ok(row)

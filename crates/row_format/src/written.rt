@@ -1,11 +1,11 @@
 //! Sources as they are written in tables and in `.gen` files.
 
-use crate::flaw::Flaw;
+use crate::row_error::RowError;
 use std::alloc::Global;
 
 /// The bytes that a written source stands for: `\n`, `\t` and `\\`, `\xHH` for one byte, `\N<PIECE>` for `N` times the piece
 /// as it is, and all else for itself.
-pub fn bytes_of(alloc: Global, written: &str) -> Result<Vec<u8>, Flaw> {
+pub fn bytes_of(alloc: Global, written: &str) -> Result<Vec<u8>, RowError> {
     let mut bytes = Vec::new(alloc);
     let mut is_escape = false;
     for piece in written.split('\\') {
@@ -24,12 +24,12 @@ pub fn bytes_of(alloc: Global, written: &str) -> Result<Vec<u8>, Flaw> {
     if is_escape {
         Ok(bytes)
     } else {
-        Err(Flaw::Escape)
+        Err(RowError::Escape)
     }
 }
 
 /// Takes the escape with which a piece begins, without its backslash, and returns what comes after it.
-fn escape<'a>(bytes: &mut Vec<u8>, piece: &'a str) -> Result<&'a str, Flaw> {
+fn escape<'a>(bytes: &mut Vec<u8>, piece: &'a str) -> Result<&'a str, RowError> {
     if let Some(rest) = piece.strip_prefix('n') {
         bytes.push(b'\n')?;
         return Ok(rest);
@@ -45,24 +45,24 @@ fn escape<'a>(bytes: &mut Vec<u8>, piece: &'a str) -> Result<&'a str, Flaw> {
 }
 
 /// Takes two hexadecimal digits.
-fn hexadecimal<'a>(bytes: &mut Vec<u8>, piece: &'a str) -> Result<&'a str, Flaw> {
+fn hexadecimal<'a>(bytes: &mut Vec<u8>, piece: &'a str) -> Result<&'a str, RowError> {
     let Some((digits, rest)) = piece.split_at_checked(2) else {
-        return Err(Flaw::Escape);
+        return Err(RowError::Escape);
     };
     let Ok(byte) = u8::from_str_radix(digits, 16) else {
-        return Err(Flaw::Escape);
+        return Err(RowError::Escape);
     };
     bytes.push(byte)?;
     Ok(rest)
 }
 
 /// Takes `N<PIECE>`.
-fn repeated<'a>(bytes: &mut Vec<u8>, piece: &'a str) -> Result<&'a str, Flaw> {
+fn repeated<'a>(bytes: &mut Vec<u8>, piece: &'a str) -> Result<&'a str, RowError> {
     let Some((count, rest)) = piece.split_once('<') else {
-        return Err(Flaw::Escape);
+        return Err(RowError::Escape);
     };
     let (Ok(count), Some((piece, rest))) = (count.parse::<u32>(), rest.split_once('>')) else {
-        return Err(Flaw::Escape);
+        return Err(RowError::Escape);
     };
     for _ in 0..count {
         bytes.extend_from_slice(piece.as_bytes())?;

@@ -3,13 +3,13 @@
 use crate::kinds::kind_name;
 use go_text::{Fault, Source, Span};
 use parser::parse;
-use row_format::flaw::{Flaw, shown};
+use row_format::row_error::{RowError, shown};
 use scanner::{Token, scan};
 use std::alloc::Global;
 use syntax::Tree;
 
 /// The tokens of a program, one a line: its kind, where it begins and ends, and its bytes.
-pub fn tokens(alloc: Global, text: &[u8]) -> Result<Vec<u8>, Flaw> {
+pub fn tokens(alloc: Global, text: &[u8]) -> Result<Vec<u8>, RowError> {
     let source = Source::new(Vec::from_slice(alloc, text)?)?;
     let mut lines = String::new(alloc);
     for Token { kind, span } in scan(alloc, &source)? {
@@ -21,7 +21,7 @@ pub fn tokens(alloc: Global, text: &[u8]) -> Result<Vec<u8>, Flaw> {
 }
 
 /// The nodes of a program's tree, one a line, in the order of their numbers: where it begins and ends, and its bytes.
-pub fn spans(alloc: Global, text: &[u8]) -> Result<Vec<u8>, Flaw> {
+pub fn spans(alloc: Global, text: &[u8]) -> Result<Vec<u8>, RowError> {
     let tree = tree(alloc, text)?;
     let mut lines = String::new(alloc);
     for node in 0..tree.count() {
@@ -32,7 +32,7 @@ pub fn spans(alloc: Global, text: &[u8]) -> Result<Vec<u8>, Flaw> {
 }
 
 /// Where a span begins and ends, and its bytes.
-fn placed(alloc: Global, text: &[u8], span: Span) -> Result<String, Flaw> {
+fn placed(alloc: Global, text: &[u8], span: Span) -> Result<String, RowError> {
     let Span { from, to } = span;
     let bytes = text
         .get(from as usize..to as usize)

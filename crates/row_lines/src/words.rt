@@ -1,23 +1,23 @@
 //! Command lines, and the result of each.
 
 use command_line::arguments::{Invocation, Subcommand, command, invocation_of};
-use row_format::flaw::{Flaw, same};
+use row_format::row_error::{RowError, same};
 use row_format::written::bytes_of;
 use std::alloc::{AllocError, Global};
 
 /// Checks a line of a table: an empty one, a comment, or a command line and its result.
-pub fn check_words(alloc: Global, line: &str) -> Result<(), Flaw> {
+pub fn check_words(alloc: Global, line: &str) -> Result<(), RowError> {
     if line.is_empty() || line.starts_with('#') {
         return Ok(());
     }
     let Some((words, told)) = line.split_once('\t') else {
-        return Err(Flaw::Form);
+        return Err(RowError::Form);
     };
     check_answer(alloc, words, &bytes_of(alloc, told)?)
 }
 
 /// Checks that the result of a command line begins with these bytes.
-fn check_answer(alloc: Global, words: &str, wanted: &[u8]) -> Result<(), Flaw> {
+fn check_answer(alloc: Global, words: &str, wanted: &[u8]) -> Result<(), RowError> {
     let words = words_of(alloc, words)?;
     let came = answer(alloc, words.as_slice())?;
     let came = came.as_bytes();

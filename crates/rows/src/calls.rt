@@ -6,8 +6,8 @@ use crate::run::{Open, differs};
 use go_text::{Fault, Place, Span};
 use kendo_base::{Gate, TraceWriter, run_bytes};
 use kendo_report::report;
-use row_format::flaw::{Flaw, same};
 use row_format::row::LIMIT;
+use row_format::row_error::{RowError, same};
 use std::alloc::Global;
 use std::sync::Wait;
 use std::thread::Threads;
@@ -81,7 +81,7 @@ impl TraceWriter for Slow {
 pub(crate) fn check_failing_writers<R: Threads + Wait + Sync>(
     rt: &R,
     alloc: Global,
-) -> Result<(), Flaw> {
+) -> Result<(), RowError> {
     for (fails_at, written, line) in [
         (1, "", "kendo: 14 Write\n"),
         (2, "1", "kendo: 14 Write\n"),
@@ -100,7 +100,7 @@ fn check_failing_writer<R: Threads + Wait + Sync>(
     fails_at: u64,
     written: &str,
     line: &str,
-) -> Result<(), Flaw> {
+) -> Result<(), RowError> {
     let bytes = Vec::from_slice(alloc, TWO_PRINTS.as_bytes())?;
     let mut out = Slow::new(alloc, fails_at);
     let mut trace = Flagged::new(Vec::new(alloc));
@@ -114,7 +114,7 @@ fn check_failing_writer<R: Threads + Wait + Sync>(
 pub(crate) fn check_failing_traces<R: Threads + Wait + Sync>(
     rt: &R,
     alloc: Global,
-) -> Result<(), Flaw> {
+) -> Result<(), RowError> {
     for (fails_at, written, line) in [
         (1, "", "kendo: 14 Write\n"),
         (14, "0 1 print 3\n1", "kendo: 14 Write\n"),
@@ -137,7 +137,7 @@ fn check_failing_trace<R: Threads + Wait + Sync>(
     fails_at: u64,
     written: &str,
     line: &str,
-) -> Result<(), Flaw> {
+) -> Result<(), RowError> {
     let bytes = Vec::from_slice(alloc, TWO_PRINTS.as_bytes())?;
     let mut out = Flagged::new(Vec::new(alloc));
     let mut trace = Slow::new(alloc, fails_at);
@@ -151,7 +151,7 @@ fn check_failing_trace<R: Threads + Wait + Sync>(
 pub(crate) fn check_early_writes<R: Threads + Wait + Sync>(
     rt: &R,
     alloc: Global,
-) -> Result<(), Flaw> {
+) -> Result<(), RowError> {
     for workers in [1, 4] {
         let mut out = Slow::new(alloc, 3);
         let mut trace = Flagged::new(Vec::new(alloc));
@@ -176,7 +176,7 @@ pub(crate) fn check_early_writes<R: Threads + Wait + Sync>(
 }
 
 /// Compares two runs: in one, two workers hold leases at once; in the other, 64 workers exist at once.
-pub(crate) fn check_gates<R: Threads + Wait + Sync>(rt: &R, alloc: Global) -> Result<(), Flaw> {
+pub(crate) fn check_gates<R: Threads + Wait + Sync>(rt: &R, alloc: Global) -> Result<(), RowError> {
     let meet = Meet::new();
     check_gate(rt, alloc, 2, &meet)?;
     let all = All::new();
@@ -184,7 +184,7 @@ pub(crate) fn check_gates<R: Threads + Wait + Sync>(rt: &R, alloc: Global) -> Re
     if meet.have_met() && all.have_met() {
         Ok(())
     } else {
-        Err(Flaw::Call)
+        Err(RowError::Call)
     }
 }
 
@@ -194,7 +194,7 @@ fn check_gate<R: Threads + Wait + Sync, G: Gate + Sync>(
     alloc: Global,
     workers: u64,
     gate: &G,
-) -> Result<(), Flaw> {
+) -> Result<(), RowError> {
     let bytes = Vec::from_slice(alloc, TWO_GOROUTINES.as_bytes())?;
     let mut out = Flagged::new(Vec::new(alloc));
     let mut trace = Flagged::new(Vec::new(alloc));
@@ -210,7 +210,7 @@ fn check_gate<R: Threads + Wait + Sync, G: Gate + Sync>(
 }
 
 /// Checks the line and the status of each panic.
-pub(crate) fn check_panics(alloc: Global) -> Result<(), Flaw> {
+pub(crate) fn check_panics(alloc: Global) -> Result<(), RowError> {
     for (panic, told) in [
         (Panic::DivideByZero, "P1 divide by zero"),
         (Panic::SendOnClosed, "P2 send on closed channel"),
@@ -229,7 +229,7 @@ pub(crate) fn check_panics(alloc: Global) -> Result<(), Flaw> {
 }
 
 /// Checks the lines and statuses of the errors that no program causes, and of one without a known location.
-pub(crate) fn check_refusals(alloc: Global) -> Result<(), Flaw> {
+pub(crate) fn check_refusals(alloc: Global) -> Result<(), RowError> {
     let unplaced = Fault::Syntax(Place::from(Span { from: 36, to: 37 }));
     for (fault, line, status) in [
         (unplaced, "kendo: 7 Syntax\n", 1),
@@ -247,7 +247,7 @@ fn check_report(
     outcome: &Result<End, Fault>,
     line: &str,
     status: u8,
-) -> Result<(), Flaw> {
+) -> Result<(), RowError> {
     let (told, code) = report(alloc, outcome).map_err(Fault::from)?;
     same(alloc, "the line on standard error", line.as_bytes(), &told)?;
     if code == status {

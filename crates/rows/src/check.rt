@@ -4,8 +4,8 @@ use crate::reading::{explained, listing, paused_picture, picture, recorded_lines
 use crate::run::{Ran, check_paused, check_runs};
 use go_text::Fault;
 use pauses::{Plan, PlanError};
-use row_format::flaw::{Flaw, same};
 use row_format::folder::{FileKind, Made, RowFile};
+use row_format::row_error::{RowError, same};
 use row_lines::{spans, tokens};
 use std::alloc::Global;
 use std::rt::Files;
@@ -18,13 +18,13 @@ pub(crate) fn check<R: Files + AllocGlobal + Threads + Wait + Sync>(
     rt: &R,
     file: &RowFile<'_>,
     names: &[String],
-) -> Result<(), Flaw> {
+) -> Result<(), RowError> {
     match file.kind {
         FileKind::Text => check_told(file, names),
         // Each of its lines is checked for itself.
         FileKind::Table | FileKind::Words => Ok(()),
         FileKind::Generated => match file.beside(rt, "go")? {
-            Some(_) => Err(Flaw::Stranger),
+            Some(_) => Err(RowError::Stranger),
             None => check_told(file, names),
         },
         FileKind::Row => check_run(rt, file),
@@ -40,11 +40,11 @@ pub(crate) fn check<R: Files + AllocGlobal + Threads + Wait + Sync>(
 }
 
 /// Checks that some file says something of a program.
-fn check_told(file: &RowFile<'_>, names: &[String]) -> Result<(), Flaw> {
+fn check_told(file: &RowFile<'_>, names: &[String]) -> Result<(), RowError> {
     if file.is_told(names) {
         Ok(())
     } else {
-        Err(Flaw::NothingTold)
+        Err(RowError::NothingTold)
     }
 }
 
@@ -52,7 +52,7 @@ fn check_told(file: &RowFile<'_>, names: &[String]) -> Result<(), Flaw> {
 fn check_run<R: Files + AllocGlobal + Threads + Wait + Sync>(
     rt: &R,
     file: &RowFile<'_>,
-) -> Result<(), Flaw> {
+) -> Result<(), RowError> {
     let text = file.text(rt)?;
     let output = output(rt, file)?;
     match plan(rt, file)? {
@@ -62,26 +62,26 @@ fn check_run<R: Files + AllocGlobal + Threads + Wait + Sync>(
 }
 
 /// Checks that the file of a plan is one, and belongs to a program.
-fn check_plan<R: Files + AllocGlobal>(rt: &R, file: &RowFile<'_>) -> Result<(), Flaw> {
+fn check_plan<R: Files + AllocGlobal>(rt: &R, file: &RowFile<'_>) -> Result<(), RowError> {
     file.text(rt)?;
     plan(rt, file)?;
     Ok(())
 }
 
 /// The plan that belongs to a file, if there is one.
-fn plan<R: Files + AllocGlobal>(rt: &R, file: &RowFile<'_>) -> Result<Option<Plan>, Flaw> {
+fn plan<R: Files + AllocGlobal>(rt: &R, file: &RowFile<'_>) -> Result<Option<Plan>, RowError> {
     let Some(bytes) = file.beside(rt, "pauses")? else {
         return Ok(None);
     };
     match Plan::read(rt.alloc(), &bytes) {
         Ok(plan) => Ok(Some(plan)),
-        Err(PlanError::Broken(line)) => Err(Flaw::Unread(line as usize)),
-        Err(PlanError::Memory) => Err(Flaw::Refused(Fault::Memory)),
+        Err(PlanError::Broken(line)) => Err(RowError::Unread(line as usize)),
+        Err(PlanError::Memory) => Err(RowError::Refused(Fault::Memory)),
     }
 }
 
 /// What the `.out` that belongs to a file says: nothing if there is none.
-fn output<R: Files + AllocGlobal>(rt: &R, file: &RowFile<'_>) -> Result<Vec<u8>, Flaw> {
+fn output<R: Files + AllocGlobal>(rt: &R, file: &RowFile<'_>) -> Result<Vec<u8>, RowError> {
     match file.beside(rt, "out")? {
         Some(output) => Ok(output),
         None => Ok(Vec::new(rt.alloc())),
@@ -94,7 +94,7 @@ fn check_row<R: Files + AllocGlobal + Threads + Wait + Sync>(
     file: &RowFile<'_>,
     text: &[u8],
     output: &[u8],
-) -> Result<(), Flaw> {
+) -> Result<(), RowError> {
     let row = file.row(rt)?;
     check_runs(rt, rt.alloc(), text, &row, output)
 }
@@ -104,7 +104,7 @@ fn check_row<R: Files + AllocGlobal + Threads + Wait + Sync>(
 fn check_trace<R: Files + AllocGlobal + Threads + Wait + Sync>(
     rt: &R,
     file: &RowFile<'_>,
-) -> Result<(), Flaw> {
+) -> Result<(), RowError> {
     let text = file.text(rt)?;
     let wanted = file.bytes(rt)?;
     match plan(rt, file)? {
@@ -120,7 +120,7 @@ fn check_paused_trace(
     plan: &Plan,
     limit: u64,
     wanted: &[u8],
-) -> Result<(), Flaw> {
+) -> Result<(), RowError> {
     let ran = Ran::traced(alloc, text, plan, limit)?;
     same_lines(alloc, "the trace (--pauses)", wanted, &ran.trace)
 }
@@ -131,7 +131,7 @@ fn check_events<R: Files + AllocGlobal + Threads + Wait + Sync>(
     file: &RowFile<'_>,
     text: &[u8],
     wanted: &[u8],
-) -> Result<(), Flaw> {
+) -> Result<(), RowError> {
     let row = file.row(rt)?;
     check_recorded(rt.alloc(), text, row.limit, wanted)?;
     for workers in row.workers.iter() {
@@ -141,7 +141,7 @@ fn check_events<R: Files + AllocGlobal + Threads + Wait + Sync>(
 }
 
 /// Checks that these events of a program are settled on one thread.
-fn check_recorded(alloc: Global, text: &[u8], limit: u64, wanted: &[u8]) -> Result<(), Flaw> {
+fn check_recorded(alloc: Global, text: &[u8], limit: u64, wanted: &[u8]) -> Result<(), RowError> {
     let recorded = recorded_lines(alloc, text, limit)?;
     same_lines(alloc, "the events that are settled", wanted, &recorded)
 }
@@ -154,14 +154,18 @@ fn check_traced<R: Threads + Wait + Sync>(
     limit: u64,
     workers: u64,
     wanted: &[u8],
-) -> Result<(), Flaw> {
+) -> Result<(), RowError> {
     let what = format!(in alloc; "the trace (--workers {workers})")?;
     let ran = Ran::of(rt, alloc, text, limit, workers)?;
     same_lines(alloc, &what, wanted, &ran.trace)
 }
 
 /// Checks that a file has what is made of its program.
-fn check_made<R: Files + AllocGlobal>(rt: &R, file: &RowFile<'_>, made: Made) -> Result<(), Flaw> {
+fn check_made<R: Files + AllocGlobal>(
+    rt: &R,
+    file: &RowFile<'_>,
+    made: Made,
+) -> Result<(), RowError> {
     let wanted = file.bytes(rt)?;
     let came = made_of(rt, file, made)?;
     same_lines(rt.alloc(), name_of(made), &wanted, &came)
@@ -173,7 +177,7 @@ fn made_of<R: Files + AllocGlobal>(
     rt: &R,
     file: &RowFile<'_>,
     made: Made,
-) -> Result<Vec<u8>, Flaw> {
+) -> Result<Vec<u8>, RowError> {
     let row = file.row(rt)?;
     let text = file.text(rt)?;
     match (made, plan(rt, file)?) {
@@ -194,7 +198,7 @@ fn made_up_to(
     name: &str,
     text: &[u8],
     limit: u64,
-) -> Result<Vec<u8>, Flaw> {
+) -> Result<Vec<u8>, RowError> {
     match made {
         Made::Drawing => picture(alloc, text, limit, Format::Drawing),
         Made::Explanation => explained(alloc, name, text, limit),
@@ -218,7 +222,7 @@ fn name_of(made: Made) -> &'static str {
 }
 
 /// Compares what came with the lines of a file. If its first line is `..`, the others are only the last ones.
-fn same_lines(alloc: Global, what: &str, wanted: &[u8], came: &[u8]) -> Result<(), Flaw> {
+fn same_lines(alloc: Global, what: &str, wanted: &[u8], came: &[u8]) -> Result<(), RowError> {
     match wanted.strip_prefix(b"..\n".as_slice()) {
         Some(end) => same(alloc, what, end, last_lines(came, end)),
         None => same(alloc, what, wanted, came),

@@ -21,8 +21,8 @@ use calls::{
 };
 use check::check;
 use go_text::Fault;
-use row_format::flaw::Flaw;
 use row_format::folder::{FileKind, RowFile, names, utf8};
+use row_format::row_error::RowError;
 use row_lines::check_words;
 use std::process::ExitCode;
 use std::rt::{Env, Files};
@@ -89,11 +89,11 @@ fn all<R: Files + AllocGlobal + Print + Threads + Wait + Sync + Clone + Drop>(
         let folder = format!(in rt.alloc(); "{root}/{name}")?;
         match names(rt, folder.as_str()) {
             Ok(names) => report.folder(rt, folder.as_str(), names.as_slice())?,
-            Err(error) => report.tell(rt, folder.as_str(), Err(Flaw::Io(error)))?,
+            Err(error) => report.tell(rt, folder.as_str(), Err(RowError::Io(error)))?,
         }
     }
     if report.seen == 0 {
-        report.tell(rt, root, Err(Flaw::NoRows))?;
+        report.tell(rt, root, Err(RowError::NoRows))?;
     }
     report.calls(rt)?;
     report.end(rt)
@@ -115,11 +115,11 @@ impl Report {
     }
 
     /// Counts a check, and prints what is wrong.
-    fn tell(&mut self, rt: &impl Print, name: &str, found: Result<(), Flaw>) -> io::Result<()> {
+    fn tell(&mut self, rt: &impl Print, name: &str, found: Result<(), RowError>) -> io::Result<()> {
         self.seen = self.seen.saturating_add(1);
-        if let Err(flaw) = found {
+        if let Err(row_error) = found {
             self.failed = self.failed.saturating_add(1);
-            println!(rt; "{name}: {flaw}")?;
+            println!(rt; "{name}: {row_error}")?;
         }
         Ok(())
     }
@@ -141,10 +141,10 @@ impl Report {
         rt: &R,
     ) -> io::Result<()> {
         let Ok(names) = failed_calls(rt, rt.alloc()) else {
-            return self.tell(rt, "machine_calls", Err(Flaw::Refused(Fault::Memory)));
+            return self.tell(rt, "machine_calls", Err(RowError::Refused(Fault::Memory)));
         };
         for name in names.iter() {
-            self.tell(rt, name, Err(Flaw::Call))?;
+            self.tell(rt, name, Err(RowError::Call))?;
         }
         self.tell(rt, "machine_calls", Ok(()))
     }
@@ -171,7 +171,7 @@ impl Report {
                     self.tell(rt, path.as_str(), check(rt, &file, names))?;
                     self.lines(rt, &file, path.as_str())?;
                 }
-                None => self.tell(rt, path.as_str(), Err(Flaw::Stranger))?,
+                None => self.tell(rt, path.as_str(), Err(RowError::Stranger))?,
             }
         }
         Ok(())
@@ -190,7 +190,7 @@ impl Report {
         match file.bytes(rt).and_then(utf8) {
             Ok(lines) if file.kind == FileKind::Words => self.words(rt, path, lines.as_str()),
             Ok(lines) => self.table(rt, path, lines.as_str()),
-            Err(flaw) => self.tell(rt, path, Err(flaw)),
+            Err(row_error) => self.tell(rt, path, Err(row_error)),
         }
     }
 

@@ -6,7 +6,7 @@ use kendo_code::{list_bytes, timeline_bytes};
 use kendo_front::{explain_end, reference_bytes};
 use paused_timeline::timeline_paused;
 use pauses::Plan;
-use row_format::flaw::Flaw;
+use row_format::row_error::RowError;
 use std::alloc::Global;
 use timeline::{Format, Window};
 use tracer::line;
@@ -17,7 +17,7 @@ use word::end::End;
 const MOST_EVENTS: usize = 1_000_000;
 
 /// The lines of the first events of the run of a program up to this limit, as they are settled on one thread.
-pub(crate) fn recorded_lines(alloc: Global, text: &[u8], limit: u64) -> Result<Vec<u8>, Flaw> {
+pub(crate) fn recorded_lines(alloc: Global, text: &[u8], limit: u64) -> Result<Vec<u8>, RowError> {
     let bytes = Vec::from_slice(alloc, text)?;
     let recording = timeline_bytes(alloc, bytes, limit, MOST_EVENTS)?;
     let mut lines = Vec::new(alloc);
@@ -34,7 +34,7 @@ pub(crate) fn picture(
     text: &[u8],
     limit: u64,
     format: Format,
-) -> Result<Vec<u8>, Flaw> {
+) -> Result<Vec<u8>, RowError> {
     let bytes = Vec::from_slice(alloc, text)?;
     let recording = timeline_bytes(alloc, bytes, limit, format.most_events())?;
     let picture = format.picture(alloc, &recording).map_err(Fault::from)?;
@@ -48,7 +48,7 @@ pub(crate) fn paused_picture(
     plan: &Plan,
     limit: u64,
     format: Format,
-) -> Result<Vec<u8>, Flaw> {
+) -> Result<Vec<u8>, RowError> {
     let bytes = Vec::from_slice(alloc, text)?;
     let most = format.most_events();
     let recording = timeline_paused(alloc, bytes, plan, limit, Window::First, most)?;
@@ -63,7 +63,7 @@ pub(crate) fn explained(
     name: &str,
     text: &[u8],
     limit: u64,
-) -> Result<Vec<u8>, Flaw> {
+) -> Result<Vec<u8>, RowError> {
     let path = format!(in alloc; "{name}.go")?;
     match end_of(alloc, text, limit) {
         Ok(end) => {
@@ -86,7 +86,7 @@ fn refusal_explained(
     path: &str,
     text: &[u8],
     fault: &Fault,
-) -> Result<Vec<u8>, Flaw> {
+) -> Result<Vec<u8>, RowError> {
     let shown = match String::from_utf8(Vec::from_slice(alloc, text)?) {
         Ok(shown) => shown,
         Err(_) => String::new(alloc),
@@ -95,7 +95,7 @@ fn refusal_explained(
 }
 
 /// The listing of a program's code.
-pub(crate) fn listing(alloc: Global, text: &[u8]) -> Result<Vec<u8>, Flaw> {
+pub(crate) fn listing(alloc: Global, text: &[u8]) -> Result<Vec<u8>, RowError> {
     let mut out = Flagged::new(Vec::new(alloc));
     list_bytes(alloc, Vec::from_slice(alloc, text)?, &mut out)?;
     Ok(out.into_inner())

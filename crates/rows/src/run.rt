@@ -6,8 +6,8 @@ use kendo_front::{paused_bytes, reference_bytes, traced_bytes};
 use kendo_reading::check_bytes;
 use kendo_report::report;
 use pauses::Plan;
-use row_format::flaw::{Flaw, same};
 use row_format::row::Row;
+use row_format::row_error::{RowError, same};
 use std::alloc::Global;
 use std::sync::Wait;
 use std::thread::Threads;
@@ -46,7 +46,7 @@ impl Ran {
         text: &[u8],
         limit: u64,
         workers: u64,
-    ) -> Result<Ran, Flaw> {
+    ) -> Result<Ran, RowError> {
         let bytes = Vec::from_slice(alloc, text)?;
         let mut out = Flagged::new(Vec::new(alloc));
         let mut trace = Flagged::new(Vec::new(alloc));
@@ -57,7 +57,7 @@ impl Ran {
     }
 
     /// The run of a program by the interpreter, which writes no trace.
-    fn interpreted(alloc: Global, text: &[u8], limit: u64) -> Result<Ran, Flaw> {
+    fn interpreted(alloc: Global, text: &[u8], limit: u64) -> Result<Ran, RowError> {
         let bytes = Vec::from_slice(alloc, text)?;
         let mut out = Flagged::new(Vec::new(alloc));
         let outcome = reference_bytes(alloc, bytes, limit, &mut out);
@@ -65,7 +65,7 @@ impl Ran {
     }
 
     /// The run of a program by the interpreter, with the pauses of a plan.
-    fn paused(alloc: Global, text: &[u8], plan: &Plan, limit: u64) -> Result<Ran, Flaw> {
+    fn paused(alloc: Global, text: &[u8], plan: &Plan, limit: u64) -> Result<Ran, RowError> {
         let bytes = Vec::from_slice(alloc, text)?;
         let mut out = Flagged::new(Vec::new(alloc));
         let outcome = paused_bytes(alloc, bytes, plan, limit, &mut out);
@@ -73,7 +73,12 @@ impl Ran {
     }
 
     /// Like `paused`, with its trace.
-    pub(crate) fn traced(alloc: Global, text: &[u8], plan: &Plan, limit: u64) -> Result<Ran, Flaw> {
+    pub(crate) fn traced(
+        alloc: Global,
+        text: &[u8],
+        plan: &Plan,
+        limit: u64,
+    ) -> Result<Ran, RowError> {
         let bytes = Vec::from_slice(alloc, text)?;
         let mut out = Flagged::new(Vec::new(alloc));
         let mut trace = Flagged::new(Vec::new(alloc));
@@ -87,7 +92,7 @@ impl Ran {
         outcome: Result<End, Fault>,
         output: Vec<u8>,
         trace: Vec<u8>,
-    ) -> Result<Ran, Flaw> {
+    ) -> Result<Ran, RowError> {
         let (line, status) = report(alloc, &outcome).map_err(Fault::from)?;
         Ok(Ran {
             outcome,
@@ -99,20 +104,20 @@ impl Ran {
     }
 
     /// Compares the run with its row, and its output with `output`.
-    fn check(&self, alloc: Global, row: &Row, output: &[u8], how: &str) -> Result<(), Flaw> {
+    fn check(&self, alloc: Global, row: &Row, output: &[u8], how: &str) -> Result<(), RowError> {
         self.check_error(alloc, row.error.as_str(), how)?;
         self.check_output(alloc, output, how)?;
         self.check_status(alloc, row.status, how)
     }
 
     /// Compares the output of the run with this one.
-    fn check_output(&self, alloc: Global, wanted: &[u8], how: &str) -> Result<(), Flaw> {
+    fn check_output(&self, alloc: Global, wanted: &[u8], how: &str) -> Result<(), RowError> {
         let what = format!(in alloc; "the output ({how})")?;
         same(alloc, &what, wanted, &self.output)
     }
 
     /// Compares the exit status of the run with this one.
-    fn check_status(&self, alloc: Global, wanted: u8, how: &str) -> Result<(), Flaw> {
+    fn check_status(&self, alloc: Global, wanted: u8, how: &str) -> Result<(), RowError> {
         if self.status == wanted {
             return Ok(());
         }
@@ -121,7 +126,7 @@ impl Ran {
     }
 
     /// Checks the source of the run, and compares what the check finds with what the run found: the same error, or a program.
-    fn check_found(&self, alloc: Global, text: &[u8]) -> Result<(), Flaw> {
+    fn check_found(&self, alloc: Global, text: &[u8]) -> Result<(), RowError> {
         let wanted = match &self.outcome {
             Err(Fault::BadWorkers | Fault::BadLimit) => return Ok(()),
             Ok(_) => b"".as_slice(),
@@ -132,13 +137,13 @@ impl Ran {
     }
 
     /// Compares the line on standard error with this one.
-    fn check_error(&self, alloc: Global, wanted: &str, how: &str) -> Result<(), Flaw> {
+    fn check_error(&self, alloc: Global, wanted: &str, how: &str) -> Result<(), RowError> {
         let what = format!(in alloc; "the line on standard error ({how})")?;
         self.check_line(alloc, &what, wanted)
     }
 
     /// Compares the line on standard error; if the wanted one ends in `..`, only its beginning.
-    fn check_line(&self, alloc: Global, what: &str, wanted: &str) -> Result<(), Flaw> {
+    fn check_line(&self, alloc: Global, what: &str, wanted: &str) -> Result<(), RowError> {
         let line = self.line.as_slice();
         let line = line.strip_suffix(b"\n".as_slice()).unwrap_or(line);
         match wanted.strip_suffix("..") {
@@ -152,7 +157,7 @@ impl Ran {
 }
 
 /// Reports two numbers that differ.
-pub(crate) fn differs(alloc: Global, what: &str, wanted: u8, came: u8) -> Result<(), Flaw> {
+pub(crate) fn differs(alloc: Global, what: &str, wanted: u8, came: u8) -> Result<(), RowError> {
     let wanted = wanted.to_string(alloc)?;
     let came = came.to_string(alloc)?;
     same(alloc, what, wanted.as_bytes(), came.as_bytes())
@@ -165,7 +170,7 @@ pub(crate) fn check_runs<R: Threads + Wait + Sync>(
     text: &[u8],
     row: &Row,
     output: &[u8],
-) -> Result<(), Flaw> {
+) -> Result<(), RowError> {
     check_interpreted(alloc, text, row, output)?;
     for workers in row.workers.iter() {
         check_ran(rt, alloc, text, row, *workers, output)?;
@@ -180,7 +185,7 @@ pub(crate) fn check_paused(
     plan: &Plan,
     row: &Row,
     output: &[u8],
-) -> Result<(), Flaw> {
+) -> Result<(), RowError> {
     let ran = Ran::paused(alloc, text, plan, row.limit)?;
     ran.check(alloc, row, output, "--pauses")?;
     let traced = Ran::traced(alloc, text, plan, row.limit)?;
@@ -195,7 +200,7 @@ fn check_ran<R: Threads + Wait + Sync>(
     row: &Row,
     workers: u64,
     output: &[u8],
-) -> Result<(), Flaw> {
+) -> Result<(), RowError> {
     let how = format!(in alloc; "--workers {workers}")?;
     let ran = Ran::of(rt, alloc, text, row.limit, workers)?;
     ran.check(alloc, row, output, &how)?;
@@ -203,7 +208,7 @@ fn check_ran<R: Threads + Wait + Sync>(
 }
 
 /// Runs a program by the interpreter too, and compares the results. The interpreter has no workers.
-fn check_interpreted(alloc: Global, text: &[u8], row: &Row, output: &[u8]) -> Result<(), Flaw> {
+fn check_interpreted(alloc: Global, text: &[u8], row: &Row, output: &[u8]) -> Result<(), RowError> {
     if row.error.as_str().starts_with("kendo: 15 ") {
         return Ok(());
     }
@@ -213,7 +218,7 @@ fn check_interpreted(alloc: Global, text: &[u8], row: &Row, output: &[u8]) -> Re
 }
 
 /// The line on standard error, with its newline, if a source is checked; nothing if it is a program.
-pub(crate) fn checked_line(alloc: Global, text: &[u8]) -> Result<Vec<u8>, Flaw> {
+pub(crate) fn checked_line(alloc: Global, text: &[u8]) -> Result<Vec<u8>, RowError> {
     let checked = check_bytes(alloc, Vec::from_slice(alloc, text)?);
     let outcome = checked.map(|()| End::Finished);
     let (line, _) = report(alloc, &outcome).map_err(Fault::from)?;

@@ -2,8 +2,8 @@
 
 use crate::run::{Ran, check_runs, checked_line};
 use go_text::{Fault, LimitKind};
-use row_format::flaw::{Flaw, same, shown};
 use row_format::row::{LIMIT, Row};
+use row_format::row_error::{RowError, same, shown};
 use row_format::written::bytes_of;
 use std::alloc::{AllocError, Global};
 use std::sync::Wait;
@@ -46,7 +46,7 @@ impl Table {
         rt: &R,
         alloc: Global,
         line: &str,
-    ) -> Result<(), Flaw> {
+    ) -> Result<(), RowError> {
         if line.is_empty() || line.starts_with('#') {
             return Ok(());
         }
@@ -65,9 +65,9 @@ impl Table {
         rt: &R,
         alloc: Global,
         line: &str,
-    ) -> Result<(), Flaw> {
+    ) -> Result<(), RowError> {
         let Some((told, written)) = line.split_once('\t') else {
-            return Err(Flaw::Form);
+            return Err(RowError::Form);
         };
         let mut text = Vec::from_slice(alloc, self.before.as_slice())?;
         text.extend_from_slice(bytes_of(alloc, written)?.as_slice())?;
@@ -99,7 +99,7 @@ fn check_output<R: Threads + Wait + Sync>(
     alloc: Global,
     text: &[u8],
     output: &str,
-) -> Result<(), Flaw> {
+) -> Result<(), RowError> {
     let output = bytes_of(alloc, output)?;
     let row = Row::new(alloc)?;
     check_runs(rt, alloc, text, &row, output.as_slice())
@@ -137,25 +137,33 @@ fn was_read(outcome: &Result<End, Fault>) -> bool {
 }
 
 /// Checks that a source is read.
-fn check_read<R: Threads + Wait + Sync>(rt: &R, alloc: Global, text: &[u8]) -> Result<(), Flaw> {
+fn check_read<R: Threads + Wait + Sync>(
+    rt: &R,
+    alloc: Global,
+    text: &[u8],
+) -> Result<(), RowError> {
     let ran = Ran::of(rt, alloc, text, LIMIT, 1)?;
     if was_read(&ran.outcome) {
         return Ok(());
     }
-    Err(Flaw::Outcome {
+    Err(RowError::Outcome {
         wanted: "a text that is read",
         came: shown(alloc, &ran.line, 0)?,
     })
 }
 
 /// Checks that each beginning of a source is refused.
-fn check_cuts<R: Threads + Wait + Sync>(rt: &R, alloc: Global, text: &[u8]) -> Result<(), Flaw> {
+fn check_cuts<R: Threads + Wait + Sync>(
+    rt: &R,
+    alloc: Global,
+    text: &[u8],
+) -> Result<(), RowError> {
     for length in 0..text.len() {
         let ran = Ran::of(rt, alloc, &text[..length], LIMIT, 1)?;
         let is_refused = matches!(&ran.outcome, Err(Fault::Syntax(_) | Fault::Typing { .. }));
         if !is_refused {
             let line = shown(alloc, &ran.line, 0)?;
-            return Err(Flaw::Outcome {
+            return Err(RowError::Outcome {
                 wanted: "a refusal 7 or 9 of each beginning",
                 came: format!(in alloc; "{line} of {length} bytes")?,
             });

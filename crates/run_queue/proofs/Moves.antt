@@ -5,7 +5,7 @@ use lib.ListN.{get_elem?}
 use Rattle.crossbeam_queue.specs.Fifo.{Pushes, Pops, Forks, Merges, Learns}
 use Rattle.crossbeam_queue.proofs.Lists.{at_set, at_snoc, set_again}
 use Rattle.run_queue.specs.declared.view.View.{View}
-use Rattle.run_queue.specs.Turns.{Begins, longer, Fits, Kept, whole, putting, taking, shared, further, note, spent, told_put, told_gone, PutsOne, TakesOne, PutsBehind, TakesBefore}
+use Rattle.run_queue.specs.Turns.{Begins, longer, Fits, Kept, whole, putting, taking, shared, further, note, spent, told_put, told_gone, PutsOne, TakesOne, PutsAfter, TakesBefore}
 
 append_nil : {T : Type 0} (a : List T) → a ≡ a ++ []
 append_nil [] = refl
@@ -15,9 +15,9 @@ length_append : {T : Type 0} (a b : List T) → length (a ++ b) ≡ length a + l
 length_append [] b = omega arith
 length_append (x ∷ xs) b = let e = length_append xs b in omega arith
 
-get_behind : {T : Type 0} (a : List T) (x : T) (b : List T) → slice_get (a ++ x ∷ b) (length a) ≡ Some x
-get_behind [] x b = refl
-get_behind (y ∷ ys) x b = get_behind ys x b
+get_after : {T : Type 0} (a : List T) (x : T) (b : List T) → slice_get (a ++ x ∷ b) (length a) ≡ Some x
+get_after [] x b = refl
+get_after (y ∷ ys) x b = get_after ys x b
 
 begins_all : {T : Type 0} (a b : List T) → a ≡ b → Begins a b
 begins_all a b e = ([], sym e ∙ append_nil a)
@@ -166,11 +166,11 @@ takes_one {T} pass v t x items views h at =
         all_set (Fits h.0 h.1 h.2 (length taken) h.3) views pass w (begins_all h.3 h.3 refl, omega arith, (λ q. ((mine.2 q).0, refl)), mine.3, (λ q. ((mine.4 q).0, (mine.4 q).1, sym long)))
             (λ j u apart e. let o = h.6 j u e in let less = o.1 in (o.0, omega arith, o.2, o.3, (λ q. let b = o.4 q in absurd (apart (b.1 ∙ sym (mine.3 t b.0)))))),
       ),
-      (n, mine.1, (λ q. sym (mine.4 q).2), ap (λ (l : List T). slice_get l n) h.5 ∙ get_behind h.4 x items, mine.0, refl),
+      (n, mine.1, (λ q. sym (mine.4 q).2), ap (λ (l : List T). slice_get l n) h.5 ∙ get_after h.4 x items, mine.0, refl),
     )
 
-pub behind : {T : Type 0} (pass : ℕ) (v : View T) → Learns Kept pass v (PutsBehind v)
-behind pass v items views h at p =
+pub following : {T : Type 0} (pass : ℕ) (v : View T) → Learns Kept pass v (PutsAfter v)
+following pass v items views h at p =
     let mine = h.6 pass v at in let all = ap length ((mine.2 p).1 ∙ h.5) in let parts = length_append h.4 items in let less = mine.1 in omega arith
 
 pub before : {T : Type 0} (pass : ℕ) (v : View T) → Learns Kept pass v (TakesBefore v)

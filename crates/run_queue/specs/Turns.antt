@@ -89,8 +89,8 @@ module _ {T : Type 0} where
       × (w ≡ record v { put = w.put; gone = n + 1 })
 
   -- what the pass that puts knows of how many the queue holds
-  abbrev pub PutsBehind : View T → List T → Type 0
-  PutsBehind v items = v.puts ≡ true → v.gone + length items ≤ length v.put
+  abbrev pub PutsAfter : View T → List T → Type 0
+  PutsAfter v items = v.puts ≡ true → v.gone + length items ≤ length v.put
 
   -- what a pass that takes alone knows of it
   abbrev pub TakesBefore : View T → List T → Type 0

@@ -24,9 +24,9 @@ impl<T> Outcome<T, View<T>> for Puts {
 }
 
 impl<T> Lesson<T, View<T>> for Puts {
-    ghost use Rattle.run_queue.specs.Turns.{PutsBehind};
+    ghost use Rattle.run_queue.specs.Turns.{PutsAfter};
 
-    ghost fact = { PutsBehind };
+    ghost fact = { PutsAfter };
 }
 
 /// One pop, or none at an empty queue.

@@ -5,7 +5,7 @@ use Rattle.scanner.specs.declared.element.Element.{Element}
 use Rattle.scanner.specs.declared.element.Element.TheVariants as elements
 use Rattle.scanner.specs.declared.token.Token.{Token}
 use Rattle.scanner.specs.Elements.{element_at}
-use Rattle.scanner.specs.Tokens.{Scanned, behind, line_end, ender, taken, tokens, tokens_of}
+use Rattle.scanner.specs.Tokens.{Scanned, following, line_end, ender, taken, tokens, tokens_of}
 
 -- at most `n` tokens, unless there is a fault
 abbrev AreAtMost : ℕ → Scanned → Type 0
@@ -20,9 +20,9 @@ more : (m n : ℕ) (read : Scanned) → m ≤ n → AreAtMost m read → AreAtMo
 more m n (Ok found) le few = omega arith
 more m n (Err fault) le few = tt
 
-behind_few : (n : ℕ) (front : List Token) (rest : Scanned) → length front ≤ 1 → AreAtMost n rest → AreAtMost (suc n) (behind front rest)
-behind_few n front (Ok found) one few = omega (arith, length-append front found)
-behind_few n front (Err fault) one few = tt
+after_few : (n : ℕ) (front : List Token) (rest : Scanned) → length front ≤ 1 → AreAtMost n rest → AreAtMost (suc n) (following front rest)
+after_few n front (Ok found) one few = omega (arith, length-append front found)
+after_few n front (Err fault) one few = tt
 
 length_one : (token : Token) → length (token ∷ []) ≤ 1
 length_one token = omega arith
@@ -30,10 +30,10 @@ length_one token = omega arith
 taken_few : (n place : ℕ) (after : Option ℕ) (read : Result Element Fault) (rest : ℕ → Option ℕ → Scanned) → ((passed : ℕ) (after : Option ℕ) → AreAtMost n (rest passed after)) → AreAtMost (suc n) (taken place after read rest)
 taken_few n place after (Err fault) rest few = tt
 taken_few n place after (Ok (elements.Blank len)) rest few = more n (suc n) (rest (len - 1) after) (omega arith) (few (len - 1) after)
-taken_few n place after (Ok (elements.LineEnd len)) rest few = behind_few n (line_end after) (rest (len - 1) None) (line_end_few after) (few (len - 1) None)
+taken_few n place after (Ok (elements.LineEnd len)) rest few = after_few n (line_end after) (rest (len - 1) None) (line_end_few after) (few (len - 1) None)
 taken_few n place after (Ok (elements.Token len kind)) rest few =
     let token : Token = record { kind = kind; span = record { from = place; to = place + len } } in
-    behind_few n (token ∷ []) (rest (len - 1) (ender kind (place + len))) (length_one token) (few (len - 1) (ender kind (place + len)))
+    after_few n (token ∷ []) (rest (len - 1) (ender kind (place + len))) (length_one token) (few (len - 1) (ender kind (place + len)))
 
 few : (text : List ℕ) (passed place : ℕ) (after : Option ℕ) → AreAtMost (suc (length text)) (tokens passed place after text)
 unfolding tokens

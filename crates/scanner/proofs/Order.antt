@@ -11,7 +11,7 @@ use Rattle.scanner.specs.declared.kind.TokenKind.{TokenKind}
 use Rattle.scanner.specs.declared.token.Token.{Token}
 use Rattle.scanner.specs.Lexical.{is_space, longest, ends_line}
 use Rattle.scanner.specs.Elements.{length_of, place_between, byte_place, is_newline, is_forbidden, is_close, is_broken, is_closing, is_escaping, longer, line_comment_rest, general_comment_rest, string_rest, line_comment, general_comment, string_literal, goes_on, judged, token_at, opens, element_at}
-use Rattle.scanner.specs.Tokens.{Scanned, behind, line_end, ender, taken, tokens, tokens_of, IsInOrder, LiesWithin}
+use Rattle.scanner.specs.Tokens.{Scanned, following, line_end, ender, taken, tokens, tokens_of, IsInOrder, LiesWithin}
 use Rattle.scanner.proofs.Characters.{front_len_le}
 use Rattle.scanner.proofs.Greatest.{IsBounded, longest_bounds}
 use Rattle.scanner.proofs.Reading.{close_within}
@@ -41,7 +41,7 @@ last_fits : (from to : ℕ) (after : Option ℕ) → from ≤ to → Ends from t
 last_fits from to None le ends = le
 last_fits from to (Some place) le ends = (ends.0, omega arith, ends.1)
 
-line_fits : (from to place : ℕ) (after : Option ℕ) (r : Scanned) → from ≤ place → Ends from place after → ((next : ℕ) → next ≤ place → Fits next to r) → Fits from to (behind (line_end after) r)
+line_fits : (from to place : ℕ) (after : Option ℕ) (r : Scanned) → from ≤ place → Ends from place after → ((next : ℕ) → next ≤ place → Fits next to r) → Fits from to (following (line_end after) r)
 line_fits from to place None (Ok ts) le ends fits = fits from le
 line_fits from to place None (Err e) le ends fits = fits from le
 line_fits from to place (Some at) (Ok ts) le ends fits = (ends.0, omega arith, fits at ends.1)
@@ -165,7 +165,7 @@ element_is place a ws =
       ]
     ]
 
-front_fits : (from to : ℕ) (token : Token) (r : Scanned) → from ≤ token.span.from → token.span.from ≤ token.span.to → Fits token.span.to to r → Fits from to (behind (token ∷ []) r)
+front_fits : (from to : ℕ) (token : Token) (r : Scanned) → from ≤ token.span.from → token.span.from ≤ token.span.to → Fits token.span.to to r → Fits from to (following (token ∷ []) r)
 front_fits from to token (Ok ts) le len fits = (le, len, fits)
 front_fits from to token (Err e) le len fits = fits
 

@@ -8,11 +8,11 @@ use Rattle.scanner.specs.declared.element.Element.{Element}
 use Rattle.scanner.specs.declared.element.Element.TheVariants as elements
 use Rattle.scanner.specs.declared.element.Element.TheVariants.{Blank, LineEnd}
 use Rattle.scanner.specs.Elements.{element_at}
-use Rattle.scanner.specs.Tokens.{Scanned, behind, line_end, ender, taken, tokens}
+use Rattle.scanner.specs.Tokens.{Scanned, following, line_end, ender, taken, tokens}
 
-behind_behind : (a b : List Token) (r : Scanned) → behind a (behind b r) ≡ behind (a ++ b) r
-behind_behind a b (Ok ts) = ap (λ (x : List Token). Ok x) (sym (append_assoc a b ts))
-behind_behind a b (Err f) = refl
+after_after : (a b : List Token) (r : Scanned) → following a (following b r) ≡ following (a ++ b) r
+after_after a b (Ok ts) = ap (λ (x : List Token). Ok x) (sym (append_assoc a b ts))
+after_after a b (Err f) = refl
 
 -- bytes that belong to the token before
 passed_over : (p place : ℕ) (after : Option ℕ) (ws : List ℕ) → p ≤ length ws → tokens p place after ws ≡ tokens 0 (place + p) after (drop p ws)
@@ -46,27 +46,27 @@ from_place : (at : ℕ) (after : Option ℕ) (text : List ℕ) (r : Result Eleme
 from_place at after text r lt is = element_is at after (drop at text) r (omega (arith, length-drop at text)) is
 
 pub blank_step : (out : List Token) (at n : ℕ) (after : Option ℕ) (text : List ℕ) (total : Scanned) → at < length text → Begins at text (Ok (Blank n)) → 1 ≤ n → at + n ≤ length text
-    → behind out (tokens 0 at after (drop at text)) ≡ total → behind out (tokens 0 (at + n) after (drop (at + n) text)) ≡ total
+    → following out (tokens 0 at after (drop at text)) ≡ total → following out (tokens 0 (at + n) after (drop (at + n) text)) ≡ total
 blank_step out at n after text total lt is some le so_far =
-    ap (behind out) (sym (from_place at after text (Ok (Blank n)) lt is ∙ over at n after text some le)) ∙ so_far
+    ap (following out) (sym (from_place at after text (Ok (Blank n)) lt is ∙ over at n after text some le)) ∙ so_far
 
 pub line_end_step : (out : List Token) (at n : ℕ) (after : Option ℕ) (text : List ℕ) (total : Scanned) → at < length text → Begins at text (Ok (LineEnd n)) → 1 ≤ n → at + n ≤ length text
-    → behind out (tokens 0 at after (drop at text)) ≡ total → behind (out ++ line_end after) (tokens 0 (at + n) None (drop (at + n) text)) ≡ total
+    → following out (tokens 0 at after (drop at text)) ≡ total → following (out ++ line_end after) (tokens 0 (at + n) None (drop (at + n) text)) ≡ total
 line_end_step out at n after text total lt is some le so_far =
-    sym (behind_behind out (line_end after) (tokens 0 (at + n) None (drop (at + n) text)))
-    ∙ ap (behind out) (sym (from_place at after text (Ok (LineEnd n)) lt is ∙ ap (behind (line_end after)) (over at n None text some le))) ∙ so_far
+    sym (after_after out (line_end after) (tokens 0 (at + n) None (drop (at + n) text)))
+    ∙ ap (following out) (sym (from_place at after text (Ok (LineEnd n)) lt is ∙ ap (following (line_end after)) (over at n None text some le))) ∙ so_far
 
 pub token_step : (out : List Token) (at n : ℕ) (k : TokenKind) (after : Option ℕ) (text : List ℕ) (total : Scanned) → at < length text → Begins at text (Ok (elements.Token n k)) → 1 ≤ n → at + n ≤ length text
-    → behind out (tokens 0 at after (drop at text)) ≡ total → behind (out ++ record { kind = k; span = record { from = at; to = at + n } } ∷ []) (tokens 0 (at + n) (ender k (at + n)) (drop (at + n) text)) ≡ total
+    → following out (tokens 0 at after (drop at text)) ≡ total → following (out ++ record { kind = k; span = record { from = at; to = at + n } } ∷ []) (tokens 0 (at + n) (ender k (at + n)) (drop (at + n) text)) ≡ total
 token_step out at n k after text total lt is some le so_far =
     let token : Token = record { kind = k; span = record { from = at; to = at + n } } in
-    sym (behind_behind out (token ∷ []) (tokens 0 (at + n) (ender k (at + n)) (drop (at + n) text)))
-    ∙ ap (behind out) (sym (from_place at after text (Ok (elements.Token n k)) lt is ∙ ap (behind (token ∷ [])) (over at n (ender k (at + n)) text some le))) ∙ so_far
+    sym (after_after out (token ∷ []) (tokens 0 (at + n) (ender k (at + n)) (drop (at + n) text)))
+    ∙ ap (following out) (sym (from_place at after text (Ok (elements.Token n k)) lt is ∙ ap (following (token ∷ [])) (over at n (ender k (at + n)) text some le))) ∙ so_far
 
 pub fault_step : (out : List Token) (at : ℕ) (after : Option ℕ) (text : List ℕ) (f : Fault) (total : Scanned) → at < length text → Begins at text (Err f)
-    → behind out (tokens 0 at after (drop at text)) ≡ total → total ≡ Err f
-fault_step out at after text f total lt is so_far = sym so_far ∙ ap (behind out) (from_place at after text (Err f) lt is)
+    → following out (tokens 0 at after (drop at text)) ≡ total → total ≡ Err f
+fault_step out at after text f total lt is so_far = sym so_far ∙ ap (following out) (from_place at after text (Err f) lt is)
 
-pub end_step : (out : List Token) (at : ℕ) (after : Option ℕ) (text : List ℕ) (total : Scanned) → length text ≤ at → behind out (tokens 0 at after (drop at text)) ≡ total → total ≡ Ok (out ++ line_end after)
+pub end_step : (out : List Token) (at : ℕ) (after : Option ℕ) (text : List ℕ) (total : Scanned) → length text ≤ at → following out (tokens 0 at after (drop at text)) ≡ total → total ≡ Ok (out ++ line_end after)
 unfolding tokens
-end_step out at after text total le so_far = sym so_far ∙ ap (λ (ws : List ℕ). behind out (tokens 0 at after ws)) (drop_all at text le)
+end_step out at after text total le so_far = sym so_far ∙ ap (λ (ws : List ℕ). following out (tokens 0 at after ws)) (drop_all at text le)

@@ -14,9 +14,9 @@ use Rattle.scanner.specs.Elements.{element_at}
 abbrev pub Scanned : Type 0
 Scanned = Result (List Token) Fault
 
-abbrev pub behind : List Token → Scanned → Scanned
-behind front (Ok tokens) = Ok (front ++ tokens)
-behind front (Err fault) = Err fault
+abbrev pub following : List Token → Scanned → Scanned
+following front (Ok tokens) = Ok (front ++ tokens)
+following front (Err fault) = Err fault
 
 -- The semicolon of a line's end, if one belongs there. It is empty, and is directly after the token that it follows.
 abbrev pub line_end : Option ℕ → List Token
@@ -32,9 +32,9 @@ ender kind place = if ends_line kind then Some place else None
 abbrev pub taken : (place : ℕ) → (after : Option ℕ) → Result Element Fault → (ℕ → Option ℕ → Scanned) → Scanned
 taken place after (Err fault) rest = Err fault
 taken place after (Ok (elements.Blank len)) rest = rest (len - 1) after
-taken place after (Ok (elements.LineEnd len)) rest = behind (line_end after) (rest (len - 1) None)
+taken place after (Ok (elements.LineEnd len)) rest = following (line_end after) (rest (len - 1) None)
 taken place after (Ok (elements.Token len kind)) rest =
-    behind (record { kind = kind; span = record { from = place; to = place + len } } ∷ []) (rest (len - 1) (ender kind (place + len)))
+    following (record { kind = kind; span = record { from = place; to = place + len } } ∷ []) (rest (len - 1) (ender kind (place + len)))
 
 -- The tokens from offset `place` of the text on. The first `passed` bytes still belong to the token before; a line's end
 -- would put a semicolon at `after`. The end of the text counts as a line's end.

@@ -44,9 +44,9 @@ at_some s j (Some n ∷ xs) w e = elim (cases_Bool (n.stamp == s)) [
   | inr a ↦ let h = rw a at e in later s j (Some n) xs w (at_some s (suc j) xs w h)
 ]
 
-none_behind : (s j : ℕ) (m : Node) (xs : List (Option Node)) → m.stamp ≢ s → Missing s xs → Missing s (Some m ∷ xs)
-none_behind s j m xs a r zero n h e = a (ap (λ (k : Node). k.stamp) (some_is m n h) ∙ e)
-none_behind s j m xs a r (suc i) n h e = r i n h e
+none_following : (s j : ℕ) (m : Node) (xs : List (Option Node)) → m.stamp ≢ s → Missing s xs → Missing s (Some m ∷ xs)
+none_following s j m xs a r zero n h e = a (ap (λ (k : Node). k.stamp) (some_is m n h) ∙ e)
+none_following s j m xs a r (suc i) n h e = r i n h e
 
 pub at_none : (s j : ℕ) (xs : List (Option Node)) → at_stamp s j xs ≡ None → Missing s xs
 at_none s j [] e i n h = absurd (none-some n h)
@@ -54,7 +54,7 @@ at_none s j (None ∷ xs) e zero n h = absurd (none-some n h)
 at_none s j (None ∷ xs) e (suc i) n h = at_none s (suc j) xs e i n h
 at_none s j (Some m ∷ xs) e i n h = elim (cases_Bool (m.stamp == s)) [
   | inl a ↦ let g = rw a at e in absurd (none-some (waiting_at j m) (sym g))
-  | inr a ↦ let g = rw a at e in none_behind s j m xs (other_stamp m.stamp s a) (at_none s (suc j) xs g) i n h
+  | inr a ↦ let g = rw a at e in none_following s j m xs (other_stamp m.stamp s a) (at_none s (suc j) xs g) i n h
 ]
 
 -- the slots seen as a map, in which no two have one stamp

@@ -3,7 +3,7 @@ use Rattle.std.proofs.Common.{◌≡◌, ℕ, ◌+◌, ◌*◌, Option, Some, No
 use Rattle.std.proofs.lemmas.List.Sums.{sum_by-cons}
 use Rattle.go_text.specs.declared.place.Span.{Span}
 use Rattle.scanner.specs.declared.token.Token.{Token}
-use Rattle.syntax.specs.Tree.{TypeExpression, NamedType, ParenthesizedType, Channel, Expression, Integer, Named, Parenthesized, Selection, Composite, Unary, Binary, Call, Receive, Make, MakeSized, Length, Capacity, Expressions, NoMore, Behind, expressions, Arguments, Place, Part, Value, Text, Simple, CallAlone, Close, Print, ReceiveAlone, Send, Increment, Decrement, Assign, Define, Update, IfHead, Bare, Semicolon, First, Target, NoTarget, DefineTarget, AssignTarget, ForHead, Forever, While, ForClauses, Range, Comm, CommSend, CommReceive, CommDefine, CommAssign, Returned, NoValue, ReturnedValue, Statement, Empty, Alone, VarTyped, VarUntyped, Block, If, For, Select, Go, Return, Break, Continue, Statements, NoStatement, Then, Otherwise, Branch, Conditional, NoElse, ElseBlock, ElseIf, Clauses, NoClause, Clause, Declared, Top, StructTop, FunctionTop, File}
+use Rattle.syntax.specs.Tree.{TypeExpression, NamedType, ParenthesizedType, Channel, Expression, Integer, Named, Parenthesized, Selection, Composite, Unary, Binary, Call, Receive, Make, MakeSized, Length, Capacity, Expressions, NoMore, Following, expressions, Arguments, Place, Part, Value, Text, Simple, CallAlone, Close, Print, ReceiveAlone, Send, Increment, Decrement, Assign, Define, Update, IfHead, Bare, Semicolon, First, Target, NoTarget, DefineTarget, AssignTarget, ForHead, Forever, While, ForClauses, Range, Comm, CommSend, CommReceive, CommDefine, CommAssign, Returned, NoValue, ReturnedValue, Statement, Empty, Alone, VarTyped, VarUntyped, Block, If, For, Select, Go, Return, Break, Continue, Statements, NoStatement, Then, Otherwise, Branch, Conditional, NoElse, ElseBlock, ElseIf, Clauses, NoClause, Clause, Declared, Top, StructTop, FunctionTop, File}
 use Rattle.syntax.specs.Measures.{type_size, expression_size, expressions_size, arguments_size, part_size, simple_size, if_head_size, target_size, for_head_size, comm_size, if_any, returned_size, statement_size, statements_size, branch_size, otherwise_size, clauses_size, declared_size, top_size, size}
 use Rattle.syntax.proofs.Lists.{expressions_size-of}
 use Rattle.spans.specs.Words.{joined, braced, direction_count, type_count, expression_count, place_count, place_step, part_step, simple_count, if_head_count, target_count, for_head_count, second_name_count, start_count, statement_count, body_count, clause_count, group_step, groups_count, top_step}
@@ -47,7 +47,7 @@ mutual
 
   length-values_spans : (tokens : List Token) (at : ℕ) (es : Expressions) → length (values_spans tokens at es) ≡ expressions_size es
   length-values_spans tokens at NoMore = refl
-  length-values_spans tokens at (Behind first rest) =
+  length-values_spans tokens at (Following first rest) =
       omega (arith, length-append {A = Span}, length-expression_spans tokens at first, length-values_spans tokens (at + (expression_count first + 1)) rest)
 
 -- ---- right sides
@@ -159,8 +159,8 @@ mutual
   length-statement_spans tokens at Empty = refl
   length-statement_spans tokens at (Alone simple) = length-simple_spans tokens at simple
   length-statement_spans tokens at (VarTyped names kind right) =
-      let behind_names = at + 1 + joined (length names * 2) in
-      omega (arith, length-append {A = Span}, length-type_spans tokens behind_names kind, length-initial_spans tokens (behind_names + type_count kind) right)
+      let after_names = at + 1 + joined (length names * 2) in
+      omega (arith, length-append {A = Span}, length-type_spans tokens after_names kind, length-initial_spans tokens (after_names + type_count kind) right)
   length-statement_spans tokens at (VarUntyped names right) =
       omega (arith, length-append {A = Span}, length-right_spans tokens (at + 1 + length names * 2) right)
   length-statement_spans tokens at (Block body) =
@@ -184,13 +184,13 @@ mutual
 
   length-branch_spans : (tokens : List Token) (at : ℕ) (branch : Branch) → length (branch_spans tokens at branch) ≡ branch_size branch
   length-branch_spans tokens at (Conditional head condition body otherwise) =
-      let behind_head = at + 1 + if_head_count head in
-      let opening = behind_head + expression_count condition in
+      let after_head = at + 1 + if_head_count head in
+      let opening = after_head + expression_count condition in
       omega (
         arith,
         length-append {A = Span},
         length-if_head_spans tokens (at + 1) head,
-        length-expression_spans tokens behind_head condition,
+        length-expression_spans tokens after_head condition,
         length-body_spans tokens (opening + 1) body,
         length-otherwise_spans tokens (opening + braced (body_count body)) otherwise,
       )
@@ -226,13 +226,13 @@ length-top_spans : (tokens : List Token) (at : ℕ) (top : Top) → length (top_
 length-top_spans tokens at (StructTop struct) =
     omega (arith, length-append {A = Span}, length-groups_spans tokens (at + 4) struct.fields)
 length-top_spans tokens at (FunctionTop function) =
-    let behind_parameters = at + (groups_count function.parameters function.trailing + 4) in
-    let opening = behind_parameters + if_any type_count function.result in
+    let after_parameters = at + (groups_count function.parameters function.trailing + 4) in
+    let opening = after_parameters + if_any type_count function.result in
     omega (
       arith,
       length-append {A = Span},
       length-groups_spans tokens (at + 3) function.parameters,
-      length-optional_spans type_spans type_size tokens behind_parameters function.result (length-type_spans tokens behind_parameters),
+      length-optional_spans type_spans type_size tokens after_parameters function.result (length-type_spans tokens after_parameters),
       length-body_spans tokens (opening + 1) function.body,
     )
 

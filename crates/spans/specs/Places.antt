@@ -6,7 +6,7 @@
 use Rattle.std.specs.Prelude.{ℕ, zero, suc, ◌+◌, ◌*◌, length, sum_by, Option, Some, None, List, [], ◌∷◌, ◌++◌, slice_get}
 use Rattle.go_text.specs.declared.place.Span.{Span}
 use Rattle.scanner.specs.declared.token.Token.{Token}
-use Rattle.syntax.specs.Tree.{TypeExpression, NamedType, ParenthesizedType, Channel, Expression, Integer, Named, Parenthesized, Selection, Composite, Unary, Binary, Call, Receive, Make, MakeSized, Length, Capacity, Expressions, NoMore, Behind, expressions, Arguments, Place, Part, Value, Text, Simple, CallAlone, Close, Print, ReceiveAlone, Send, Increment, Decrement, Assign, Define, Update, IfHead, Bare, Semicolon, First, Target, NoTarget, DefineTarget, AssignTarget, ForHead, Forever, While, ForClauses, Range, Comm, CommSend, CommReceive, CommDefine, CommAssign, Returned, NoValue, ReturnedValue, Statement, Empty, Alone, VarTyped, VarUntyped, Block, If, For, Select, Go, Return, Break, Continue, Statements, NoStatement, Then, Otherwise, Branch, Conditional, NoElse, ElseBlock, ElseIf, Clauses, NoClause, Clause, Declared, Function, Top, StructTop, FunctionTop, File}
+use Rattle.syntax.specs.Tree.{TypeExpression, NamedType, ParenthesizedType, Channel, Expression, Integer, Named, Parenthesized, Selection, Composite, Unary, Binary, Call, Receive, Make, MakeSized, Length, Capacity, Expressions, NoMore, Following, expressions, Arguments, Place, Part, Value, Text, Simple, CallAlone, Close, Print, ReceiveAlone, Send, Increment, Decrement, Assign, Define, Update, IfHead, Bare, Semicolon, First, Target, NoTarget, DefineTarget, AssignTarget, ForHead, Forever, While, ForClauses, Range, Comm, CommSend, CommReceive, CommDefine, CommAssign, Returned, NoValue, ReturnedValue, Statement, Empty, Alone, VarTyped, VarUntyped, Block, If, For, Select, Go, Return, Break, Continue, Statements, NoStatement, Then, Otherwise, Branch, Conditional, NoElse, ElseBlock, ElseIf, Clauses, NoClause, Clause, Declared, Function, Top, StructTop, FunctionTop, File}
 use Rattle.spans.specs.Words.{joined, braced, direction_count, type_count, expression_count, place_count, place_step, part_step, simple_count, if_head_count, target_count, for_head_count, second_count, second_name_count, comm_count, start_count, statement_count, body_count, branch_count, clause_count, group_count, group_step, groups_count, top_count, top_step, file_count}
 use Rattle.syntax.specs.Measures.{if_any}
 
@@ -84,7 +84,7 @@ abbrev mutual
   -- expressions with a mark after each
   pub values_spans : List Token → ℕ → Expressions → List Span
   values_spans tokens at NoMore = []
-  values_spans tokens at (Behind first rest) =
+  values_spans tokens at (Following first rest) =
       expression_spans tokens at first ++ values_spans tokens (at + (expression_count first + 1)) rest
 
 -- ---- right sides
@@ -250,8 +250,8 @@ abbrev mutual
   statement_spans tokens at (Alone simple) = simple_spans tokens at simple
   -- var names kind = values
   statement_spans tokens at (VarTyped names kind values) =
-      let behind_names = at + 1 + joined (length names * 2) in
-      under (type_spans tokens behind_names kind ++ initial_spans tokens (behind_names + type_count kind) values)
+      let after_names = at + 1 + joined (length names * 2) in
+      under (type_spans tokens after_names kind ++ initial_spans tokens (after_names + type_count kind) values)
       (over tokens at (statement_count (VarTyped names kind values)))
   -- var names = values
   statement_spans tokens at (VarUntyped names values) =
@@ -288,13 +288,13 @@ abbrev mutual
   -- if head condition { body } otherwise
   pub branch_spans : List Token → ℕ → Branch → List Span
   branch_spans tokens at (Conditional head condition body otherwise) =
-      let behind_head = at + 1 + if_head_count head in
-      let opening = behind_head + expression_count condition in
-      let behind_body = opening + braced (body_count body) in
+      let after_head = at + 1 + if_head_count head in
+      let opening = after_head + expression_count condition in
+      let after_body = opening + braced (body_count body) in
       under (if_head_spans tokens (at + 1) head
-      ++ expression_spans tokens behind_head condition
+      ++ expression_spans tokens after_head condition
       ++ with_block tokens opening body (body_spans tokens (opening + 1) body)
-      ++ otherwise_spans tokens behind_body otherwise)
+      ++ otherwise_spans tokens after_body otherwise)
       (over tokens at (branch_count (Conditional head condition body otherwise)))
 
   -- what is after the block of an `if`
@@ -336,10 +336,10 @@ groups_spans tokens at (first ∷ rest) = group_spans tokens at first ++ groups_
 -- func name ( parameters ) result { body }
 abbrev pub below_function : List Token → ℕ → Function → List Span
 below_function tokens at function =
-    let behind_parameters = at + (groups_count function.parameters function.trailing + 4) in
-    let opening = behind_parameters + if_any type_count function.result in
+    let after_parameters = at + (groups_count function.parameters function.trailing + 4) in
+    let opening = after_parameters + if_any type_count function.result in
     groups_spans tokens (at + 3) function.parameters
-    ++ optional_spans type_spans tokens behind_parameters function.result
+    ++ optional_spans type_spans tokens after_parameters function.result
     ++ block_spans tokens opening function.body
 
 abbrev pub below_top : List Token → ℕ → Top → List Span

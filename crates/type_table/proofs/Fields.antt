@@ -4,19 +4,19 @@ use Rattle.std.proofs.lemmas.Option.{same_Some}
 use Rattle.std.proofs.lemmas.List.{length-append, length-map}
 use Rattle.type_table.specs.declared.entry.StructEntry.{StructEntry}
 use Rattle.type_table.specs.Types.{ValueType, IntType, BoolType, StructType, ChannelType}
-use Rattle.type_table.specs.Containment.{Field, Structs, Selected, words_of, kind_width, fields_width, width_within, width, variable_words, behind, field_among, fields_of, kind_parts, fields_parts, parts_within, parts}
+use Rattle.type_table.specs.Containment.{Field, Structs, Selected, words_of, kind_width, fields_width, width_within, width, variable_words, following, field_among, fields_of, kind_parts, fields_parts, parts_within, parts}
 use Rattle.type_table.specs.Views.{Fits, structs_of}
 use Rattle.type_table.proofs.Widths.{together-parts, fields-more, width-suc}
 
-pub behind_both : (place words : ℕ) (o : Option Selected) → option_map (behind place) (option_map (behind words) o) ≡ option_map (behind (place + words)) o
-behind_both place words None = refl
-behind_both place words (Some s) =
+pub after_both : (place words : ℕ) (o : Option Selected) → option_map (following place) (option_map (following words) o) ≡ option_map (following (place + words)) o
+after_both place words None = refl
+after_both place words (Some s) =
     let e : place + (words + s.place) ≡ place + words + s.place = omega arith in
     ap (λ (n : ℕ). Some (record { place = n; kind = s.kind })) e
 
 pub next_field : (structs : Structs) (first : Field) (rest : List Field) (name : List ℕ) (place : ℕ) → bytes_eq first.name name ≡ false
-    → option_map (behind place) (field_among structs (first ∷ rest) name) ≡ option_map (behind (place + variable_words structs first.kind)) (field_among structs rest name)
-next_field structs first rest name place e = rw e (behind_both place (variable_words structs first.kind) (field_among structs rest name))
+    → option_map (following place) (field_among structs (first ∷ rest) name) ≡ option_map (following (place + variable_words structs first.kind)) (field_among structs rest name)
+next_field structs first rest name place e = rw e (after_both place (variable_words structs first.kind) (field_among structs rest name))
 
 pub next_fits : (structs : Structs) (name : List ℕ) (k : ValueType) (rest : List Field) (place : ℕ)
     → Fits structs (record { name = name; kind = Some k } ∷ rest) place → Fits structs rest (place + variable_words structs (Some k))

@@ -38,27 +38,27 @@ agree [] name = tt
 agree (v ∷ rest) name = agree_step v rest (bytes_eq v.name name) (last_place (names_in rest) name) (last_named rest name) (agree rest name)
 
 -- the variable at the last index, if that is not among the first `count`
-abbrev Behind : List Variable → ℕ → Option ℕ → Option Variable → Type 0
-Behind variables count None found = found ≡ None
-Behind variables count (Some place) found = (count ≤ place → found ≡ slice_get variables place) × (place < count → found ≡ None)
+abbrev Following : List Variable → ℕ → Option ℕ → Option Variable → Type 0
+Following variables count None found = found ≡ None
+Following variables count (Some place) found = (count ≤ place → found ≡ slice_get variables place) × (place < count → found ≡ None)
 
-behind_none : (variables : List Variable) (place : Option ℕ) (found : Option Variable) → Agree variables place found → Behind variables 0 place found
-behind_none variables None None h = refl
-behind_none variables None (Some v) h = absurd h
-behind_none variables (Some place) None h = absurd h
-behind_none variables (Some place) (Some v) h = (λ _. sym h, λ l. absurd (omega (arith, l)))
+after_none : (variables : List Variable) (place : Option ℕ) (found : Option Variable) → Agree variables place found → Following variables 0 place found
+after_none variables None None h = refl
+after_none variables None (Some v) h = absurd h
+after_none variables (Some place) None h = absurd h
+after_none variables (Some place) (Some v) h = (λ _. sym h, λ l. absurd (omega (arith, l)))
 
-behind_step : (v : Variable) (rest : List Variable) (count : ℕ) (first : Bool) (place : Option ℕ) (found : Option Variable) → Behind rest count place found
-    → Behind (v ∷ rest) (suc count) (later_place (if first then Some 0 else None) (option_map suc place)) found
-behind_step v rest count true None found h = (λ l. absurd (omega (arith, l)), λ _. h)
-behind_step v rest count false None found h = h
-behind_step v rest count first (Some place) found h = (λ l. h.0 (omega (arith, l)), λ l. h.1 (omega (arith, l)))
+following_step : (v : Variable) (rest : List Variable) (count : ℕ) (first : Bool) (place : Option ℕ) (found : Option Variable) → Following rest count place found
+    → Following (v ∷ rest) (suc count) (later_place (if first then Some 0 else None) (option_map suc place)) found
+following_step v rest count true None found h = (λ l. absurd (omega (arith, l)), λ _. h)
+following_step v rest count false None found h = h
+following_step v rest count first (Some place) found h = (λ l. h.0 (omega (arith, l)), λ l. h.1 (omega (arith, l)))
 
-behind : (variables : List Variable) (count : ℕ) (name : List ℕ) → Behind variables count (last_place (names_in variables) name) (last_named (drop count variables) name)
-behind [] zero name = refl
-behind [] (suc count) name = refl
-behind (v ∷ rest) zero name = behind_none (v ∷ rest) _ _ (agree (v ∷ rest) name)
-behind (v ∷ rest) (suc count) name = behind_step v rest count (bytes_eq v.name name) _ _ (behind rest count name)
+following : (variables : List Variable) (count : ℕ) (name : List ℕ) → Following variables count (last_place (names_in variables) name) (last_named (drop count variables) name)
+following [] zero name = refl
+following [] (suc count) name = refl
+following (v ∷ rest) zero name = after_none (v ∷ rest) _ _ (agree (v ∷ rest) name)
+following (v ∷ rest) (suc count) name = following_step v rest count (bytes_eq v.name name) _ _ (following rest count name)
 
 -- ---- the same of variables in memory
 
@@ -66,24 +66,24 @@ names_of_variables : (types : List (List ℕ)) (entries : List Entry) → names_
 names_of_variables types [] = refl
 names_of_variables types (entry ∷ rest) = rw (names_of_variables types rest) refl
 
-behind_at : (variables : List Variable) (count : ℕ) (name : List ℕ) (found : Option ℕ) → last_place (names_in variables) name ≡ found → Behind variables count found (last_named (drop count variables) name)
-behind_at variables count name found e = rw e at (behind variables count name)
+after_at : (variables : List Variable) (count : ℕ) (name : List ℕ) (found : Option ℕ) → last_place (names_in variables) name ≡ found → Following variables count found (last_named (drop count variables) name)
+after_at variables count name found e = rw e at (following variables count name)
 
-variables_behind : (types : List (List ℕ)) (entries : List Entry) (count : ℕ) (name : List ℕ) (found : Option ℕ) → found ≡ last_place (entry_names entries) name
-    → Behind (map (variable_of types) entries) count found (last_named (drop count (map (variable_of types) entries)) name)
-variables_behind types entries count name found e = behind_at (map (variable_of types) entries) count name found (rw (names_of_variables types entries, e) refl)
+variables_after : (types : List (List ℕ)) (entries : List Entry) (count : ℕ) (name : List ℕ) (found : Option ℕ) → found ≡ last_place (entry_names entries) name
+    → Following (map (variable_of types) entries) count found (last_named (drop count (map (variable_of types) entries)) name)
+variables_after types entries count name found e = after_at (map (variable_of types) entries) count name found (rw (names_of_variables types entries, e) refl)
 
-pub last_behind : (types : List (List ℕ)) (entries : List Entry) (count : ℕ) (name : List ℕ) (place : ℕ) → Some place ≡ last_place (entry_names entries) name → count ≤ place
+pub last_after : (types : List (List ℕ)) (entries : List Entry) (count : ℕ) (name : List ℕ) (place : ℕ) → Some place ≡ last_place (entry_names entries) name → count ≤ place
     → last_named (drop count (map (variable_of types) entries)) name ≡ slice_get (map (variable_of types) entries) place
-last_behind types entries count name place e l = (variables_behind types entries count name (Some place) e).0 l
+last_after types entries count name place e l = (variables_after types entries count name (Some place) e).0 l
 
 pub last_before : (types : List (List ℕ)) (entries : List Entry) (count : ℕ) (name : List ℕ) (place : ℕ) → Some place ≡ last_place (entry_names entries) name → place < count
     → last_named (drop count (map (variable_of types) entries)) name ≡ None
-last_before types entries count name place e l = (variables_behind types entries count name (Some place) e).1 l
+last_before types entries count name place e l = (variables_after types entries count name (Some place) e).1 l
 
 pub last_nowhere : (types : List (List ℕ)) (entries : List Entry) (count : ℕ) (name : List ℕ) → None ≡ last_place (entry_names entries) name
     → last_named (drop count (map (variable_of types) entries)) name ≡ None
-last_nowhere types entries count name e = variables_behind types entries count name None e
+last_nowhere types entries count name e = variables_after types entries count name None e
 
 -- ---- a name more, and a name less
 

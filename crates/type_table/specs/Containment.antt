@@ -94,14 +94,14 @@ pub record Selected : Type 0 where
   pub place : ℕ
   pub kind : Option ValueType
 
-abbrev pub behind : ℕ → Selected → Selected
-behind words selected = record { place = words + selected.place; kind = selected.kind }
+abbrev pub following : ℕ → Selected → Selected
+following words selected = record { place = words + selected.place; kind = selected.kind }
 
 abbrev pub field_among : Structs → List Field → List ℕ → Option Selected
 field_among structs [] name = None
 field_among structs (field ∷ rest) name =
     if bytes_eq field.name name then Some (record { place = 0; kind = field.kind })
-    else option_map (behind (variable_words structs field.kind)) (field_among structs rest name)
+    else option_map (following (variable_words structs field.kind)) (field_among structs rest name)
 
 -- the field of this name in a value of a type
 abbrev pub field_of : Structs → ValueType → List ℕ → Option Selected

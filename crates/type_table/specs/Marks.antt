@@ -30,9 +30,9 @@ abbrev pub Stands : Structs → List Mark → Type 0
 Stands structs marks = (s w : ℕ) → slice_get marks s ≡ Some (Wide w) → IsWide structs (suc (wides marks)) s w
 
 -- from these marks to those: what is open stays so and nothing else is, and more widths are known
-pub record Goes (structs : Structs) (before behind : List Mark) : Type 0 where
-  pub stands : Stands structs behind
-  pub opened : (o : ℕ) → slice_get behind o ≡ Some Open → slice_get before o ≡ Some Open
-  pub kept : (o : ℕ) → slice_get before o ≡ Some Open → slice_get behind o ≡ Some Open
-  pub more : wides before ≤ wides behind
-  pub fewer : news behind ≤ news before
+pub record Goes (structs : Structs) (before following : List Mark) : Type 0 where
+  pub stands : Stands structs following
+  pub opened : (o : ℕ) → slice_get following o ≡ Some Open → slice_get before o ≡ Some Open
+  pub kept : (o : ℕ) → slice_get before o ≡ Some Open → slice_get following o ≡ Some Open
+  pub more : wides before ≤ wides following
+  pub fewer : news following ≤ news before

@@ -8,7 +8,7 @@ ghost use Rattle.verifier.specs.Tables.{AreReached, Merged, Led, Followed, Visit
 
 use bytecode::{Code, Function, Instr, Rule, WordKind, same_kinds};
 use std::alloc::{AllocError, Global};
-use verifier_base::{behind, broken_rule, first_broken, operands_at, way, way_count};
+use verifier_base::{broken_rule, first_broken, following, operands_at, way, way_count};
 
 /// The outcome of a way to an instruction.
 #[derive(Clone, Copy)]
@@ -153,7 +153,7 @@ fn follow(
     match way(code, i, place, number) {
         None => Ok(Onward::Kept),
         Some(to) => {
-            let out = behind(alloc, code, f, i, number, kinds, at)?;
+            let out = following(alloc, code, f, i, number, kinds, at)?;
             let merge = lead(code, f, table, to, out);
             Ok(arrive(merge, place, to))
         }

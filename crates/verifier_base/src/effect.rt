@@ -292,7 +292,7 @@ pub fn operands_at(
 }
 
 /// The kinds after instruction `i` on its way `way`, whose operands begin at index `at` of `kinds`.
-pub fn behind(
+pub fn following(
     alloc: Global,
     code: &Code,
     f: &Function,

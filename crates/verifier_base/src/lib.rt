@@ -5,6 +5,6 @@ mod effect;
 mod scan;
 mod ways;
 
-pub use effect::{behind, broken_rule, operands_at};
+pub use effect::{broken_rule, following, operands_at};
 pub use scan::first_broken;
 pub use ways::{way, way_count};

@@ -2,7 +2,7 @@
 
 ghost use Rattle.std.specs.Prelude.{◌≡◌, ◌↔◌, ◌<◌, IsTrue, length, slice_get};
 ghost use Rattle.bytecode.specs.Effects.{targets_in};
-ghost use Rattle.bytecode.specs.Rules.{AreBehind, AreWithin, Named, Inside, Directed};
+ghost use Rattle.bytecode.specs.Rules.{AreAfter, AreWithin, Named, Inside, Directed};
 ghost use Rattle.verifier_base.specs.Scans.{Scanned, ScannedAt};
 
 use crate::ways::{select_way, select_ways};
@@ -23,8 +23,8 @@ fn are_within(code: &Code, q: u32, n: usize) -> bool
 }
 
 /// Whether each way of select `q` leads past `place`.
-fn are_behind(code: &Code, q: u32, place: usize) -> bool
-    ensures { IsTrue result ↔ AreBehind (targets_in (slice_get code.now.selects q)) place }
+fn are_after(code: &Code, q: u32, place: usize) -> bool
+    ensures { IsTrue result ↔ AreAfter (targets_in (slice_get code.now.selects q)) place }
 {
     for number in 0..select_ways(code, q) {
         if let Some(to) = select_way(code, q, number) {
@@ -79,7 +79,7 @@ fn is_directed(code: &Code, place: usize, i: Instr) -> bool
     match i {
         Instr::Jump(to) | Instr::Unless(to) => place < to as usize,
         Instr::Loop(to) => to as usize <= place,
-        Instr::Select(q) => are_behind(code, q, place),
+        Instr::Select(q) => are_after(code, q, place),
         _ => true,
     }
 }

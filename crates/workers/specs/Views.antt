@@ -22,5 +22,5 @@ module _ {T : Type 0} where
   -- an item is taken from one of the queues, and nothing from the others
   abbrev pub TakesOfOne : List (View T) → T → List (View T) → Type 0
   TakesOfOne old item new =
-      (before behind : List (View T)) × (v w : View T)
-      × (old ≡ before ++ v ∷ behind) × (new ≡ before ++ w ∷ behind) × TakesOne v item w
+      (before following : List (View T)) × (v w : View T)
+      × (old ≡ before ++ v ∷ following) × (new ≡ before ++ w ∷ following) × TakesOne v item w

@@ -24,8 +24,8 @@ returns-clause-one c =
     let listed : map (field_in types) c.in_ok-head.head.parameters.items ≡ fields_declared types function.parameters = rw c.types.ensures at c.in_ok-head.ensures.parameters in
     let visible : scope ≡ parameters globals function = rw (c.new-visible.ensures.scope c.args.table.now, c.as_slice.ensures.value, listed) at c.in_ok-declare_all.ensures in
     let end : ℕ = middle + statements_size body + 2 in
-    IfErr-weaker c.body_in.result _ _ (λ refusal has_in. refuses_more (λ flaw. (e : ℕ) → e ≡ end → BodyIn (inside globals y) scope middle body e flaw) (λ flaw. BodyHas globals c.args.first function flaw ⊎ HeadHas types c.args.first function flaw) refusal
-    (λ flaw has. inl (body_has globals function c.args.first middle y scope body yields visible c.in_ok-head.ensures.end (ap body_of c.as_slice-2.ensures.value) flaw (has end refl))) has_in) c.body_in.ensures.one
+    IfErr-weaker c.body_in.result _ _ (λ refusal has_in. refuses_more (λ violation. (e : ℕ) → e ≡ end → BodyIn (inside globals y) scope middle body e violation) (λ violation. BodyHas globals c.args.first function violation ⊎ HeadHas types c.args.first function violation) refusal
+    (λ violation has. inl (body_has globals function c.args.first middle y scope body yields visible c.in_ok-head.ensures.end (ap body_of c.as_slice-2.ensures.value) violation (has end refl))) has_in) c.body_in.ensures.one
 
 pub returns-clause-none : goal.returns-clause-none
 returns-clause-none c =
@@ -39,4 +39,4 @@ returns-clause-none c =
     let yields : y ≡ yield_of types function.result = rw c.types.ensures at c.in_ok-head.ensures.kind in
     let listed : map (field_in types) c.in_ok-head.head.parameters.items ≡ fields_declared types function.parameters = rw c.types.ensures at c.in_ok-head.ensures.parameters in
     let visible : scope ≡ parameters globals function = rw (c.new-visible.ensures.scope c.args.table.now, c.as_slice.ensures.value, listed) at c.in_ok-declare_all.ensures in
-    IfOk-weaker c.body_in.result _ _ (λ _ good flaw has. good (middle + statements_size body + 2) refl flaw (body_in globals function c.args.first middle y scope body yields visible c.in_ok-head.ensures.end (ap body_of c.as_slice-2.ensures.value) flaw has)) c.body_in.ensures.none
+    IfOk-weaker c.body_in.result _ _ (λ _ good violation has. good (middle + statements_size body + 2) refl violation (body_in globals function c.args.first middle y scope body yields visible c.in_ok-head.ensures.end (ap body_of c.as_slice-2.ensures.value) violation has)) c.body_in.ensures.none

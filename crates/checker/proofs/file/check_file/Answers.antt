@@ -16,7 +16,7 @@ returns-clause-one c =
     let file = file_of c.args.file.now in
     let same : globals ≡ globals_of file.tops = rw c.as_slice.ensures.value at c.in_ok-table.ensures.globals in
     let tops = map top_of c.as_slice-3.result.now in
-    IfErr-weaker c.bodies.result _ _ (λ refusal has. refuses_more (λ flaw. FirstBodyHas globals 0 tops flaw ⊎ HeadsHave globals.types 0 tops flaw) (FileHas file) refusal
+    IfErr-weaker c.bodies.result _ _ (λ refusal has. refuses_more (λ violation. FirstBodyHas globals 0 tops violation ⊎ HeadsHave globals.types 0 tops violation) (FileHas file) refusal
     (bodies_have file globals tops same (ap (map top_of) c.as_slice-3.ensures.value)) has) c.bodies.ensures.one
 
 pub returns-then-not-has_main-clause-first : goal.returns-then-not-has_main-clause-first
@@ -34,7 +34,7 @@ returns-clause-first c =
     let same : globals ≡ globals_of file.tops = rw c.as_slice.ensures.value at c.in_ok-table.ensures.globals in
     let main : has_main globals.functions ≡ true = search rules in
     let tops = map top_of c.as_slice-3.result.now in
-    IfErr-weaker c.bodies.result _ _ (λ refusal has. refuses_more (λ flaw. FirstBodyHas globals 0 tops flaw ⊎ HeadsHave globals.types 0 tops flaw) (ComesFirst file) refusal
+    IfErr-weaker c.bodies.result _ _ (λ refusal has. refuses_more (λ violation. FirstBodyHas globals 0 tops violation ⊎ HeadsHave globals.types 0 tops violation) (ComesFirst file) refusal
     (bodies_first file globals (map top_of c.as_slice.result.now) tops same (ap (map top_of) c.as_slice.ensures.value) (ap (map top_of) c.as_slice-3.ensures.value) main c.in_ok-table.ensures.none) has) c.bodies.ensures.one
 
 pub returns-clause-none : goal.returns-clause-none

@@ -12,7 +12,7 @@ use Rattle.checker_base.specs.Views.{known_kind, kinds_in}
 use Rattle.typing_rules.specs.Calls.{NotDeclared, NoFunction, IsFunction, callee}
 use Rattle.typing_rules.specs.Expressions.{ExpressionsHave, ValuesFail, nodes_of}
 use Rattle.syntax.proofs.Nodes.{integer_is, named_is, parenthesized_is, selection_is, unary_is, binary_is, composite_is, call_is, make_sized_is}
-use Rattle.checker_base.proofs.Literals.{is_none, is_some, next_kind, found_next, passed_next, fits_next, composite_has, composite_in, composite_none, size_of_values, comma_free, comma_flawed, call_has, call_in, called_has, called_in}
+use Rattle.checker_base.proofs.Literals.{is_none, is_some, next_kind, found_next, passed_next, fits_next, composite_has, composite_in, composite_none, size_of_values, comma_free, comma_violated, call_has, call_in, called_has, called_in}
 use Rattle.checker_base.proofs.operand.+checked.Goals as goal
 
 pub checked-returns-in-Composite-clause-worth : goal.checked-returns-in-Composite-clause-worth
@@ -28,7 +28,7 @@ checked-returns-in-Composite-clause-none t c =
 pub checked-returns-in-Composite-clause-one : goal.checked-returns-in-Composite-clause-one
 checked-returns-in-Composite-clause-one t c =
     let is : expression_of c.args.expression.now ≡ Composite (name_of c.in-Composite.name) (expressions (map expression_of c.in-Composite.values.items)) c.in-Composite.field-2 = composite_is _ _ _ _ c.in-Composite.is in
-    comma_flawed c.composite.result (globals_in c.args.table.now) (scope_of c.args.table.now c.args.visible.now) c.args.first (λ any. Composite (name_of c.in-Composite.name) (expressions (map expression_of c.in-Composite.values.items)) any) c.in-Composite.field-2
+    comma_violated c.composite.result (globals_in c.args.table.now) (scope_of c.args.table.now c.args.visible.now) c.args.first (λ any. Composite (name_of c.in-Composite.name) (expressions (map expression_of c.in-Composite.values.items)) any) c.in-Composite.field-2
     (expression_of c.args.expression.now) is (rw c.as_slice-in-Composite.ensures.value at c.composite.ensures.one)
 
 pub checked-returns-in-Integer-clause-worth : goal.checked-returns-in-Integer-clause-worth
@@ -38,7 +38,7 @@ pub checked-returns-in-Integer-clause-end : goal.checked-returns-in-Integer-clau
 checked-returns-in-Integer-clause-end t c = rw (integer_is _ _ c.in-Integer.is) (IfOk-weaker c.integer.result _ _ (λ o is. omega (arith, is)) c.integer.ensures.node)
 
 pub checked-returns-in-Integer-clause-none : goal.checked-returns-in-Integer-clause-none
-checked-returns-in-Integer-clause-none t c = rw (integer_is _ _ c.in-Integer.is) (IfOk-weaker c.integer.result _ _ (λ o some flaw has. some has.0) c.integer.ensures.none)
+checked-returns-in-Integer-clause-none t c = rw (integer_is _ _ c.in-Integer.is) (IfOk-weaker c.integer.result _ _ (λ o some violation has. some has.0) c.integer.ensures.none)
 
 pub checked-returns-in-Integer-clause-one : goal.checked-returns-in-Integer-clause-one
 checked-returns-in-Integer-clause-one t c = rw (integer_is _ _ c.in-Integer.is) c.integer.ensures.one
@@ -82,11 +82,11 @@ checked-returns-in_ok-whole-in-Selection-clause-end t c = rw (selection_is _ _ _
 
 pub checked-returns-in_ok-whole-in-Selection-clause-none : goal.checked-returns-in_ok-whole-in-Selection-clause-none
 checked-returns-in_ok-whole-in-Selection-clause-none t c =
-    rw (selection_is _ _ _ c.in-Selection.is, ← c.deref-in-Selection.ensures, ← c.as_slice.ensures.value) (IfOk-weaker c.selection.result _ _ (λ o free flaw has. elim has [ inl bad ↦ c.in_ok-whole-in-Selection.ensures.none flaw bad | inr bad ↦ free _ c.in_ok-whole-in-Selection.ensures.worth _ _ flaw bad ]) c.selection.ensures.none)
+    rw (selection_is _ _ _ c.in-Selection.is, ← c.deref-in-Selection.ensures, ← c.as_slice.ensures.value) (IfOk-weaker c.selection.result _ _ (λ o free violation has. elim has [ inl bad ↦ c.in_ok-whole-in-Selection.ensures.none violation bad | inr bad ↦ free _ c.in_ok-whole-in-Selection.ensures.worth _ _ violation bad ]) c.selection.ensures.none)
 
 pub checked-returns-in_ok-whole-in-Selection-clause-one : goal.checked-returns-in_ok-whole-in-Selection-clause-one
 checked-returns-in_ok-whole-in-Selection-clause-one t c =
-    rw (selection_is _ _ _ c.in-Selection.is, ← c.deref-in-Selection.ensures, ← c.as_slice.ensures.value) (IfErr-weaker c.selection.result _ _ (λ flaw has. inr (has _ c.in_ok-whole-in-Selection.ensures.worth (nodes_of c.args.first (expression_of c.deref-in-Selection.result.now)) c.in_ok-whole-in-Selection.ensures.first (c.args.first + (expression_size (expression_of c.deref-in-Selection.result.now) + 1)) (omega (arith, c.in_ok-whole-in-Selection.ensures.end)))) c.selection.ensures.one)
+    rw (selection_is _ _ _ c.in-Selection.is, ← c.deref-in-Selection.ensures, ← c.as_slice.ensures.value) (IfErr-weaker c.selection.result _ _ (λ violation has. inr (has _ c.in_ok-whole-in-Selection.ensures.worth (nodes_of c.args.first (expression_of c.deref-in-Selection.result.now)) c.in_ok-whole-in-Selection.ensures.first (c.args.first + (expression_size (expression_of c.deref-in-Selection.result.now) + 1)) (omega (arith, c.in_ok-whole-in-Selection.ensures.end)))) c.selection.ensures.one)
 
 pub checked-returns-in-Composite-clause-end : goal.checked-returns-in-Composite-clause-end
 checked-returns-in-Composite-clause-end t c = rw (composite_is _ _ _ _ c.in-Composite.is, ← c.as_slice-in-Composite.ensures.value) (IfOk-weaker c.composite.result _ _ (λ o is. omega (arith, is)) c.composite.ensures.end)
@@ -104,11 +104,11 @@ checked-returns-in_ok-operand-in-Unary-clause-end t c = rw (unary_is _ _ _ c.in-
 
 pub checked-returns-in_ok-operand-in-Unary-clause-none : goal.checked-returns-in_ok-operand-in-Unary-clause-none
 checked-returns-in_ok-operand-in-Unary-clause-none t c =
-    rw (unary_is _ _ _ c.in-Unary.is, ← c.deref-in-Unary.ensures) (IfOk-weaker c.before-in-Unary.result _ _ (λ o free flaw has. elim has [ inl bad ↦ c.in_ok-operand-in-Unary.ensures.none flaw bad | inr bad ↦ free (types_of c.args.table.now) _ c.in_ok-operand-in-Unary.ensures.worth _ _ flaw bad ]) c.before-in-Unary.ensures.none)
+    rw (unary_is _ _ _ c.in-Unary.is, ← c.deref-in-Unary.ensures) (IfOk-weaker c.before-in-Unary.result _ _ (λ o free violation has. elim has [ inl bad ↦ c.in_ok-operand-in-Unary.ensures.none violation bad | inr bad ↦ free (types_of c.args.table.now) _ c.in_ok-operand-in-Unary.ensures.worth _ _ violation bad ]) c.before-in-Unary.ensures.none)
 
 pub checked-returns-in_ok-operand-in-Unary-clause-one : goal.checked-returns-in_ok-operand-in-Unary-clause-one
 checked-returns-in_ok-operand-in-Unary-clause-one t c =
-    rw (unary_is _ _ _ c.in-Unary.is, ← c.deref-in-Unary.ensures) (IfErr-weaker c.before-in-Unary.result _ _ (λ flaw has. inr (has (types_of c.args.table.now) _ c.in_ok-operand-in-Unary.ensures.worth (nodes_of c.args.first (expression_of c.deref-in-Unary.result.now)) c.in_ok-operand-in-Unary.ensures.first c.in_ok-operand-in-Unary.ensures.end (c.args.first + (expression_size (expression_of c.deref-in-Unary.result.now) + 1)) (omega (arith, c.in_ok-operand-in-Unary.ensures.end)))) c.before-in-Unary.ensures.one)
+    rw (unary_is _ _ _ c.in-Unary.is, ← c.deref-in-Unary.ensures) (IfErr-weaker c.before-in-Unary.result _ _ (λ violation has. inr (has (types_of c.args.table.now) _ c.in_ok-operand-in-Unary.ensures.worth (nodes_of c.args.first (expression_of c.deref-in-Unary.result.now)) c.in_ok-operand-in-Unary.ensures.first c.in_ok-operand-in-Unary.ensures.end (c.args.first + (expression_size (expression_of c.deref-in-Unary.result.now) + 1)) (omega (arith, c.in_ok-operand-in-Unary.ensures.end)))) c.before-in-Unary.ensures.one)
 
 pub checked-returns-in_err-left-in-Binary-clause-one : goal.checked-returns-in_err-left-in-Binary-clause-one
 checked-returns-in_err-left-in-Binary-clause-one t c =
@@ -133,7 +133,7 @@ pub checked-returns-in_ok-right-in-Binary-clause-one : goal.checked-returns-in_o
 checked-returns-in_ok-right-in-Binary-clause-one t c =
     let a = (expression_of c.deref-in-Binary.result.now) in
     let b = (expression_of c.deref-in-Binary-2.result.now) in
-    rw (binary_is _ _ _ _ c.in-Binary.is, ← c.deref-in-Binary.ensures, ← c.deref-in-Binary-2.ensures) (IfErr-weaker c.between.result _ _ (λ flaw has. inr (inr (has _ _ c.in_ok-left-in-Binary.ensures.worth c.in_ok-right-in-Binary.ensures.worth (nodes_of c.args.first a) (nodes_of (c.args.first + expression_size a) b) c.in_ok-left-in-Binary.ensures.first c.in_ok-left-in-Binary.ensures.end (c.in_ok-left-in-Binary.ensures.end ∙ c.in_ok-right-in-Binary.ensures.first) (omega (arith, c.in_ok-left-in-Binary.ensures.end, c.in_ok-right-in-Binary.ensures.end))
+    rw (binary_is _ _ _ _ c.in-Binary.is, ← c.deref-in-Binary.ensures, ← c.deref-in-Binary-2.ensures) (IfErr-weaker c.between.result _ _ (λ violation has. inr (inr (has _ _ c.in_ok-left-in-Binary.ensures.worth c.in_ok-right-in-Binary.ensures.worth (nodes_of c.args.first a) (nodes_of (c.args.first + expression_size a) b) c.in_ok-left-in-Binary.ensures.first c.in_ok-left-in-Binary.ensures.end (c.in_ok-left-in-Binary.ensures.end ∙ c.in_ok-right-in-Binary.ensures.first) (omega (arith, c.in_ok-left-in-Binary.ensures.end, c.in_ok-right-in-Binary.ensures.end))
     (c.args.first + (expression_size a + expression_size b + 1)) (omega (arith, c.in_ok-left-in-Binary.ensures.end, c.in_ok-right-in-Binary.ensures.end))))) c.between.ensures.one)
 
 pub checked-checked-requires : goal.checked-checked-requires
@@ -200,7 +200,7 @@ checked-returns-in-Call-clause-none t c =
 pub checked-returns-in-Call-clause-one : goal.checked-returns-in-Call-clause-one
 checked-returns-in-Call-clause-one t c =
     let is : expression_of c.args.expression.now ≡ Call (name_of c.in-Call.function) (expressions (map expression_of c.in-Call.values.items)) c.in-Call.field-2 = call_is _ _ _ _ c.in-Call.is in
-    comma_flawed c.called.result (globals_in c.args.table.now) (scope_of c.args.table.now c.args.visible.now) c.args.first (λ any. Call (name_of c.in-Call.function) (expressions (map expression_of c.in-Call.values.items)) any) c.in-Call.field-2
+    comma_violated c.called.result (globals_in c.args.table.now) (scope_of c.args.table.now c.args.visible.now) c.args.first (λ any. Call (name_of c.in-Call.function) (expressions (map expression_of c.in-Call.values.items)) any) c.in-Call.field-2
     (expression_of c.args.expression.now) is (rw c.as_slice-in-Call.ensures.value at c.called.ensures.one)
 
 pub checked-make_sized-requires : goal.checked-make_sized-requires
@@ -234,9 +234,9 @@ composite-returns-clause-none t c =
     let d = c.in-Some.is in
     let is : literal_struct globals scope (name_of c.args.name.now) ≡ Some c.in-Some.number = cc in
     let values = map expression_of c.args.values.now in
-    λ trailing flaw has. elim (composite_in globals scope c.args.first c.in-Some.number (name_of c.args.name.now) values (map (field_in (types_of c.args.table.now)) c.fields_at.result.now) trailing flaw is c.fields_at.ensures has) [
-      | inl bad ↦ c.in_ok-node.ensures.none flaw bad
-      | inr bad ↦ c.in_ok-node.ensures.fits (c.args.first + (expressions_size (expressions values) + 1)) flaw bad
+    λ trailing violation has. elim (composite_in globals scope c.args.first c.in-Some.number (name_of c.args.name.now) values (map (field_in (types_of c.args.table.now)) c.fields_at.result.now) trailing violation is c.fields_at.ensures has) [
+      | inl bad ↦ c.in_ok-node.ensures.none violation bad
+      | inr bad ↦ c.in_ok-node.ensures.fits (c.args.first + (expressions_size (expressions values) + 1)) violation bad
     ]
 
 pub composite-returns-then-is_empty-clause-none : goal.composite-returns-then-is_empty-clause-none
@@ -249,7 +249,7 @@ composite-returns-then-is_empty-clause-none t c =
     let is : literal_struct globals scope (name_of c.args.name.now) ≡ Some c.in-Some.number = cc in
     let values = map expression_of c.args.values.now in
     let none : length values ≡ 0 = simp length-map (is_none (length c.args.values.now) (sym c.is_empty.ensures ∙ c.if-is_empty.true)) in
-    λ trailing flaw has. composite_none globals scope c.args.first c.in-Some.number (name_of c.args.name.now) values trailing flaw is none has
+    λ trailing violation has. composite_none globals scope c.args.first c.in-Some.number (name_of c.args.name.now) values trailing violation is none has
 
 pub fit-loop-number-preserved : goal.fit-loop-number-preserved
 fit-loop-number-preserved t c =
@@ -310,9 +310,9 @@ call-returns-in_ok-node-in-Function-clause-none t c =
     let scope = scope_of c.args.table.now c.args.visible.now in
     let values = map expression_of c.args.values.now in
     let is : callee globals scope (name_of c.args.function.now) ≡ IsFunction c.in-Function.number = sym (rw (c.in-Function.is, c.as_slice.ensures.value) at c.callee_named.ensures) in
-    λ flaw has. elim (call_in globals scope c.args.first c.in-Function.number (name_of c.args.function.now) values (map (known_kind (types_of c.args.table.now)) c.parameters_of.result.now) flaw is c.parameters_of.ensures has) [
-      | inl bad ↦ c.in_ok-node-in-Function.ensures.none flaw bad
-      | inr bad ↦ c.in_ok-node-in-Function.ensures.fits (c.args.first + sum_by expression_size values + 1) flaw bad
+    λ violation has. elim (call_in globals scope c.args.first c.in-Function.number (name_of c.args.function.now) values (map (known_kind (types_of c.args.table.now)) c.parameters_of.result.now) violation is c.parameters_of.ensures has) [
+      | inl bad ↦ c.in_ok-node-in-Function.ensures.none violation bad
+      | inr bad ↦ c.in_ok-node-in-Function.ensures.fits (c.args.first + sum_by expression_size values + 1) violation bad
     ]
 
 pub called-returns-in_err-called-clause-one : goal.called-returns-in_err-called-clause-one
@@ -325,7 +325,7 @@ called-returns-clause-none t c =
     let globals = globals_in c.args.table.now in
     let scope = scope_of c.args.table.now c.args.visible.now in
     let values = map expression_of c.args.values.now in
-    IfOk-weaker c.call_value.result _ _ (λ o free trailing flaw has. elim (called_in globals scope c.args.first c.in_ok-called.called.function (name_of c.args.function.now) values trailing flaw c.in_ok-called.ensures.function has) [
-      | inl bad ↦ c.in_ok-called.ensures.none flaw bad
-      | inr bad ↦ free (c.args.first + (expressions_size (expressions values) + 1)) flaw bad
+    IfOk-weaker c.call_value.result _ _ (λ o free trailing violation has. elim (called_in globals scope c.args.first c.in_ok-called.called.function (name_of c.args.function.now) values trailing violation c.in_ok-called.ensures.function has) [
+      | inl bad ↦ c.in_ok-called.ensures.none violation bad
+      | inr bad ↦ free (c.args.first + (expressions_size (expressions values) + 1)) violation bad
     ]) c.call_value.ensures.none

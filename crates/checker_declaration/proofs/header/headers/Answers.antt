@@ -6,7 +6,7 @@ use Rattle.syntax.specs.Measures.{top_size}
 use Rattle.syntax.specs.View.{top_of}
 use Rattle.type_table.specs.Views.{signature_of, function_names as names_in}
 use Rattle.typing_rules.specs.Kinds.{function_name, function_names, signature_in, signatures}
-use Rattle.typing_rules.specs.declared.flaw.Flaw.{Flaw}
+use Rattle.typing_rules.specs.declared.violation.Violation.{Violation}
 use Rattle.typing_rules.specs.Declarations.{TopHeaderHas, HeadersHave}
 use Rattle.checker_declaration.proofs.Declared.{refuses_more}
 use Rattle.checker_declaration.proofs.Tops.{header_found, header_passed, one_more}
@@ -36,7 +36,7 @@ loop-top-preserved c =
 pub loop-top-init : goal.loop-top-init
 loop-top-init c =
     let none = c.new-all.ensures.items in
-    record { end = omega arith; names = rw none refl; signatures = rw none refl; found = rw none (λ flaw has. has); passed = rw none (λ flaw has. has) }
+    record { end = omega arith; names = rw none refl; signatures = rw none refl; found = rw none (λ violation has. has); passed = rw none (λ violation has. has) }
 
 pub top_header-requires : goal.top_header-requires
 top_header-requires c =
@@ -52,9 +52,9 @@ returns-in_err-end-clause-one c =
     let left = drop (suc c.loop-top.top-index) c.args.tops.now in
     let cut : drop c.loop-top.top-index c.args.tops.now ≡ c.top-item.result ∷ left = rw c.top-item.is (drop-cons c.args.tops.now c.loop-top.top-index _ c.loop-top-test.true) in
     let has = HeadersHave types functions 0 0 (map top_of c.args.tops.now) in
-    let found : (flaw : Flaw) → HeadersHave types functions (length c.loop-top.all.items) c.loop-top.end (top ∷ map top_of left) flaw → has flaw = rw cut at c.loop-top.invariant.found in
+    let found : (violation : Violation) → HeadersHave types functions (length c.loop-top.all.items) c.loop-top.end (top ∷ map top_of left) violation → has violation = rw cut at c.loop-top.invariant.found in
     let p = err_from_is_err_and c.from_residual.result c.from_residual.ensures.1 in
-    rw (p.1, p.2) (refuses_more (TopHeaderHas types functions (length c.loop-top.all.items) c.loop-top.end top) has c.in_err-end.field-0.0 (λ flaw bad. found flaw (inl bad)) c.in_err-end.ensures.one)
+    rw (p.1, p.2) (refuses_more (TopHeaderHas types functions (length c.loop-top.all.items) c.loop-top.end top) has c.in_err-end.field-0.0 (λ violation bad. found violation (inl bad)) c.in_err-end.ensures.one)
 
 pub returns-clause-names : goal.returns-clause-names
 returns-clause-names c =
@@ -69,4 +69,4 @@ returns-clause-signatures c =
 pub returns-clause-none : goal.returns-clause-none
 returns-clause-none c =
     let none : drop c.loop-top.top-index c.args.tops.now ≡ [] = drop_all c.loop-top.top-index c.args.tops.now c.loop-top-test.false in
-    λ flaw has. rw none at (c.loop-top.invariant.passed flaw has)
+    λ violation has. rw none at (c.loop-top.invariant.passed violation has)

@@ -2,7 +2,7 @@ use Rattle.std.proofs.Common.{◌≡◌, ◌+◌, ◌++◌, length, drop, map, s
 use Rattle.syntax.specs.Measures.{top_size}
 use Rattle.syntax.specs.View.{top_of}
 use Rattle.type_table.specs.Views.{signature_of, function_names as names_in}
-use Rattle.typing_rules.specs.declared.flaw.Flaw.{Flaw}
+use Rattle.typing_rules.specs.declared.violation.Violation.{Violation}
 use Rattle.typing_rules.specs.Kinds.{function_names, signatures}
 use Rattle.typing_rules.specs.Declarations.{HeadersHave}
 use Rattle.checker_declaration.proofs.header.headers.Given as goal
@@ -13,6 +13,6 @@ invariant-loop-top l = record {
   end : l.end + sum_by top_size (map top_of (drop l.top-index l.tops)) ≡ sum_by top_size (map top_of l.tops);
   names : names_in l.all.items ++ function_names (map top_of (drop l.top-index l.tops)) ≡ function_names (map top_of l.tops);
   signatures : map (signature_of l.types) l.all.items ++ signatures l.types (map top_of (drop l.top-index l.tops)) ≡ signatures l.types (map top_of l.tops);
-  found : (flaw : Flaw) → HeadersHave l.types l.functions (length l.all.items) l.end (map top_of (drop l.top-index l.tops)) flaw → HeadersHave l.types l.functions 0 0 (map top_of l.tops) flaw;
-  passed : (flaw : Flaw) → HeadersHave l.types l.functions 0 0 (map top_of l.tops) flaw → HeadersHave l.types l.functions (length l.all.items) l.end (map top_of (drop l.top-index l.tops)) flaw;
+  found : (violation : Violation) → HeadersHave l.types l.functions (length l.all.items) l.end (map top_of (drop l.top-index l.tops)) violation → HeadersHave l.types l.functions 0 0 (map top_of l.tops) violation;
+  passed : (violation : Violation) → HeadersHave l.types l.functions 0 0 (map top_of l.tops) violation → HeadersHave l.types l.functions (length l.all.items) l.end (map top_of (drop l.top-index l.tops)) violation;
 }

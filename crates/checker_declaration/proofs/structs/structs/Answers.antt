@@ -6,7 +6,7 @@ use Rattle.syntax.specs.Measures.{top_size}
 use Rattle.syntax.specs.View.{top_of}
 use Rattle.type_table.specs.Views.{names_of, structs_of}
 use Rattle.typing_rules.specs.Kinds.{struct_in, structs_with, type_name, type_names}
-use Rattle.typing_rules.specs.declared.flaw.Flaw.{Flaw}
+use Rattle.typing_rules.specs.declared.violation.Violation.{Violation}
 use Rattle.typing_rules.specs.Declarations.{TopStructHas, StructsHave}
 use Rattle.checker_declaration.proofs.Declared.{refuses_more}
 use Rattle.checker_declaration.proofs.Tops.{one_more, struct_found, struct_passed}
@@ -35,7 +35,7 @@ loop-top-preserved c =
 pub loop-top-init : goal.loop-top-init
 loop-top-init c =
     let none = c.new-all.ensures.items in
-    record { end = omega arith; names = rw none refl; fields = rw none refl; found = rw none (λ flaw has. has); passed = rw none (λ flaw has. has) }
+    record { end = omega arith; names = rw none refl; fields = rw none refl; found = rw none (λ violation has. has); passed = rw none (λ violation has. has) }
 
 pub top_struct-requires : goal.top_struct-requires
 top_struct-requires c =
@@ -50,9 +50,9 @@ returns-in_err-end-clause-one c =
     let left = drop (suc c.loop-top.top-index) c.args.tops.now in
     let cut : drop c.loop-top.top-index c.args.tops.now ≡ c.top-item.result ∷ left = rw c.top-item.is (drop-cons c.args.tops.now c.loop-top.top-index _ c.loop-top-test.true) in
     let has = StructsHave types 0 0 (map top_of c.args.tops.now) in
-    let found : (flaw : Flaw) → StructsHave types (length c.loop-top.all.items) c.loop-top.end (top ∷ map top_of left) flaw → has flaw = rw cut at c.loop-top.invariant.found in
+    let found : (violation : Violation) → StructsHave types (length c.loop-top.all.items) c.loop-top.end (top ∷ map top_of left) violation → has violation = rw cut at c.loop-top.invariant.found in
     let p = err_from_is_err_and c.from_residual.result c.from_residual.ensures.1 in
-    rw (p.1, p.2) (refuses_more (TopStructHas types (length c.loop-top.all.items) c.loop-top.end top) has c.in_err-end.field-0.0 (λ flaw bad. found flaw (inl bad)) c.in_err-end.ensures.one)
+    rw (p.1, p.2) (refuses_more (TopStructHas types (length c.loop-top.all.items) c.loop-top.end top) has c.in_err-end.field-0.0 (λ violation bad. found violation (inl bad)) c.in_err-end.ensures.one)
 
 pub returns-clause-names : goal.returns-clause-names
 returns-clause-names c =
@@ -67,4 +67,4 @@ returns-clause-fields c =
 pub returns-clause-none : goal.returns-clause-none
 returns-clause-none c =
     let none : drop c.loop-top.top-index c.args.tops.now ≡ [] = drop_all c.loop-top.top-index c.args.tops.now c.loop-top-test.false in
-    λ flaw has. rw none at (c.loop-top.invariant.passed flaw has)
+    λ violation has. rw none at (c.loop-top.invariant.passed violation has)

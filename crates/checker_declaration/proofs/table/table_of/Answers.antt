@@ -18,4 +18,4 @@ pub returns-in_err-functions-clause-one : goal.returns-in_err-functions-clause-o
 returns-in_err-functions-clause-one c =
     let p = err_from_is_err_and c.from_residual-in_err-functions.result c.from_residual-in_err-functions.ensures.1 in
     let tops = map top_of c.args.tops.now in
-    rw (p.1, p.2) (refuses_more (HeadersHave c.in_ok-types.types c.in_ok-callees.callees 0 0 tops) (DeclarationsHave tops) c.in_err-functions.field-0.0 (λ flaw has. inr (rw (c.in_ok-types.ensures, c.in_ok-callees.ensures) at has)) c.in_err-functions.ensures.one)
+    rw (p.1, p.2) (refuses_more (HeadersHave c.in_ok-types.types c.in_ok-callees.callees 0 0 tops) (DeclarationsHave tops) c.in_err-functions.field-0.0 (λ violation has. inr (rw (c.in_ok-types.ensures, c.in_ok-callees.ensures) at has)) c.in_err-functions.ensures.one)

@@ -8,7 +8,7 @@ use Rattle.checker_simple.proofs.Wholes.{assign-none, places-count}
 use Rattle.checker_simple.proofs.assign.assign.Goals as goal
 
 pub returns-clause-none : goal.returns-clause-none
-returns-clause-none c = λ flaw.
+returns-clause-none c = λ violation.
     let g = globals_in c.args.table.now in
     let s = scope_of c.args.table.now c.args.visible.now in
     let places = places_in c.args.targets in
@@ -21,6 +21,6 @@ returns-clause-none c = λ flaw.
     let n : c.len.result ≡ length places = places-count refs places c.len.result same l in
     let m : c.in_ok-middle.middle ≡ c.args.first + length places = rw these at c.in_ok-middle.ensures.end in
     let e : c.args.first + simple_size (Assign places right) ≡ c.in_ok-given.given.end + 1 = omega (arith, c.in_ok-given.ensures.end) in
-    assign-none g s c.args.first c.in_ok-middle.middle c.len.result (c.args.first + simple_size (Assign places right)) places (places_at c.as_slice.result.now) right flaw these m n refl
-    (c.in_ok-middle.ensures.none flaw) (c.in_ok-given.ensures.none flaw)
-    (c.in_ok-assign_given.ensures.none (c.args.first + simple_size (Assign places right)) e places all (given g s c.len.result c.in_ok-middle.middle right) (sym c.in_ok-given.ensures.given) flaw)
+    assign-none g s c.args.first c.in_ok-middle.middle c.len.result (c.args.first + simple_size (Assign places right)) places (places_at c.as_slice.result.now) right violation these m n refl
+    (c.in_ok-middle.ensures.none violation) (c.in_ok-given.ensures.none violation)
+    (c.in_ok-assign_given.ensures.none (c.args.first + simple_size (Assign places right)) e places all (given g s c.len.result c.in_ok-middle.middle right) (sym c.in_ok-given.ensures.given) violation)

@@ -8,7 +8,7 @@ use Rattle.checker_simple.proofs.Wholes.{define-none, define-one, defined-after,
 use Rattle.checker_simple.proofs.define.define.Goals as goal
 
 pub returns-clause-none : goal.returns-clause-none
-returns-clause-none c = λ flaw.
+returns-clause-none c = λ violation.
     let g = globals_in c.args.table.now in
     let s = scope_of c.args.table.now c.args.visible.now in
     let names = names_in c.args.names in
@@ -19,9 +19,9 @@ returns-clause-none c = λ flaw.
     let l : c.len.result ≡ length refs = omega arith in
     let n : c.len.result ≡ length names = names-count refs names c.len.result same l in
     let e : c.args.first + sum_by expression_size right + 1 ≡ c.in_ok-given.given.end + 1 = omega (arith, c.in_ok-given.ensures.end) in
-    define-none g s c.args.first c.len.result (c.args.first + sum_by expression_size right + 1) names right flaw n refl
-    (c.in_ok-given.ensures.none flaw)
-    (c.in_ok-define_given.ensures.none (c.args.first + sum_by expression_size right + 1) e names all (given g s c.len.result c.args.first right) (sym c.in_ok-given.ensures.given) flaw)
+    define-none g s c.args.first c.len.result (c.args.first + sum_by expression_size right + 1) names right violation n refl
+    (c.in_ok-given.ensures.none violation)
+    (c.in_ok-define_given.ensures.none (c.args.first + sum_by expression_size right + 1) e names all (given g s c.len.result c.args.first right) (sym c.in_ok-given.ensures.given) violation)
 
 pub returns-in_err-define_given-clause-one : goal.returns-in_err-define_given-clause-one
 returns-in_err-define_given-clause-one c =

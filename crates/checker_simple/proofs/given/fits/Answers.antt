@@ -9,10 +9,10 @@ pub returns-in-Err-clause-one : goal.returns-in-Err-clause-one
 returns-in-Err-clause-one c = λ k e.
     let types = types_of c.args.table.now in
     let g = given_of types c.args.operand in
-    goes-same false false refl (Some (kind_of types c.in-Some.kind)) k (sym (e ∙ ap (option_map (kind_of types)) c.in-Some.is)) g c.in-Err.flaw (c.in-Err.ensures.one g.worth refl g.nodes refl refl)
+    goes-same false false refl (Some (kind_of types c.in-Some.kind)) k (sym (e ∙ ap (option_map (kind_of types)) c.in-Some.is)) g c.in-Err.violation (c.in-Err.ensures.one g.worth refl g.nodes refl refl)
 
 pub returns-in-Ok-clause-none : goal.returns-in-Ok-clause-none
-returns-in-Ok-clause-none c = λ k e flaw h.
+returns-in-Ok-clause-none c = λ k e violation h.
     let types = types_of c.args.table.now in
     let g = given_of types c.args.operand in
-    c.in-Ok.ensures.none g.worth refl g.nodes refl refl flaw (goes-same false false refl k (Some (kind_of types c.in-Some.kind)) (e ∙ ap (option_map (kind_of types)) c.in-Some.is) g flaw h)
+    c.in-Ok.ensures.none g.worth refl g.nodes refl refl violation (goes-same false false refl k (Some (kind_of types c.in-Some.kind)) (e ∙ ap (option_map (kind_of types)) c.in-Some.is) g violation h)

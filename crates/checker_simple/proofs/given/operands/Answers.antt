@@ -7,7 +7,7 @@ use Rattle.syntax.specs.Measures.{expression_size}
 use Rattle.syntax.specs.Tree.{expressions}
 use Rattle.syntax.specs.View.{expression_of}
 use Rattle.type_table.specs.Visible.{types_of, globals_in, scope_of}
-use Rattle.typing_rules.specs.declared.flaw.Flaw.{Flaw}
+use Rattle.typing_rules.specs.declared.violation.Violation.{Violation}
 use Rattle.typing_rules.specs.Expressions.{ExpressionsHave}
 use Rattle.checker_base.proofs.Literals.{found_next, passed_next}
 use Rattle.checker_simple.specs.Givens.{given_of}
@@ -36,7 +36,7 @@ loop-value-preserved c =
 pub loop-value-init : goal.loop-value-init
 loop-value-init c =
     let none = c.new-all.ensures.items in
-    record { end = refl; given = rw none refl; found = λ flaw has. has; passed = λ flaw has. has }
+    record { end = refl; given = rw none refl; found = λ violation has. has; passed = λ violation has. has }
 
 pub checked-requires : goal.checked-requires
 checked-requires c =
@@ -57,7 +57,7 @@ returns-in_err-operand-clause-one c =
     let value = expression_of c.value-item.result in
     let left = drop (suc c.loop-value.value-index) c.args.values.now in
     let cut : drop c.loop-value.value-index c.args.values.now ≡ c.value-item.result ∷ left = rw c.value-item.is (drop-cons c.args.values.now c.loop-value.value-index _ c.loop-value-test.true) in
-    let found : (flaw : Flaw) → ExpressionsHave globals scope c.loop-value.end (expressions (value ∷ map expression_of left)) flaw → ExpressionsHave globals scope c.args.first (expressions (map expression_of c.args.values.now)) flaw = rw cut at c.loop-value.invariant.found in
+    let found : (violation : Violation) → ExpressionsHave globals scope c.loop-value.end (expressions (value ∷ map expression_of left)) violation → ExpressionsHave globals scope c.args.first (expressions (map expression_of c.args.values.now)) violation = rw cut at c.loop-value.invariant.found in
     let p = err_from_is_err_and c.from_residual.result c.from_residual.ensures.1 in
     rw (p.1, p.2) (found c.in_err-operand.field-0.0 (inl c.in_err-operand.ensures.one))
 
@@ -74,4 +74,4 @@ returns-clause-given c =
 pub returns-clause-none : goal.returns-clause-none
 returns-clause-none c =
     let none : drop c.loop-value.value-index c.args.values.now ≡ [] = drop_all c.loop-value.value-index c.args.values.now c.loop-value-test.false in
-    λ flaw has. rw none at (c.loop-value.invariant.passed flaw has)
+    λ violation has. rw none at (c.loop-value.invariant.passed violation has)

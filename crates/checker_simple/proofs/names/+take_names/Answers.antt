@@ -15,10 +15,10 @@ returns-clause-none t c =
     let types = types_of table in
     let name = c.in-Some.name.now.now in
     let operand = c.in-Some-split_first.operand.now in
-    IfOk-weaker c.take_names.result _ _ (λ _ rest flaw. names-none (globals_in table) (scope_of table c.args.visible.now) (scope_of table c.take_name.new.visible) (name_of name) (default_type (Some (worth_of types operand.worth))) (given_of types operand)
-    (names_at c.in-Some.rest.now) (names_at c.args.names.now) (map (given_of types) c.in-Some-split_first.others.now) (map (given_of types) c.args.values.now) flaw
+    IfOk-weaker c.take_names.result _ _ (λ _ rest violation. names-none (globals_in table) (scope_of table c.args.visible.now) (scope_of table c.take_name.new.visible) (name_of name) (default_type (Some (worth_of types operand.worth))) (given_of types operand)
+    (names_at c.in-Some.rest.now) (names_at c.args.names.now) (map (given_of types) c.in-Some-split_first.others.now) (map (given_of types) c.args.values.now) violation
     (ap names_at c.in-Some.ensures.cases.0) (ap (map (given_of types)) c.in-Some-split_first.ensures.cases.0) c.requires.once c.in_ok-take_name.ensures.after
-    (c.in_ok-take_name.ensures.none flaw) (rest flaw)) c.take_names.ensures.none
+    (c.in_ok-take_name.ensures.none violation) (rest violation)) c.take_names.ensures.none
 
 pub returns-clause-one : goal.returns-clause-one
 returns-clause-one t c =

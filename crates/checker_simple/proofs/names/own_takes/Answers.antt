@@ -12,14 +12,14 @@ returns-in-Some-clause-one c =
     let types = types_of c.args.table.now in
     let entry = c.in-Some.entry in
     let k = Some (kind_of types entry.kind) in
-    IfErr-weaker c.fits.result _ _ (λ flaw has o e. own-known o (variable_of types entry) (e ∙ ap (option_map (variable_of types)) c.in-Some.is) k refl (given_of types c.args.operand) flaw (has k refl)) c.fits.ensures.one
+    IfErr-weaker c.fits.result _ _ (λ violation has o e. own-known o (variable_of types entry) (e ∙ ap (option_map (variable_of types)) c.in-Some.is) k refl (given_of types c.args.operand) violation (has k refl)) c.fits.ensures.one
 
 pub returns-in-Some-clause-none : goal.returns-in-Some-clause-none
 returns-in-Some-clause-none c =
     let types = types_of c.args.table.now in
     let entry = c.in-Some.entry in
     let k = Some (kind_of types entry.kind) in
-    IfOk-weaker c.fits.result _ _ (λ _ good o e flaw h. good k refl flaw (known-own o (variable_of types entry) (e ∙ ap (option_map (variable_of types)) c.in-Some.is) k refl (given_of types c.args.operand) flaw h)) c.fits.ensures.none
+    IfOk-weaker c.fits.result _ _ (λ _ good o e violation h. good k refl violation (known-own o (variable_of types entry) (e ∙ ap (option_map (variable_of types)) c.in-Some.is) k refl (given_of types c.args.operand) violation h)) c.fits.ensures.none
 
 pub returns-in_err-fits_any-in-None-clause-one : goal.returns-in_err-fits_any-in-None-clause-one
 returns-in_err-fits_any-in-None-clause-one c =
@@ -28,6 +28,6 @@ returns-in_err-fits_any-in-None-clause-one c =
     search (rules, h)
 
 pub returns-in_ok-fits_any-in-None-clause-none : goal.returns-in_ok-fits_any-in-None-clause-none
-returns-in_ok-fits_any-in-None-clause-none c = λ o e flaw h.
+returns-in_ok-fits_any-in-None-clause-none c = λ o e violation h.
     let types = types_of c.args.table.now in
-    c.in_ok-fits_any-in-None.ensures.none types None flaw (free-own o (e ∙ ap (option_map (variable_of types)) c.in-None.is) None (given_of types c.args.operand) flaw h)
+    c.in_ok-fits_any-in-None.ensures.none types None violation (free-own o (e ∙ ap (option_map (variable_of types)) c.in-None.is) None (given_of types c.args.operand) violation h)

@@ -17,22 +17,22 @@ returns-in_err-fits_any-clause-one c =
     search (rules, h)
 
 pub returns-in_ok-fits_any-clause-none : goal.returns-in_ok-fits_any-clause-none
-returns-in_ok-fits_any-clause-none c = λ flaw h.
+returns-in_ok-fits_any-clause-none c = λ violation h.
     let types = types_of c.args.table.now in
     let k = place_type (globals_in c.args.table.now) (scope_of c.args.table.now c.args.visible.now) (place_of c.args.node.now) in
     let blank : is_blank (name_of c.args.node.now.name) ≡ true = cc in
-    c.in_ok-fits_any.ensures.none types k flaw (goes-same (is_blank (name_of c.args.node.now.name)) true blank k k refl (given_of types c.args.operand) flaw h)
+    c.in_ok-fits_any.ensures.none types k violation (goes-same (is_blank (name_of c.args.node.now.name)) true blank k k refl (given_of types c.args.operand) violation h)
 
 pub returns-else-is_blank-clause-one : goal.returns-else-is_blank-clause-one
 returns-else-is_blank-clause-one c =
     let types = types_of c.args.table.now in
     let k = place_type (globals_in c.args.table.now) (scope_of c.args.table.now c.args.visible.now) (place_of c.args.node.now) in
     let named : false ≡ is_blank (name_of c.args.node.now.name) = cc in
-    IfErr-weaker c.fits.result _ _ (λ flaw has. goes-same false (is_blank (name_of c.args.node.now.name)) named k k refl (given_of types c.args.operand) flaw (has k (sym c.place_type-kind.ensures))) c.fits.ensures.one
+    IfErr-weaker c.fits.result _ _ (λ violation has. goes-same false (is_blank (name_of c.args.node.now.name)) named k k refl (given_of types c.args.operand) violation (has k (sym c.place_type-kind.ensures))) c.fits.ensures.one
 
 pub returns-else-is_blank-clause-none : goal.returns-else-is_blank-clause-none
 returns-else-is_blank-clause-none c =
     let types = types_of c.args.table.now in
     let k = place_type (globals_in c.args.table.now) (scope_of c.args.table.now c.args.visible.now) (place_of c.args.node.now) in
     let named : is_blank (name_of c.args.node.now.name) ≡ false = cc in
-    IfOk-weaker c.fits.result _ _ (λ _ good flaw has. good k (sym c.place_type-kind.ensures) flaw (goes-same (is_blank (name_of c.args.node.now.name)) false named k k refl (given_of types c.args.operand) flaw has)) c.fits.ensures.none
+    IfOk-weaker c.fits.result _ _ (λ _ good violation has. good k (sym c.place_type-kind.ensures) violation (goes-same (is_blank (name_of c.args.node.now.name)) false named k k refl (given_of types c.args.operand) violation has)) c.fits.ensures.none

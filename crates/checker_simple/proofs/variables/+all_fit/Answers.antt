@@ -10,8 +10,8 @@ pub returns-clause-none : goal.returns-clause-none
 returns-clause-none t c =
     let types = types_of c.args.table.now in
     let k = Some (kind_of types c.args.kind) in
-    IfOk-weaker c.all_fit.result _ _ (λ _ rest flaw. all-fail k (given_of types c.in-Some.operand.now) (map (given_of types) c.in-Some.rest.now) (map (given_of types) c.args.values.now) (length c.in-Some.rest.now) (length c.args.values.now) flaw
-    (ap (map (given_of types)) c.in-Some.ensures.cases.0) (ap length c.in-Some.ensures.cases.0) (c.in_ok-fits.ensures.none k refl flaw) (rest flaw)) c.all_fit.ensures.none
+    IfOk-weaker c.all_fit.result _ _ (λ _ rest violation. all-fail k (given_of types c.in-Some.operand.now) (map (given_of types) c.in-Some.rest.now) (map (given_of types) c.args.values.now) (length c.in-Some.rest.now) (length c.args.values.now) violation
+    (ap (map (given_of types)) c.in-Some.ensures.cases.0) (ap length c.in-Some.ensures.cases.0) (c.in_ok-fits.ensures.none k refl violation) (rest violation)) c.all_fit.ensures.none
 
 pub returns-in_err-fits-clause-one : goal.returns-in_err-fits-clause-one
 returns-in_err-fits-clause-one t c =

@@ -13,15 +13,15 @@ returns-clause-none c =
     let slice = c.as_slice.result.now in
     let n : length slice ≡ c.args.names = omega (arith, c.in_ok-numbers_agree.ensures.same) in
     let many : length (map (given_of types) slice) ≡ c.args.names = omega (arith, n, length-map slice (given_of types)) in
-    IfOk-weaker c.all_fit.result _ _ (λ done free end e values v flaw.
+    IfOk-weaker c.all_fit.result _ _ (λ done free end e values v violation.
     let there : values ≡ map (given_of types) slice = cc in
-    typed-given-none (Some (kind_of types c.args.kind)) c.args.names (length slice) (map (given_of types) slice) values end flaw there many n (free flaw)) c.all_fit.ensures.none
+    typed-given-none (Some (kind_of types c.args.kind)) c.args.names (length slice) (map (given_of types) slice) values end violation there many n (free violation)) c.all_fit.ensures.none
 
 pub returns-clause-one : goal.returns-clause-one
 returns-clause-one c =
     let types = types_of c.args.table.now in
     let slice = c.as_slice.result.now in
     let n : length slice ≡ c.args.names = omega (arith, c.in_ok-numbers_agree.ensures.same) in
-    IfErr-weaker c.all_fit.result _ _ (λ flaw fails end e values v.
+    IfErr-weaker c.all_fit.result _ _ (λ violation fails end e values v.
     let there : values ≡ map (given_of types) slice = cc in
-    typed-given-one (Some (kind_of types c.args.kind)) c.args.names (length slice) (map (given_of types) slice) values end flaw there n fails) c.all_fit.ensures.one
+    typed-given-one (Some (kind_of types c.args.kind)) c.args.names (length slice) (map (given_of types) slice) values end violation there n fails) c.all_fit.ensures.one

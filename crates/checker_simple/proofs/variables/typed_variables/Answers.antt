@@ -10,7 +10,7 @@ use Rattle.checker_simple.proofs.Wholes.{typed-none}
 use Rattle.checker_simple.proofs.variables.typed_variables.Goals as goal
 
 pub returns-clause-none : goal.returns-clause-none
-returns-clause-none c = λ flaw.
+returns-clause-none c = λ violation.
     let types = types_of c.args.table.now in
     let g = globals_in c.args.table.now in
     let s = scope_of c.args.table.now c.args.visible.now in
@@ -26,5 +26,5 @@ returns-clause-none c = λ flaw.
     let n : length c.args.names.now ≡ length names = sym (length-map c.args.names.now name_of) in
     let m : c.args.first + c.type_size.result ≡ c.args.first + type_size kind = omega (arith, c.type_size.ensures) in
     let e : end ≡ c.in_ok-node.node + 1 = omega (arith, c.in_ok-node.ensures.end) in
-    typed-none g s c.args.first (c.args.first + c.type_size.result) (length c.args.names.now) end names (names_at c.as_slice.result.now) kind right (kind_of types c.in-Some.known) flaw known these n m refl
-    (c.in_ok-node.ensures.none flaw) (c.in_ok-may_declare.ensures.none end e flaw)
+    typed-none g s c.args.first (c.args.first + c.type_size.result) (length c.args.names.now) end names (names_at c.as_slice.result.now) kind right (kind_of types c.in-Some.known) violation known these n m refl
+    (c.in_ok-node.ensures.none violation) (c.in_ok-may_declare.ensures.none end e violation)

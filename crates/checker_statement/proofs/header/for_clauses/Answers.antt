@@ -7,8 +7,8 @@ use Rattle.checker_statement.proofs.header.for_clauses.Goals as goal
 
 pub returns-clause-none : goal.returns-clause-none
 returns-clause-none c =
-    IfOk-weaker c.post_statement.result _ _ (λ _ post flaw has. clauses_free (globals_in c.args.table.now) (scope_of c.args.table.now c.args.visible.now) (scope_of c.args.table.now c.optional_simple.new.visible)
-    c.args.first c.in_ok-middle.middle c.in_ok-behind.behind
-    (option_map simple_of c.args.header.first.now) (option_map expression_of c.args.header.condition.now) (option_map simple_of c.args.header.post.now) flaw
-    c.in_ok-middle.ensures.after c.in_ok-middle.ensures.end c.in_ok-behind.ensures.end
-    (c.in_ok-middle.ensures.none flaw) (c.in_ok-behind.ensures.none flaw) (post flaw) has) c.post_statement.ensures.none
+    IfOk-weaker c.post_statement.result _ _ (λ _ post violation has. clauses_free (globals_in c.args.table.now) (scope_of c.args.table.now c.args.visible.now) (scope_of c.args.table.now c.optional_simple.new.visible)
+    c.args.first c.in_ok-middle.middle c.in_ok-following.following
+    (option_map simple_of c.args.header.first.now) (option_map expression_of c.args.header.condition.now) (option_map simple_of c.args.header.post.now) violation
+    c.in_ok-middle.ensures.after c.in_ok-middle.ensures.end c.in_ok-following.ensures.end
+    (c.in_ok-middle.ensures.none violation) (c.in_ok-following.ensures.none violation) (post violation) has) c.post_statement.ensures.none

@@ -7,7 +7,7 @@ use Rattle.syntax.specs.Measures.{statement_size}
 use Rattle.syntax.specs.View.{expression_of, body_of, statement_of, if_head_of, for_head_of, otherwise_of, clause_of, clauses}
 use Rattle.type_table.specs.Scopes.{Scope, entered, left}
 use Rattle.type_table.specs.Visible.{globals_in, scope_of, Keeps, Leaves}
-use Rattle.typing_rules.specs.declared.flaw.Flaw.{Flaw}
+use Rattle.typing_rules.specs.declared.violation.Violation.{Violation}
 use Rattle.checker_base.specs.Views.{Refuses}
 use Rattle.checker_statement.specs.Settings.{setting_in}
 use Rattle.typing_rules.specs.Statements.{StatementHas, StatementsHave, PartsHave, ClauseHas, ClausesHave, after_all, after_parts, after_clause, after_for_head}
@@ -66,7 +66,7 @@ select-loop-one-preserved t c =
     }
 
 pub statements-loop-one-init : goal.statements-loop-one-init
-statements-loop-one-init t c = record { end = refl; after = refl; kept = (take-length c.args.visible.now.entries.items, refl); found = λ flaw has. has; passed = λ flaw has. has }
+statements-loop-one-init t c = record { end = refl; after = refl; kept = (take-length c.args.visible.now.entries.items, refl); found = λ violation has. has; passed = λ violation has. has }
 
 pub statements-returns-clause-end : goal.statements-returns-clause-end
 statements-returns-clause-end t c =
@@ -81,10 +81,10 @@ statements-returns-clause-after t c =
 pub statements-returns-clause-none : goal.statements-returns-clause-none
 statements-returns-clause-none t c =
     let none : drop c.loop-one.one-index c.args.body.now ≡ [] = drop_all c.loop-one.one-index c.args.body.now c.loop-one-test.false in
-    λ flaw has. rw none at (c.loop-one.invariant.passed flaw has)
+    λ violation has. rw none at (c.loop-one.invariant.passed violation has)
 
 pub select-loop-one-init : goal.select-loop-one-init
-select-loop-one-init t c = record { end = refl; after = refl; left = (refl, refl); count = omega arith; few = omega arith; found = λ flaw has. has; passed = λ flaw has. has }
+select-loop-one-init t c = record { end = refl; after = refl; left = (refl, refl); count = omega arith; few = omega arith; found = λ violation has. has; passed = λ violation has. has }
 
 pub select-returns-clause-after : goal.select-returns-clause-after
 select-returns-clause-after t c =
@@ -95,7 +95,7 @@ pub select-returns-clause-none : goal.select-returns-clause-none
 select-returns-clause-none t c =
     let none : drop c.loop-one.one-index c.args.all.now ≡ [] = drop_all c.loop-one.one-index c.args.all.now c.loop-one-test.false in
     let count = rw none at c.loop-one.invariant.count in
-    λ flaw has. elim has [ inl bad ↦ rw none at (c.loop-one.invariant.passed flaw bad) | inr many ↦ few_defaults _ (omega (arith, count, c.loop-one.invariant.few)) many.0 ]
+    λ violation has. elim has [ inl bad ↦ rw none at (c.loop-one.invariant.passed violation bad) | inr many ↦ few_defaults _ (omega (arith, count, c.loop-one.invariant.few)) many.0 ]
 
 pub block-returns-in_err-end-clause-one : goal.block-returns-in_err-end-clause-one
 block-returns-in_err-end-clause-one t c =
@@ -109,8 +109,8 @@ block-returns-clause-after t c =
     block_left c.args.table.now c.args.visible.now c.enter.new.visible c.statements.new.visible c.leave.new.visible c.len-count.result _ count c.enter.ensures.entries c.in_ok-end.ensures.kept is c.leave.ensures.entries c.leave.ensures.outer c.leave.ensures.words
 
 pub block-returns-clause-none : goal.block-returns-clause-none
-block-returns-clause-none t c = λ flaw has.
-    c.in_ok-end.ensures.none flaw (subst (λ (s : Scope). StatementsHave (setting_in c.args.table.now c.args.inside) s c.args.first (body_of c.args.body.now) flaw) (sym (c.enter.ensures.scope c.args.table.now)) has)
+block-returns-clause-none t c = λ violation has.
+    c.in_ok-end.ensures.none violation (subst (λ (s : Scope). StatementsHave (setting_in c.args.table.now c.args.inside) s c.args.first (body_of c.args.body.now) violation) (sym (c.enter.ensures.scope c.args.table.now)) has)
 
 pub if_statement-returns-in_err-node-clause-one : goal.if_statement-returns-in_err-node-clause-one
 if_statement-returns-in_err-node-clause-one t c =
@@ -124,8 +124,8 @@ if_statement-returns-clause-after t c =
     block_left c.args.table.now c.args.visible.now c.enter.new.visible c.if_parts.new.visible c.leave.new.visible c.len-count.result _ count c.enter.ensures.entries c.in_ok-node.ensures.kept is c.leave.ensures.entries c.leave.ensures.outer c.leave.ensures.words
 
 pub if_statement-returns-clause-none : goal.if_statement-returns-clause-none
-if_statement-returns-clause-none t c = λ flaw has.
-    c.in_ok-node.ensures.none flaw (subst (λ (s : Scope). PartsHave (setting_in c.args.table.now c.args.inside) s c.args.first (if_head_of c.args.branch.now.header) (expression_of c.args.branch.now.condition) (body_of c.args.branch.now.body.items) (otherwise_of c.args.branch.now.otherwise) flaw) (sym (c.enter.ensures.scope c.args.table.now)) has)
+if_statement-returns-clause-none t c = λ violation has.
+    c.in_ok-node.ensures.none violation (subst (λ (s : Scope). PartsHave (setting_in c.args.table.now c.args.inside) s c.args.first (if_head_of c.args.branch.now.header) (expression_of c.args.branch.now.condition) (body_of c.args.branch.now.body.items) (otherwise_of c.args.branch.now.otherwise) violation) (sym (c.enter.ensures.scope c.args.table.now)) has)
 
 pub clause-returns-in_err-end-clause-one : goal.clause-returns-in_err-end-clause-one
 clause-returns-in_err-end-clause-one t c =
@@ -139,8 +139,8 @@ clause-returns-clause-after t c =
     block_left c.args.table.now c.args.visible.now c.enter.new.visible c.clause_parts.new.visible c.leave.new.visible c.len-count.result _ count c.enter.ensures.entries c.in_ok-end.ensures.kept is c.leave.ensures.entries c.leave.ensures.outer c.leave.ensures.words
 
 pub clause-returns-clause-none : goal.clause-returns-clause-none
-clause-returns-clause-none t c = λ flaw has.
-    c.in_ok-end.ensures.none flaw (subst (λ (s : Scope). ClauseHas (setting_in c.args.table.now c.args.inside) s c.args.first (clause_of c.args.one.now).comm (clause_of c.args.one.now).body flaw) (sym (c.enter.ensures.scope c.args.table.now)) has)
+clause-returns-clause-none t c = λ violation has.
+    c.in_ok-end.ensures.none violation (subst (λ (s : Scope). ClauseHas (setting_in c.args.table.now c.args.inside) s c.args.first (clause_of c.args.one.now).comm (clause_of c.args.one.now).body violation) (sym (c.enter.ensures.scope c.args.table.now)) has)
 
 pub for_statement-returns-clause-after : goal.for_statement-returns-clause-after
 for_statement-returns-clause-after t c =
@@ -158,7 +158,7 @@ for_statement-returns-clause-after t c =
 
 pub clause_parts-returns-clause-kept : goal.clause_parts-returns-clause-kept
 clause_parts-returns-clause-kept t c =
-    IfOk-weaker c.statements.result (λ _. Keeps c.optional_comm.new.visible c.statements.new.visible) (λ _. Keeps c.args.visible.now c.statements.new.visible) (λ _ kept. keeps_on c.args.visible.now c.optional_comm.new.visible c.statements.new.visible c.in_ok-behind.ensures.kept kept) c.statements.ensures.kept
+    IfOk-weaker c.statements.result (λ _. Keeps c.optional_comm.new.visible c.statements.new.visible) (λ _. Keeps c.args.visible.now c.statements.new.visible) (λ _ kept. keeps_on c.args.visible.now c.optional_comm.new.visible c.statements.new.visible c.in_ok-following.ensures.kept kept) c.statements.ensures.kept
 
 pub statements-returns-in_err-end-clause-one : goal.statements-returns-in_err-end-clause-one
 statements-returns-in_err-end-clause-one t c =
@@ -168,9 +168,9 @@ statements-returns-in_err-end-clause-one t c =
     let before = scope_of c.args.table.now c.loop-one.visible in
     let cut : drop c.loop-one.one-index c.args.body.now ≡ c.one-item.result ∷ left = rw c.one-item.is (drop-cons c.args.body.now c.loop-one.one-index _ c.loop-one-test.true) in
     let has = StatementsHave setting (scope_of c.args.table.now c.args.visible.now) c.args.first (body_of c.args.body.now) in
-    let found : (flaw : Flaw) → StatementsHave setting before c.loop-one.end (Then one (body_of left)) flaw → has flaw = rw cut at c.loop-one.invariant.found in
+    let found : (violation : Violation) → StatementsHave setting before c.loop-one.end (Then one (body_of left)) violation → has violation = rw cut at c.loop-one.invariant.found in
     let p = err_from_is_err_and c.from_residual.result c.from_residual.ensures.1 in
-    rw (p.1, p.2) (refuses_more (StatementHas setting before c.loop-one.end one) has c.in_err-end.field-0.0 (λ flaw bad. found flaw (inl bad)) c.in_err-end.ensures.one)
+    rw (p.1, p.2) (refuses_more (StatementHas setting before c.loop-one.end one) has c.in_err-end.field-0.0 (λ violation bad. found violation (inl bad)) c.in_err-end.ensures.one)
 
 pub select-returns-clause-end : goal.select-returns-clause-end
 select-returns-clause-end t c =
@@ -321,7 +321,7 @@ pub statement-returns-in-Empty-clause-after : goal.statement-returns-in-Empty-cl
 statement-returns-in-Empty-clause-after t c = rw (empty_is _ c.in-Empty.is) refl
 
 pub statement-returns-in-Empty-clause-none : goal.statement-returns-in-Empty-clause-none
-statement-returns-in-Empty-clause-none t c = λ flaw has. rw (empty_is _ c.in-Empty.is) at has
+statement-returns-in-Empty-clause-none t c = λ violation has. rw (empty_is _ c.in-Empty.is) at has
 
 -- ---- a block, and a return
 
@@ -357,7 +357,7 @@ pub otherwise-returns-in-Nothing-clause-after : goal.otherwise-returns-in-Nothin
 otherwise-returns-in-Nothing-clause-after t c = rw (nothing_is _ c.in-Nothing.is) refl
 
 pub otherwise-returns-in-Nothing-clause-none : goal.otherwise-returns-in-Nothing-clause-none
-otherwise-returns-in-Nothing-clause-none t c = λ flaw has. rw (nothing_is _ c.in-Nothing.is) at has
+otherwise-returns-in-Nothing-clause-none t c = λ violation has. rw (nothing_is _ c.in-Nothing.is) at has
 
 pub otherwise-returns-in_ok-end-in-Block-clause-end : goal.otherwise-returns-in_ok-end-in-Block-clause-end
 otherwise-returns-in_ok-end-in-Block-clause-end t c = rw (else_block_is _ _ c.in-Block.is, ← c.as_slice.ensures.value) (omega (arith, c.in_ok-end-in-Block.ensures.end))

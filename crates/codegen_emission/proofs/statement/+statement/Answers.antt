@@ -28,7 +28,7 @@ use Rattle.codegen_emission.specs.declared.emitter.Emitter.{Emitter}
 use Rattle.codegen_flow.specs.Waits.{filled, settled}
 use Rattle.codegen_flow.specs.Closed.{closed}
 use Rattle.codegen_flow.specs.declared.select.Held.{Held}
-use Rattle.codegen_flow.specs.Selects.{any_control, behind_select, no_table}
+use Rattle.codegen_flow.specs.Selects.{any_control, after_select, no_table}
 use Rattle.codegen_emission.specs.Ways.{Reaches, Ways, default_start, made_way, or_nothing, ways_left}
 use Rattle.codegen_emission.proofs.Choosing.{reaches, reaches_more}
 use Rattle.codegen_emission.proofs.Defaults.{all_ways, default_here, default_later, default_none, default_nowhere, default_way, next_clause, reaches_past}
@@ -86,8 +86,8 @@ emit_endless-returns t c =
     let stop = c.in_ok-stop.stop in
     let again = c.in_ok-again.again in
     let done : e3.code.items ≡ filled flow.waits stop again e2.code.items = c.fill.ensures ∙ ap (λ (ws : List Wait). filled ws stop again e2.code.items) c.as_slice.ensures.value in
-    emits_untested table (globals_in table) c.args.context.now.program.now.elements.now (yield_of (types_of table) c.args.context.now.result_type) (body_of c.args.body.now) post c.comes_round-turns.result e0 e1 e2 e3 flow (control c.behind_loop.result) c.in_ok-head.head again stop
-    c.in_ok-within.ensures c.comes_round-turns.ensures c.in_ok-head.ensures.place c.in_ok-again.ensures.place c.in_ok-emit_round.ensures c.in_ok-stop.ensures.place done (record { prints = refl; selects = refl; layout = refl }) c.behind_loop.ensures
+    emits_untested table (globals_in table) c.args.context.now.program.now.elements.now (yield_of (types_of table) c.args.context.now.result_type) (body_of c.args.body.now) post c.comes_round-turns.result e0 e1 e2 e3 flow (control c.after_loop.result) c.in_ok-head.head again stop
+    c.in_ok-within.ensures c.comes_round-turns.ensures c.in_ok-head.ensures.place c.in_ok-again.ensures.place c.in_ok-emit_round.ensures c.in_ok-stop.ensures.place done (record { prints = refl; selects = refl; layout = refl }) c.after_loop.ensures
 
 pub emit_tested-returns : goal.emit_tested-returns
 emit_tested-returns t c =
@@ -432,7 +432,7 @@ emit_select-returns t c =
     let settles : e4.code.items ≡ settled (any_control flow).waits stop e3.code.items = c.in_ok-flow.ensures.settled ∙ ap (λ (f : Control). settled f.waits stop e3.code.items) c.from_ways-ways.ensures in
     let sets : e4.selects.items ≡ slice_set e3.selects.items (length e1.selects.items) c.in_ok-made.made = c.set_table.ensures ∙ ap (λ n. slice_set e3.selects.items n c.in_ok-made.made) at_is in
     let table_is : c.in_ok-made.made ≡ select_table globals elements result (layout_of table e3.layout) all list.places.items = c.in_ok-made.ensures result ∙ ap (λ (ps : List ℕ). select_table globals elements result (layout_of table e3.layout) all ps) c.as_slice-places.ensures.value in
-    let flow_is : control c.in_ok-flow.flow ≡ behind_select (any_control flow) = c.in_ok-flow.ensures.flow ∙ ap behind_select c.from_ways-ways.ensures in
+    let flow_is : control c.in_ok-flow.flow ≡ after_select (any_control flow) = c.in_ok-flow.ensures.flow ∙ ap after_select c.from_ways-ways.ensures in
     emits_select table globals elements result all no_table c.in_ok-made.made e0 e1 e2 e3 e4 flow (control c.in_ok-flow.flow) list.places.items c.len-at.result stop (c.in_ok-push_clauses.ensures result) (record { prints = refl; selects = refl; layout = refl }) at_is c.in_ok-hold_select.ensures.code refl c.in_ok-hold_select.ensures.tables
     refl ways w.begin refl settles refl sets refl table_is flow_is
 

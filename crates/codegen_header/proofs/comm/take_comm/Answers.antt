@@ -1,7 +1,7 @@
 use Rattle.std.proofs.Common.{◌≡◌, OnOk, sym, subst}
 use Rattle.syntax.specs.View.{comm_of}
 use Rattle.type_table.specs.Visible.{globals_in}
-use Rattle.codegen_base.specs.Generated.{behind_comm, comm_plan}
+use Rattle.codegen_base.specs.Generated.{after_comm, comm_plan}
 use Rattle.codegen_simple.specs.Layouts.{layout_of}
 use Rattle.codegen_simple.specs.Simples.{Appends}
 use Rattle.codegen_header.proofs.comm.take_comm.Goals as goal
@@ -24,4 +24,4 @@ returns-in-Assign-clause-emitted c = λ yields.
 pub returns-in-Define-clause-after : goal.returns-in-Define-clause-after
 returns-in-Define-clause-after c = λ yields.
     let table = c.args.context.now.table.now in
-    subst (λ o. OnOk c.emit_define.result (layout_of table c.emit_define.new.layout ≡ behind_comm (globals_in table) c.args.context.now.elements.now yields (comm_of o) (layout_of table c.args.layout.now))) (sym c.in-Define.is) (c.emit_define.ensures.after yields)
+    subst (λ o. OnOk c.emit_define.result (layout_of table c.emit_define.new.layout ≡ after_comm (globals_in table) c.args.context.now.elements.now yields (comm_of o) (layout_of table c.args.layout.now))) (sym c.in-Define.is) (c.emit_define.ensures.after yields)

@@ -3,7 +3,7 @@ use Rattle.syntax.specs.View.{target_of}
 use Rattle.type_table.specs.Views.{kind_of}
 use Rattle.type_table.specs.Visible.{globals_in, scope_of, types_of}
 use Rattle.codegen_base.specs.Generated.{takes}
-use Rattle.codegen_base.specs.Layouts.{behind_target}
+use Rattle.codegen_base.specs.Layouts.{following_target}
 use Rattle.codegen_simple.specs.Layouts.{layout_of}
 use Rattle.codegen_simple.specs.Simples.{Appends}
 use Rattle.codegen_header.proofs.range.take_item.Goals as goal
@@ -26,4 +26,4 @@ returns-in-Assign-clause-emitted c = λ yields.
 pub returns-in-Define-clause-after : goal.returns-in-Define-clause-after
 returns-in-Define-clause-after c =
     let table = c.args.context.now.table.now in
-    subst (λ o. OnOk c.take_name.result (layout_of table c.take_name.new.layout ≡ behind_target (globals_in table) c.args.context.now.elements.now (kind_of (types_of table) c.args.kind) (target_of o) (layout_of table c.args.layout.now))) (sym c.in-Define.is) c.take_name.ensures.after
+    subst (λ o. OnOk c.take_name.result (layout_of table c.take_name.new.layout ≡ following_target (globals_in table) c.args.context.now.elements.now (kind_of (types_of table) c.args.kind) (target_of o) (layout_of table c.args.layout.now))) (sym c.in-Define.is) c.take_name.ensures.after

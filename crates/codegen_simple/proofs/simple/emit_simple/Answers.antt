@@ -6,7 +6,7 @@ use Rattle.syntax.specs.declared.node.PlaceNode.{PlaceNode}
 use Rattle.syntax.specs.declared.node.ExpressionNode.{ExpressionNode}
 use Rattle.syntax.specs.View.{expression_of, name_of, part_of, place_of, right_of, simple_of}
 use Rattle.type_table.specs.Visible.{globals_in}
-use Rattle.codegen_base.specs.Layouts.{behind_simple, declaring_all}
+use Rattle.codegen_base.specs.Layouts.{following_simple, declaring_all}
 use Rattle.codegen_base.specs.Statements.{defines, pushes_parts, right_types, sets, simple_plan}
 use Rattle.plan.specs.Plan.{Do, Skip}
 use Rattle.codegen_simple.specs.Layouts.{layout_of}
@@ -82,4 +82,4 @@ returns-in-Define-clause-after c =
     let layout = layout_of table c.args.layout.now in
     let right = right_of c.in-Define.right in
     let after = subst (λ (l : List Name). OnOk c.define.result (layout_of table c.define.new.layout ≡ declaring_all globals elements (map name_of l) (right_types globals elements layout.scope (length (map name_of l)) right) layout)) c.as_slice-names.ensures.value (subst (λ (l : List ExpressionNode). OnOk c.define.result (layout_of table c.define.new.layout ≡ declaring_all globals elements (map name_of c.as_slice-names.result.now) (right_types globals elements layout.scope (length (map name_of c.as_slice-names.result.now)) (map expression_of l)) layout)) c.as_slice-in-Define.ensures.value c.define.ensures.after) in
-    subst (λ s. OnOk c.define.result (layout_of table c.define.new.layout ≡ behind_simple globals elements (simple_of s) layout)) (sym c.in-Define.is) after
+    subst (λ s. OnOk c.define.result (layout_of table c.define.new.layout ≡ following_simple globals elements (simple_of s) layout)) (sym c.in-Define.is) after

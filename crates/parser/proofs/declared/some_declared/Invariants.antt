@@ -8,5 +8,5 @@ use Rattle.parser.proofs.declared.some_declared.Given as goal
 
 abbrev pub invariant-loop : goal.invariant-loop
 invariant-loop l = record {
-  total : with_front (map declared_of l.entries.items) (some_declared l.separator l.close l.room (MAX_ENTRIES - l.counter) l.left (ahead l.rest)) ≡ some_declared l.separator l.close l.room MAX_ENTRIES MAX_ENTRIES (ahead l.fn.cursor);
+  total : with_front (map declared_of l.entries.items) (some_declared l.separator l.close l.depth_left (MAX_ENTRIES - l.counter) l.left (ahead l.rest)) ≡ some_declared l.separator l.close l.depth_left MAX_ENTRIES MAX_ENTRIES (ahead l.fn.cursor);
 }

@@ -13,7 +13,7 @@ use Rattle.parser_base.proofs.TypeLaws.{type_sound}
 use Rattle.parser_base.proofs.expression.+expression.Goals as goal
 
 pub applied-returns-in-Period-clause-tree : goal.applied-returns-in-Period-clause-tree
-applied-returns-in-Period-clause-tree t c = rw c.in-Period.is (c.selection.ensures.tree (expression c.args.literals 64 (c.args.room - 1)))
+applied-returns-in-Period-clause-tree t c = rw c.in-Period.is (c.selection.ensures.tree (expression c.args.literals 64 (c.args.depth_left - 1)))
 
 pub composite_literal-returns-clause-height : goal.composite_literal-returns-clause-height
 composite_literal-returns-clause-height t c = (
@@ -29,40 +29,40 @@ call-returns-clause-height t c = (
 
 pub make_call-make_of-requires : goal.make_call-make_of-requires
 make_call-make_of-requires t c =
-    let kind = type_sound (c.args.room - 1) (ahead c.in_ok-inside.inside) (type_of c.in_ok-channel.channel.node) (ahead c.in_ok-channel.channel.rest) c.in_ok-channel.ensures in
+    let kind = type_sound (c.args.depth_left - 1) (ahead c.in_ok-inside.inside) (type_of c.in_ok-channel.channel.node) (ahead c.in_ok-channel.channel.rest) c.in_ok-channel.ensures in
     (omega arith, (c.requires, omega (arith, kind.low, c.requires)))
 
 pub measured_expression-returns-clause-tree : goal.measured_expression-returns-clause-tree
 measured_expression-returns-clause-tree t c =
-    rw (opens c.args.literals 64 c.args.room c.args.least (ahead c.args.cursor) (expression_of c.in_ok-left.left.node) (ahead c.in_ok-left.left.rest) (omega arith) c.in_ok-left.ensures.tree) c.resumed_expression.ensures.tree
+    rw (opens c.args.literals 64 c.args.depth_left c.args.least (ahead c.args.cursor) (expression_of c.in_ok-left.left.node) (ahead c.in_ok-left.left.rest) (omega arith) c.in_ok-left.ensures.tree) c.resumed_expression.ensures.tree
 
 pub resumed_expression-loop-init : goal.resumed_expression-loop-init
 resumed_expression-loop-init t c = record {
-  total = resumes c.args.literals 64 c.args.room c.args.least (expression_of c.args.left.node) (ahead c.args.left.rest);
+  total = resumes c.args.literals 64 c.args.depth_left c.args.least (expression_of c.args.left.node) (ahead c.args.left.rest);
   height = c.requires;
   within = λ low. low;
 }
 
 pub resumed_expression-returns-in_default-clause-tree : goal.resumed_expression-returns-in_default-clause-tree
 resumed_expression-returns-in_default-clause-tree t c =
-    turn_stops (expression c.args.literals 64 (c.args.room - 1)) c.args.room c.args.least c.args.room c.loop.counter (expression_of c.loop.left.node) (ahead c.loop.left.rest) _ c.loop-test.true (sym (rw c.in_default.is at c.step_at.ensures)) c.loop.invariant.total
+    turn_stops (expression c.args.literals 64 (c.args.depth_left - 1)) c.args.depth_left c.args.least c.args.depth_left c.loop.counter (expression_of c.loop.left.node) (ahead c.loop.left.rest) _ c.loop-test.true (sym (rw c.in_default.is at c.step_at.ensures)) c.loop.invariant.total
 
-pub resumed_expression-returns-then-left-room-clause-tree : goal.resumed_expression-returns-then-left-room-clause-tree
-resumed_expression-returns-then-left-room-clause-tree t c =
-    let high : c.args.room ≤ expression_height (expression_of c.loop.left.node) = omega (arith, c.loop.invariant.height) in
-    turn_too_high (expression c.args.literals 64 (c.args.room - 1)) c.args.room c.args.least c.args.room c.loop.counter (expression_of c.loop.left.node) (ahead c.loop.left.rest) c.in-Some.step (ahead c.in-Some.after) _ c.loop-test.true c.in-Some.ensures high c.loop.invariant.total
+pub resumed_expression-returns-then-left-depth_left-clause-tree : goal.resumed_expression-returns-then-left-depth_left-clause-tree
+resumed_expression-returns-then-left-depth_left-clause-tree t c =
+    let high : c.args.depth_left ≤ expression_height (expression_of c.loop.left.node) = omega (arith, c.loop.invariant.height) in
+    turn_too_high (expression c.args.literals 64 (c.args.depth_left - 1)) c.args.depth_left c.args.least c.args.depth_left c.loop.counter (expression_of c.loop.left.node) (ahead c.loop.left.rest) c.in-Some.step (ahead c.in-Some.after) _ c.loop-test.true c.in-Some.ensures high c.loop.invariant.total
 
 pub resumed_expression-returns-in_err-left-clause-tree : goal.resumed_expression-returns-in_err-left-clause-tree
 resumed_expression-returns-in_err-left-clause-tree t c =
     let p = err_from_is_err_and c.from_residual.result c.from_residual.ensures.1 in
-    let low : expression_height (expression_of c.loop.left.node) < c.args.room = omega (arith, c.loop.invariant.height) in
-    rw (p.1, p.2) (turn_fails c.in_err-left.field-0.0 (expression c.args.literals 64 (c.args.room - 1)) c.args.room c.args.least c.args.room c.loop.counter (expression_of c.loop.left.node) (ahead c.loop.left.rest) c.in-Some.step (ahead c.in-Some.after) _ c.loop-test.true c.in-Some.ensures low c.in_err-left.ensures.tree c.loop.invariant.total)
+    let low : expression_height (expression_of c.loop.left.node) < c.args.depth_left = omega (arith, c.loop.invariant.height) in
+    rw (p.1, p.2) (turn_fails c.in_err-left.field-0.0 (expression c.args.literals 64 (c.args.depth_left - 1)) c.args.depth_left c.args.least c.args.depth_left c.loop.counter (expression_of c.loop.left.node) (ahead c.loop.left.rest) c.in-Some.step (ahead c.in-Some.after) _ c.loop-test.true c.in-Some.ensures low c.in_err-left.ensures.tree c.loop.invariant.total)
 
 pub resumed_expression-loop-preserved : goal.resumed_expression-loop-preserved
 resumed_expression-loop-preserved t c =
-    let low : expression_height (expression_of c.loop.left.node) < c.args.room = omega (arith, c.loop.invariant.height) in
+    let low : expression_height (expression_of c.loop.left.node) < c.args.depth_left = omega (arith, c.loop.invariant.height) in
     record {
-      total = turn_done (expression c.args.literals 64 (c.args.room - 1)) c.args.room c.args.least c.args.room c.loop.counter (expression_of c.loop.left.node) (ahead c.loop.left.rest) c.in-Some.step (ahead c.in-Some.after) (expression_of c.in_ok-left.left.node) (ahead c.in_ok-left.left.rest) _ c.loop-test.true c.in-Some.ensures low c.in_ok-left.ensures.tree c.loop.invariant.total;
+      total = turn_done (expression c.args.literals 64 (c.args.depth_left - 1)) c.args.depth_left c.args.least c.args.depth_left c.loop.counter (expression_of c.loop.left.node) (ahead c.loop.left.rest) c.in-Some.step (ahead c.in-Some.after) (expression_of c.in_ok-left.left.node) (ahead c.in_ok-left.left.rest) _ c.loop-test.true c.in-Some.ensures low c.in_ok-left.ensures.tree c.loop.invariant.total;
       height = c.in_ok-left.ensures.height.0;
       within = λ low'. c.in_ok-left.ensures.height.1;
     }
@@ -70,23 +70,23 @@ resumed_expression-loop-preserved t c =
 pub resumed_expression-returns-clause-tree : goal.resumed_expression-returns-clause-tree
 unfolding operations
 resumed_expression-returns-clause-tree t c =
-    let none : c.args.room - c.loop.counter ≡ 0 = omega (arith, c.loop-test.false) in
+    let none : c.args.depth_left - c.loop.counter ≡ 0 = omega (arith, c.loop-test.false) in
     sym (rw none at c.loop.invariant.total)
 
 pub expression_list-returns-in_err-found-clause-values : goal.expression_list-returns-in_err-found-clause-values
 expression_list-returns-in_err-found-clause-values t c =
     let p = err_from_is_err_and c.from_residual.result c.from_residual.ensures.1 in
-    rw (p.1, p.2) (one_fails c.in_err-found.field-0.0 (expression c.args.literals 64 c.args.room 0) (value_next c.args.close) (TooMany Entries) 64 c.loop.counter _ (ahead c.loop.rest) _ c.loop-test.true c.in_err-found.ensures.tree c.loop.invariant.total)
+    rw (p.1, p.2) (one_fails c.in_err-found.field-0.0 (expression c.args.literals 64 c.args.depth_left 0) (value_next c.args.close) (TooMany Entries) 64 c.loop.counter _ (ahead c.loop.rest) _ c.loop-test.true c.in_err-found.ensures.tree c.loop.invariant.total)
 
 pub expression_list-returns-in_err-next-clause-values : goal.expression_list-returns-in_err-next-clause-values
 expression_list-returns-in_err-next-clause-values t c =
     let p = err_from_is_err_and c.from_residual-in_err-next.result c.from_residual-in_err-next.ensures.1 in
-    rw (p.1, p.2) (next_fails c.in_err-next.field-0.0 (expression c.args.literals 64 c.args.room 0) (value_next c.args.close) (TooMany Entries) 64 c.loop.counter _ (ahead c.loop.rest) (expression_of c.in_ok-found.found.node) (ahead c.in_ok-found.found.rest) _ c.loop-test.true c.in_ok-found.ensures.tree c.in_err-next.ensures.gives c.loop.invariant.total)
+    rw (p.1, p.2) (next_fails c.in_err-next.field-0.0 (expression c.args.literals 64 c.args.depth_left 0) (value_next c.args.close) (TooMany Entries) 64 c.loop.counter _ (ahead c.loop.rest) (expression_of c.in_ok-found.found.node) (ahead c.in_ok-found.found.rest) _ c.loop-test.true c.in_ok-found.ensures.tree c.in_err-next.ensures.gives c.loop.invariant.total)
 
 pub expression_list-returns-in-End-clause-values : goal.expression_list-returns-in-End-clause-values
 expression_list-returns-in-End-clause-values t c =
     let pushed = chosen _ _ _ _ c.push.ensures.items (ap is_ok c.in_ok-push.was) in
-    rw pushed (ends expression_of (expression c.args.literals 64 c.args.room 0) (value_next c.args.close) (TooMany Entries) 64 c.loop.counter c.loop.entries.items (ahead c.loop.rest) c.in_ok-found.found.node c.in-End.trailing (ahead c.in_ok-found.found.rest) (ahead c.in_ok-next.after) _ c.loop-test.true c.in_ok-found.ensures.tree (rw c.in-End.is at c.in_ok-next.ensures.gives) c.loop.invariant.total)
+    rw pushed (ends expression_of (expression c.args.literals 64 c.args.depth_left 0) (value_next c.args.close) (TooMany Entries) 64 c.loop.counter c.loop.entries.items (ahead c.loop.rest) c.in_ok-found.found.node c.in-End.trailing (ahead c.in_ok-found.found.rest) (ahead c.in_ok-next.after) _ c.loop-test.true c.in_ok-found.ensures.tree (rw c.in-End.is at c.in_ok-next.ensures.gives) c.loop.invariant.total)
 
 pub expression_list-returns-in-End-clause-height : goal.expression_list-returns-in-End-clause-height
 expression_list-returns-in-End-clause-height t c =
@@ -97,13 +97,13 @@ pub expression_list-loop-preserved : goal.expression_list-loop-preserved
 expression_list-loop-preserved t c =
     let pushed = chosen _ _ _ _ c.push.ensures.items (ap is_ok c.in_ok-push.was) in
     record {
-      total = rw pushed (more expression_of (expression c.args.literals 64 c.args.room 0) (value_next c.args.close) (TooMany Entries) 64 c.loop.counter c.loop.entries.items (ahead c.loop.rest) c.in_ok-found.found.node (ahead c.in_ok-found.found.rest) (ahead c.in_ok-next.after) _ c.loop-test.true c.in_ok-found.ensures.tree (rw c.in-More.is at c.in_ok-next.ensures.gives) c.loop.invariant.total);
+      total = rw pushed (more expression_of (expression c.args.literals 64 c.args.depth_left 0) (value_next c.args.close) (TooMany Entries) 64 c.loop.counter c.loop.entries.items (ahead c.loop.rest) c.in_ok-found.found.node (ahead c.in_ok-found.found.rest) (ahead c.in_ok-next.after) _ c.loop-test.true c.in_ok-found.ensures.tree (rw c.in-More.is at c.in_ok-next.ensures.gives) c.loop.invariant.total);
       height = rw pushed (omega (arith, highest-pushed expression_of expression_height c.loop.entries.items c.in_ok-found.found.node, c.loop.invariant.height, c.in_ok-found.ensures.height.0, c.max-height.ensures));
       within = omega (arith, c.loop.invariant.within, c.in_ok-found.ensures.height.1, c.max-height.ensures);
     }
 
 pub expression_list-returns-clause-values : goal.expression_list-returns-clause-values
-expression_list-returns-clause-values t c = is_full (expression c.args.literals 64 c.args.room 0) (value_next c.args.close) (TooMany Entries) 64 c.loop.counter _ (ahead c.loop.rest) _ c.loop-test.false c.loop.invariant.total
+expression_list-returns-clause-values t c = is_full (expression c.args.literals 64 c.args.depth_left 0) (value_next c.args.close) (TooMany Entries) 64 c.loop.counter _ (ahead c.loop.rest) _ c.loop-test.false c.loop.invariant.total
 
 pub unary_expression-returns-in_err-operand-clause-tree : goal.unary_expression-returns-in_err-operand-clause-tree
 unary_expression-returns-in_err-operand-clause-tree t c =

@@ -1,6 +1,6 @@
 use Rattle.std.proofs.Common.{refl}
 use Rattle.std.proofs.lemmas.Result.{err_from_is_err_and}
-use Rattle.parser_base.specs.Reading.{parenthesized_type, behind_arrow}
+use Rattle.parser_base.specs.Reading.{parenthesized_type, after_arrow}
 use Rattle.parser_base.proofs.Results.{step_fails}
 use Rattle.parser_base.proofs.types.+type_at.Goals as goal
 
@@ -38,12 +38,12 @@ channel_type-returns-in_err-node t c =
 pub channel_type-returns : goal.channel_type-returns
 channel_type-returns t c = rw (c.in_ok-node.ensures.ok, c.in_ok-element.ensures) refl
 
-pub behind_arrow-returns-in_err-rest : goal.behind_arrow-returns-in_err-rest
-unfolding behind_arrow
-behind_arrow-returns-in_err-rest t c =
+pub after_arrow-returns-in_err-rest : goal.after_arrow-returns-in_err-rest
+unfolding after_arrow
+after_arrow-returns-in_err-rest t c =
     let p = err_from_is_err_and c.from_residual.result c.from_residual.ensures.1 in
     rw (p.1, p.2) (step_fails c.in_err-rest.field-0.0 _ _ c.in_err-rest.ensures.gives)
 
-pub behind_arrow-returns : goal.behind_arrow-returns
-unfolding behind_arrow
-behind_arrow-returns t c = rw c.in_ok-rest.ensures.gives c.channel_type.ensures
+pub after_arrow-returns : goal.after_arrow-returns
+unfolding after_arrow
+after_arrow-returns t c = rw c.in_ok-rest.ensures.gives c.channel_type.ensures

@@ -9,10 +9,10 @@ use Rattle.parser_simple.specs.Reading.{defines}
 use Rattle.parser_simple.proofs.form.defines.Goals as goal
 
 -- a name and a mark
-turn : (words behind after : List Lexeme) (name : List ℕ) (kind : TokenKind) → words ≡ Name name ∷ behind → behind ≡ Mark kind ∷ after
+turn : (words following after : List Lexeme) (name : List ℕ) (kind : TokenKind) → words ≡ Name name ∷ following → following ≡ Mark kind ∷ after
     → defines true words ≡ (if is_kind kind kinds.Define then true else (if is_kind kind kinds.Comma then defines true after else false))
 unfolding defines
-turn words behind after name kind first second = rw (first, second) refl
+turn words following after name kind first second = rw (first, second) refl
 
 next : (define other comma rest total : Bool) → other ≡ (if define then true else (if comma then rest else false)) → false ≡ define → false ≡ not comma → other ≡ total → rest ≡ total
 next false other true rest total is plain separates so_far = sym is ∙ so_far

@@ -17,18 +17,18 @@ returns-in_err-one c =
 pub returns-in_err-next : goal.returns-in_err-next
 returns-in_err-next c =
     let p = err_from_is_err_and c.from_residual-in_err-next.result c.from_residual-in_err-next.ensures.1 in
-    rw (p.1, p.2) (next_fails c.in_err-next.field-0.0 (plain_name) (separator_next begins_name c.args.separator) (TooMany Entries) (c.args.most) c.loop.counter _ (ahead c.loop.rest) (name_of c.in_ok-one.one) (ahead c.in_ok-one.behind) _ c.loop-test.true c.in_ok-one.ensures c.in_err-next.ensures.gives c.loop.invariant.total)
+    rw (p.1, p.2) (next_fails c.in_err-next.field-0.0 (plain_name) (separator_next begins_name c.args.separator) (TooMany Entries) (c.args.most) c.loop.counter _ (ahead c.loop.rest) (name_of c.in_ok-one.one) (ahead c.in_ok-one.following) _ c.loop-test.true c.in_ok-one.ensures c.in_err-next.ensures.gives c.loop.invariant.total)
 
 pub returns-in-End : goal.returns-in-End
 returns-in-End c =
     let pushed = chosen _ _ _ _ c.push.ensures.items (ap is_ok c.in_ok-push.was) in
-    rw pushed (ends name_of (plain_name) (separator_next begins_name c.args.separator) (TooMany Entries) (c.args.most) c.loop.counter c.loop.entries.items (ahead c.loop.rest) c.in_ok-one.one c.in-End.trailing (ahead c.in_ok-one.behind) (ahead c.in_ok-next.after) _ c.loop-test.true c.in_ok-one.ensures (rw c.in-End.is at c.in_ok-next.ensures.gives) c.loop.invariant.total)
+    rw pushed (ends name_of (plain_name) (separator_next begins_name c.args.separator) (TooMany Entries) (c.args.most) c.loop.counter c.loop.entries.items (ahead c.loop.rest) c.in_ok-one.one c.in-End.trailing (ahead c.in_ok-one.following) (ahead c.in_ok-next.after) _ c.loop-test.true c.in_ok-one.ensures (rw c.in-End.is at c.in_ok-next.ensures.gives) c.loop.invariant.total)
 
 pub loop-preserved : goal.loop-preserved
 loop-preserved c =
     let pushed = chosen _ _ _ _ c.push.ensures.items (ap is_ok c.in_ok-push.was) in
     record {
-      total = rw pushed (more name_of (plain_name) (separator_next begins_name c.args.separator) (TooMany Entries) (c.args.most) c.loop.counter c.loop.entries.items (ahead c.loop.rest) c.in_ok-one.one (ahead c.in_ok-one.behind) (ahead c.in_ok-next.after) _ c.loop-test.true c.in_ok-one.ensures (rw c.in-More.is at c.in_ok-next.ensures.gives) c.loop.invariant.total);
+      total = rw pushed (more name_of (plain_name) (separator_next begins_name c.args.separator) (TooMany Entries) (c.args.most) c.loop.counter c.loop.entries.items (ahead c.loop.rest) c.in_ok-one.one (ahead c.in_ok-one.following) (ahead c.in_ok-next.after) _ c.loop-test.true c.in_ok-one.ensures (rw c.in-More.is at c.in_ok-next.ensures.gives) c.loop.invariant.total);
     }
 
 pub returns : goal.returns

@@ -11,5 +11,5 @@ use Rattle.parser_simple.proofs.right.expression_list.Given as goal
 
 abbrev pub invariant-loop : goal.invariant-loop
 invariant-loop l = record {
-  total : with_front (map expression_of l.entries.items) (listed (expression l.literals 64 l.room 0) (separator_next begins kinds.Comma) (TooMany Entries) (64 - l.counter) (ahead l.rest)) ≡ listed (expression l.literals 64 l.room 0) (separator_next begins kinds.Comma) (TooMany Entries) (64) (ahead l.fn.cursor);
+  total : with_front (map expression_of l.entries.items) (listed (expression l.literals 64 l.depth_left 0) (separator_next begins kinds.Comma) (TooMany Entries) (64 - l.counter) (ahead l.rest)) ≡ listed (expression l.literals 64 l.depth_left 0) (separator_next begins kinds.Comma) (TooMany Entries) (64) (ahead l.fn.cursor);
 }

@@ -13,24 +13,24 @@ use Rattle.parser_simple.proofs.simple.print_argument_list.Goals as goal
 pub returns-in_err-one : goal.returns-in_err-one
 returns-in_err-one c =
     let p = err_from_is_err_and c.from_residual.result c.from_residual.ensures.1 in
-    rw (p.1, p.2) (one_fails c.in_err-one.field-0.0 (part c.args.literals 64 c.args.room) (entry_next kinds.Comma begins_part kinds.RightParenthesis) (TooMany Entries) (64) c.loop.counter _ (ahead c.loop.rest) _ c.loop-test.true c.in_err-one.ensures c.loop.invariant.total)
+    rw (p.1, p.2) (one_fails c.in_err-one.field-0.0 (part c.args.literals 64 c.args.depth_left) (entry_next kinds.Comma begins_part kinds.RightParenthesis) (TooMany Entries) (64) c.loop.counter _ (ahead c.loop.rest) _ c.loop-test.true c.in_err-one.ensures c.loop.invariant.total)
 
 pub returns-in_err-next : goal.returns-in_err-next
 returns-in_err-next c =
     let p = err_from_is_err_and c.from_residual-in_err-next.result c.from_residual-in_err-next.ensures.1 in
-    rw (p.1, p.2) (next_fails c.in_err-next.field-0.0 (part c.args.literals 64 c.args.room) (entry_next kinds.Comma begins_part kinds.RightParenthesis) (TooMany Entries) (64) c.loop.counter _ (ahead c.loop.rest) (part_of c.in_ok-one.one) (ahead c.in_ok-one.behind) _ c.loop-test.true c.in_ok-one.ensures c.in_err-next.ensures.gives c.loop.invariant.total)
+    rw (p.1, p.2) (next_fails c.in_err-next.field-0.0 (part c.args.literals 64 c.args.depth_left) (entry_next kinds.Comma begins_part kinds.RightParenthesis) (TooMany Entries) (64) c.loop.counter _ (ahead c.loop.rest) (part_of c.in_ok-one.one) (ahead c.in_ok-one.following) _ c.loop-test.true c.in_ok-one.ensures c.in_err-next.ensures.gives c.loop.invariant.total)
 
 pub returns-in-End : goal.returns-in-End
 returns-in-End c =
     let pushed = chosen _ _ _ _ c.push.ensures.items (ap is_ok c.in_ok-push.was) in
-    rw pushed (ends part_of (part c.args.literals 64 c.args.room) (entry_next kinds.Comma begins_part kinds.RightParenthesis) (TooMany Entries) (64) c.loop.counter c.loop.entries.items (ahead c.loop.rest) c.in_ok-one.one c.in-End.trailing (ahead c.in_ok-one.behind) (ahead c.in_ok-next.after) _ c.loop-test.true c.in_ok-one.ensures (rw c.in-End.is at c.in_ok-next.ensures.gives) c.loop.invariant.total)
+    rw pushed (ends part_of (part c.args.literals 64 c.args.depth_left) (entry_next kinds.Comma begins_part kinds.RightParenthesis) (TooMany Entries) (64) c.loop.counter c.loop.entries.items (ahead c.loop.rest) c.in_ok-one.one c.in-End.trailing (ahead c.in_ok-one.following) (ahead c.in_ok-next.after) _ c.loop-test.true c.in_ok-one.ensures (rw c.in-End.is at c.in_ok-next.ensures.gives) c.loop.invariant.total)
 
 pub loop-preserved : goal.loop-preserved
 loop-preserved c =
     let pushed = chosen _ _ _ _ c.push.ensures.items (ap is_ok c.in_ok-push.was) in
     record {
-      total = rw pushed (more part_of (part c.args.literals 64 c.args.room) (entry_next kinds.Comma begins_part kinds.RightParenthesis) (TooMany Entries) (64) c.loop.counter c.loop.entries.items (ahead c.loop.rest) c.in_ok-one.one (ahead c.in_ok-one.behind) (ahead c.in_ok-next.after) _ c.loop-test.true c.in_ok-one.ensures (rw c.in-More.is at c.in_ok-next.ensures.gives) c.loop.invariant.total);
+      total = rw pushed (more part_of (part c.args.literals 64 c.args.depth_left) (entry_next kinds.Comma begins_part kinds.RightParenthesis) (TooMany Entries) (64) c.loop.counter c.loop.entries.items (ahead c.loop.rest) c.in_ok-one.one (ahead c.in_ok-one.following) (ahead c.in_ok-next.after) _ c.loop-test.true c.in_ok-one.ensures (rw c.in-More.is at c.in_ok-next.ensures.gives) c.loop.invariant.total);
     }
 
 pub returns : goal.returns
-returns c = is_full (part c.args.literals 64 c.args.room) (entry_next kinds.Comma begins_part kinds.RightParenthesis) (TooMany Entries) (64) c.loop.counter _ (ahead c.loop.rest) _ c.loop-test.false c.loop.invariant.total
+returns c = is_full (part c.args.literals 64 c.args.depth_left) (entry_next kinds.Comma begins_part kinds.RightParenthesis) (TooMany Entries) (64) c.loop.counter _ (ahead c.loop.rest) _ c.loop-test.false c.loop.invariant.total

@@ -11,5 +11,5 @@ use Rattle.parser_simple.proofs.simple.print_argument_list.Given as goal
 
 abbrev pub invariant-loop : goal.invariant-loop
 invariant-loop l = record {
-  total : with_front (map part_of l.entries.items) (listed (part l.literals 64 l.room) (entry_next kinds.Comma begins_part kinds.RightParenthesis) (TooMany Entries) (64 - l.counter) (ahead l.rest)) ≡ listed (part l.literals 64 l.room) (entry_next kinds.Comma begins_part kinds.RightParenthesis) (TooMany Entries) (64) (ahead l.fn.cursor);
+  total : with_front (map part_of l.entries.items) (listed (part l.literals 64 l.depth_left) (entry_next kinds.Comma begins_part kinds.RightParenthesis) (TooMany Entries) (64 - l.counter) (ahead l.rest)) ≡ listed (part l.literals 64 l.depth_left) (entry_next kinds.Comma begins_part kinds.RightParenthesis) (TooMany Entries) (64) (ahead l.fn.cursor);
 }

@@ -10,9 +10,9 @@ pub returns-in-Some : goal.returns-in-Some
 returns-in-Some t c =
     let types = c.args.types.now in
     let inner = c.deref-in-Channel.ensures in
-    let behind = c.deref-in-Some.ensures in
+    let following = c.deref-in-Some.ensures in
     let called = c.global_type_in-in-Channel.ensures in
     let some = c.in-Some.is in
     let found : Some (kind_of types c.in-Some.field-0) ≡ type_in types nothing_declared (type_of c.in-Channel.element.value) = rw (← inner) (rw some at called) in
     let h = channel_written types nothing_declared c.in-Channel.direction (type_of c.in-Channel.element.value) (kind_of types c.in-Some.field-0) found in
-    rw behind (search (rules, the_lemmas, h))
+    rw following (search (rules, the_lemmas, h))

@@ -1,7 +1,7 @@
 use Rattle.std.proofs.Common.{◌≡◌, ℕ, None}
 use Rattle.std.specs.Prelude.{sum_by}
 use Rattle.book.specs.Desks.{OnlyLooks}
-use Rattle.book.proofs.Settling.{behind}
+use Rattle.book.proofs.Settling.{following}
 use Rattle.book.proofs.book_model.Book.look_before.Given as goal
 
 abbrev pub invariant-loop-number : goal.invariant-loop-number
@@ -11,4 +11,4 @@ invariant-loop-number g l = record {
 }
 
 abbrev pub decreases-loop-number : goal.decreases-loop-number
-decreases-loop-number g l = sum_by (behind l.key) l.self.core.rows
+decreases-loop-number g l = sum_by (following l.key) l.self.core.rows

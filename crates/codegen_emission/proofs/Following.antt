@@ -13,7 +13,7 @@ use Rattle.codegen_header.specs.Simples.{Appends}
 use Rattle.codegen_emission.specs.declared.emitter.Emitter.{Emitter}
 use Rattle.codegen_flow.specs.Controls.{Control, through}
 use Rattle.codegen_emission.specs.Emitted.{Emits}
-use Rattle.codegen_flow.proofs.Filled.{makes_behind, makes_length}
+use Rattle.codegen_flow.proofs.Filled.{makes_after, makes_length}
 use Rattle.codegen_emission.proofs.Emitting.{keeps_both}
 
 -- ---- such code
@@ -38,10 +38,10 @@ before_none rest _ none (Here _) place = none place
 before_none rest _ none (Step i _ p g) place = before_none rest p none g (place + 1)
 before_none rest _ none (Choice _ so other p x y g) place =
     let at = place + 1 + size so + jump_size so in
-    let behind = tables (place + size (IfElse so other)) p in
-    ap (λ (l : List SelectTable). (l ++ tables at other) ++ cond (reaches_end (IfElse so other)) behind []) (before_none Skip so (λ to. refl) x (place + 1))
-    ∙ ap (λ (l : List SelectTable). l ++ cond (reaches_end (IfElse so other)) behind []) (before_none Skip other (λ to. refl) y at)
-    ∙ ap (λ b. cond b behind []) (ap (λ t. t || reaches_end other) (before_ends Skip so x)) ∙ before_none rest p none g (place + size (IfElse so other))
+    let following = tables (place + size (IfElse so other)) p in
+    ap (λ (l : List SelectTable). (l ++ tables at other) ++ cond (reaches_end (IfElse so other)) following []) (before_none Skip so (λ to. refl) x (place + 1))
+    ∙ ap (λ (l : List SelectTable). l ++ cond (reaches_end (IfElse so other)) following []) (before_none Skip other (λ to. refl) y at)
+    ∙ ap (λ b. cond b following []) (ap (λ t. t || reaches_end other) (before_ends Skip so x)) ∙ before_none rest p none g (place + size (IfElse so other))
 
 -- the select tables are those of what follows it
 pub before_tables : (rest p : Plan) (place to : ℕ) → Before rest p → place + size p ≡ to + size rest → tables place p ≡ tables to rest
@@ -51,19 +51,19 @@ before_tables rest _ place to (Choice _ so other p x y g) e =
     let at = place + 1 + size so + jump_size so in
     let on : reaches_end (IfElse so other) ≡ true = ap (λ t. t || reaches_end other) (before_ends Skip so x) in
     let n : cond (reaches_end (IfElse so other)) (size p) 0 ≡ size p = ap (λ b. cond b (size p) 0) on in
-    let behind = tables (place + size (IfElse so other)) p in
-    ap (λ (l : List SelectTable). (l ++ tables at other) ++ cond (reaches_end (IfElse so other)) behind []) (before_none Skip so (λ m. refl) x (place + 1))
-    ∙ ap (λ (l : List SelectTable). l ++ cond (reaches_end (IfElse so other)) behind []) (before_none Skip other (λ m. refl) y at)
-    ∙ ap (λ b. cond b behind []) on ∙ before_tables rest p (place + size (IfElse so other)) to g (omega (arith, e, n))
+    let following = tables (place + size (IfElse so other)) p in
+    ap (λ (l : List SelectTable). (l ++ tables at other) ++ cond (reaches_end (IfElse so other)) following []) (before_none Skip so (λ m. refl) x (place + 1))
+    ∙ ap (λ (l : List SelectTable). l ++ cond (reaches_end (IfElse so other)) following []) (before_none Skip other (λ m. refl) y at)
+    ∙ ap (λ b. cond b following []) on ∙ before_tables rest p (place + size (IfElse so other)) to g (omega (arith, e, n))
 
 pub alone_tables : (p : Plan) (place : ℕ) → Before Skip p → tables place p ≡ []
 alone_tables p place b = before_none Skip p (λ to. refl) b place
 
 module _ (table : TypeTable) where
-  pub emits_behind : (part : Plan → Plan) (e0 e1 e2 : Emitter) (flow : Control) (rest : Made) → Before rest.plan (part rest.plan) → Puts e0.code.items e1.code.items part → e1.prints.items ≡ e0.prints.items → e1.selects.items ≡ e0.selects.items
+  pub emits_after : (part : Plan → Plan) (e0 e1 e2 : Emitter) (flow : Control) (rest : Made) → Before rest.plan (part rest.plan) → Puts e0.code.items e1.code.items part → e1.prints.items ≡ e0.prints.items → e1.selects.items ≡ e0.selects.items
       → Keeps e0.layout.visible e1.layout.visible → Emits table e1 e2 flow rest → Emits table e0 e2 flow (made_of (part rest.plan) rest.prints rest.layout)
-  emits_behind part e0 e1 e2 flow rest before puts prints selects kept e =
-      let c = makes_behind e0.code.items e1.code.items e2.code.items flow.waits part rest.plan puts e.code in
+  emits_after part e0 e1 e2 flow rest before puts prints selects kept e =
+      let c = makes_after e0.code.items e1.code.items e2.code.items flow.waits part rest.plan puts e.code in
       let n = sym (makes_length e0.code.items e2.code.items flow.waits (part rest.plan) c) ∙ makes_length e1.code.items e2.code.items flow.waits rest.plan e.code in
       record {
         code = c;

@@ -1,6 +1,6 @@
 use Rattle.std.proofs.Common.{◌≡◌, ◌+◌, ◌≤◌, drop}
 use Rattle.go_text.specs.Lines.{position_after}
-use Rattle.go_text.proofs.place.position_behind.Given as goal
+use Rattle.go_text.proofs.place.position_following.Given as goal
 
 abbrev pub invariant-loop-byte : goal.invariant-loop-byte
 invariant-loop-byte l = record {

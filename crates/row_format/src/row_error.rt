@@ -13,7 +13,7 @@ const BEFORE: usize = 20;
 
 /// Why a file of rows fails.
 #[derive(Debug, Drop, Error)]
-pub enum Flaw {
+pub enum RowError {
     /// A call of a crate, named by what it must show, shows something else.
     #[error("it does not hold")]
     Call,
@@ -63,38 +63,38 @@ pub enum Flaw {
     Io(io::Error),
 }
 
-impl From<io::Error> for Flaw {
-    fn from(error: io::Error) -> Flaw {
-        Flaw::Io(error)
+impl From<io::Error> for RowError {
+    fn from(error: io::Error) -> RowError {
+        RowError::Io(error)
     }
 }
 
-impl From<Fault> for Flaw {
-    fn from(fault: Fault) -> Flaw {
-        Flaw::Refused(fault)
+impl From<Fault> for RowError {
+    fn from(fault: Fault) -> RowError {
+        RowError::Refused(fault)
     }
 }
 
-impl From<AllocError> for Flaw {
-    fn from(_error: AllocError) -> Flaw {
-        Flaw::Refused(Fault::Memory)
+impl From<AllocError> for RowError {
+    fn from(_error: AllocError) -> RowError {
+        RowError::Refused(Fault::Memory)
     }
 }
 
-impl<T: Drop> From<AllocFailed<T>> for Flaw {
-    fn from(_error: AllocFailed<T>) -> Flaw {
-        Flaw::Refused(Fault::Memory)
+impl<T: Drop> From<AllocFailed<T>> for RowError {
+    fn from(_error: AllocFailed<T>) -> RowError {
+        RowError::Refused(Fault::Memory)
     }
 }
 
 /// Compares what came with what was wanted; `what` names it.
-pub fn same(alloc: Global, what: &str, wanted: &[u8], came: &[u8]) -> Result<(), Flaw> {
+pub fn same(alloc: Global, what: &str, wanted: &[u8], came: &[u8]) -> Result<(), RowError> {
     if wanted == came {
         return Ok(());
     }
     let pairs = wanted.iter().zip(came.iter());
     let at = pairs.take_while(|(left, right)| left == right).count();
-    Err(Flaw::Differs {
+    Err(RowError::Differs {
         what: what.to_string(alloc)?,
         at,
         wanted: shown(alloc, wanted, at)?,
@@ -107,6 +107,6 @@ pub fn shown(alloc: Global, bytes: &[u8], at: usize) -> Result<String, AllocErro
     let from = at.saturating_sub(BEFORE).min(bytes.len());
     let rest = &bytes[from..];
     let piece = String::from_utf8_lossy(alloc, &rest[..rest.len().min(SHOWN)])?;
-    let behind = if rest.len() > SHOWN { " .." } else { "" };
-    format!(in alloc; "{piece:?}{behind}")
+    let following = if rest.len() > SHOWN { " .." } else { "" };
+    format!(in alloc; "{piece:?}{following}")
 }

@@ -1,4 +1,4 @@
--- Behind a statement in which nothing is wrong, the layout has the variables that the typing rules see.
+-- After a statement in which nothing is wrong, the layout has the variables that the typing rules see.
 use Rattle.std.proofs.Common.{◌≡◌, ℕ, ◌≤◌, Bool, true, false, ◌&&◌, List, [], ◌∷◌, ◌++◌, length, drop, Option, Some, None, refl, sym, ap, ◌∙◌, subst, bytes_eq}
 use Rattle.std.specs.Prelude.{if◌then◌else◌, not}
 use Rattle.std.specs.Option.{is_none}

@@ -1,6 +1,6 @@
 use Rattle.std.proofs.Common.{◌^◌, ◌∙◌}
 use Rattle.parser_base.proofs.Literals.{limited_digit}
-use Rattle.parser_base.proofs.literal.number_behind.Goals as goal
+use Rattle.parser_base.proofs.literal.number_after.Goals as goal
 
 pub loop-digit-preserved : goal.loop-digit-preserved
 loop-digit-preserved c =
