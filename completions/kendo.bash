@@ -8,7 +8,7 @@ _kendo() {
         return
     fi
     case $previous in
-        --workers | --limit | --from | --last | --event | --at | --tries | --states) return ;;
+        --workers | --limit | --from | --last | --event | --at | --tries | --states | --seconds) return ;;
         --trace | --out | --pauses | --against)
             mapfile -t COMPREPLY < <(compgen -f -- "$current")
             return
@@ -23,8 +23,8 @@ _kendo() {
         list) options='--explain' ;;
         reference) options='--limit --pauses --explain' ;;
         timeline) options='--limit --from --last --pauses --out --explain' ;;
-        explore) options='--limit --tries --states --ends --unordered --leaks --whole --out --explain' ;;
-        test) options='--limit --orders --tries --states --out --explain' ;;
+        explore) options='--limit --tries --states --seconds --ends --ordered --unordered --leaks --whole --out --explain' ;;
+        test) options='--limit --orders --tries --states --seconds --leaks --out --explain' ;;
         inspect) options='--event --at --limit --pauses --explain' ;;
         run) options='--workers --limit --trace --pauses --against --strict --explain' ;;
     esac

@@ -122,18 +122,24 @@ chosen_timeline = with_rule (with_rule (with_rule (with_rule (new_app (codes "ti
 abbrev pub timeline : App
 timeline = with_rule (with_rule (with_rule chosen_timeline pauses) out) explain
 
--- kendo explore FILE [--limit L] [--tries N] [--states N]
+-- how many seconds a search takes at most
+abbrev pub seconds : Rule
+seconds = whole (codes "seconds")
+
+-- kendo explore FILE [--limit L] [--tries N] [--states N] [--seconds N]
 abbrev pub long_explore : App
 long_explore =
-    with_rule (with_rule (with_rule (with_rule (new_app (codes "explore")) file) limit) (number (codes "tries") (codes "200"))) (number (codes "states") (codes "1000000"))
+    with_rule
+    (with_rule (with_rule (with_rule (with_rule (new_app (codes "explore")) file) limit) (number (codes "tries") (codes "200"))) (number (codes "states") (codes "1000000")))
+    seconds
 
--- kendo explore FILE [--limit L] [--tries N] [--states N] [--ends] [--unordered] [--leaks] [--whole]
-abbrev pub chosen_explore : App
-chosen_explore = with_rule (with_rule (with_rule (with_rule long_explore (flag (codes "ends"))) (flag (codes "unordered"))) (flag (codes "leaks"))) (flag (codes "whole"))
+-- kendo explore FILE [--limit L] [--tries N] [--states N] [--seconds N] [--ends] [--ordered] [--unordered]
+abbrev pub lined_explore : App
+lined_explore = with_rule (with_rule (with_rule long_explore (flag (codes "ends"))) (flag (codes "ordered"))) (flag (codes "unordered"))
 
--- kendo explore FILE [--limit L] [--tries N] [--states N] [--ends] [--unordered] [--leaks] [--whole] [--out DIR] [--explain]
+-- kendo explore FILE [--limit L] [--tries N] [--states N] [--seconds N] [--ends] [--ordered] [--unordered] [--leaks] [--whole] [--out DIR] [--explain]
 abbrev pub explore : App
-explore = with_rule (with_rule chosen_explore out) explain
+explore = with_rule (with_rule (with_rule (with_rule lined_explore (flag (codes "leaks"))) (flag (codes "whole"))) out) explain
 
 -- kendo test FILE.. [--limit L] [--orders] [--tries N] [--states N]
 abbrev pub long_test : App
@@ -141,9 +147,9 @@ long_test =
     with_rule (with_rule (with_rule (with_rule (with_rule (new_app (codes "test")) files) limit) (flag (codes "orders"))) (number (codes "tries") (codes "200")))
     (number (codes "states") (codes "1000000"))
 
--- kendo test FILE.. [--limit L] [--orders] [--tries N] [--states N] [--out DIR] [--explain]
+-- kendo test FILE.. [--limit L] [--orders] [--tries N] [--states N] [--seconds N] [--leaks] [--out DIR] [--explain]
 abbrev pub test : App
-test = with_rule (with_rule long_test out) explain
+test = with_rule (with_rule (with_rule (with_rule long_test seconds) (flag (codes "leaks"))) out) explain
 
 -- the event after which a run is shown, and the clock
 abbrev pub event : Rule
@@ -204,8 +210,10 @@ rule_for arguments.Out = out
 rule_for arguments.Folder = out
 rule_for arguments.Tries = number (codes "tries") (codes "200")
 rule_for arguments.States = number (codes "states") (codes "1000000")
+rule_for arguments.Seconds = seconds
 rule_for arguments.Ends = flag (codes "ends")
 rule_for arguments.Unordered = flag (codes "unordered")
+rule_for arguments.Ordered = flag (codes "ordered")
 rule_for arguments.Leaks = flag (codes "leaks")
 rule_for arguments.Whole = flag (codes "whole")
 rule_for arguments.Orders = flag (codes "orders")
@@ -263,7 +271,7 @@ IsNumberThere text None = (n : ℕ) → IsNumber text n → ⊥
 abbrev pub IsSet : (name : Text) → List Row → Bool → Type 0
 IsSet name rows set = IsTrue set ↔ (first_of name rows ≡ Some (codes "true"))
 
--- Like `Does`, but with the source files, the files of the trace, of the plan, of the trace that a run is compared with and of the picture, the events of the picture, the moment that is shown, what counts in an exploration, whether other orders are tested, and whether errors and ends are explained
+-- Like `Does`, but with the source files, the files of the trace, of the plan, of the trace that a run is compared with and of the picture, the events of the picture, the moment that is shown, the seconds of a search, what counts in an exploration, whether other orders are tested, and whether errors and ends are explained
 abbrev pub Asks : Text × List Row → Invocation → Type 0
 Asks (name, rows) invocation =
     Does name rows invocation.subcommand × (first_of (codes "FILE") rows ≡ Some invocation.file.now)
@@ -272,6 +280,7 @@ Asks (name, rows) invocation =
     × IsNumberThere (one_of (codes "last") rows) invocation.last
     × IsNumberThere (one_of (codes "event") rows) invocation.event
     × IsNumberThere (one_of (codes "at") rows) invocation.at
+    × IsNumberThere (one_of (codes "seconds") rows) invocation.seconds
     × (first_of (codes "trace") rows ≡ option_map (λ path. path.now) invocation.trace)
     × (first_of (codes "pauses") rows ≡ option_map (λ path. path.now) invocation.pauses)
     × (first_of (codes "against") rows ≡ option_map (λ path. path.now) invocation.against)
@@ -279,6 +288,7 @@ Asks (name, rows) invocation =
     × (first_of (codes "out") rows ≡ option_map (λ path. path.now) invocation.out)
     × IsSet (codes "ends") rows invocation.ends
     × IsSet (codes "unordered") rows invocation.unordered
+    × IsSet (codes "ordered") rows invocation.ordered
     × IsSet (codes "leaks") rows invocation.leaks
     × IsSet (codes "whole") rows invocation.whole
     × IsSet (codes "orders") rows invocation.orders

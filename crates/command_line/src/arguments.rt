@@ -25,8 +25,8 @@ Exit status:\n  \
 4   the limit of logical time was reached\n  \
 5   out of memory (13)\n  \
 6   an output could not be written (14)\n  \
-8   another order of events ends in another way, or a run is not the recorded one\n  \
-9   not all orders could be searched, with --whole\n  \
+8   some order of events ends in a deadlock or a panic or prints other lines, or a run is not the recorded one\n  \
+9   not all orders were searched, with --whole\n  \
 64  the command line, a number of workers (15), a limit (16) or a file can't be used";
 
 /// A command line that was accepted: what is done with which files.
@@ -54,11 +54,15 @@ pub struct Invocation<'m, 'a> {
     pub event: Option<u64>,
     /// The clock at which a run is inspected.
     pub at: Option<u64>,
+    /// How many seconds a search of other orders takes at most.
+    pub seconds: Option<u64>,
     /// Whether outputs of other orders don't count.
     pub ends: bool,
-    /// Whether the order of lines doesn't count.
+    /// Whether the order of lines doesn't count, as is the default.
     pub unordered: bool,
-    /// Whether goroutines that wait when `main` has returned count.
+    /// Whether the order of lines counts.
+    pub ordered: bool,
+    /// Whether goroutines that wait for good when `main` has returned count.
     pub leaks: bool,
     /// Whether the exit status reports that an exploration did not search all orders.
     pub whole: bool,
@@ -159,11 +163,15 @@ enum Argument {
     Tries,
     /// How many states are visited at most.
     States,
+    /// How many seconds a search of other orders takes at most.
+    Seconds,
     /// Whether outputs of other orders don't count.
     Ends,
-    /// Whether the order of lines doesn't count.
+    /// Whether the order of lines doesn't count, as is the default.
     Unordered,
-    /// Whether goroutines that wait when `main` has returned count.
+    /// Whether the order of lines counts.
+    Ordered,
+    /// Whether goroutines that wait for good when `main` has returned count.
     Leaks,
     /// Whether the exit status reports that an exploration did not search all orders.
     Whole,
@@ -182,6 +190,8 @@ struct TextCommand {
     about: &'static str,
     /// The arguments that it takes, in the order of the help text.
     arguments: &'static [Argument],
+    /// The end of its help text: an example.
+    example: &'static str,
 }
 
 /// The commands, in the order of the help.
@@ -190,11 +200,13 @@ const TEXT_COMMANDS: [TextCommand; 8] = [
         name: "check",
         about: "Checks programs for errors",
         arguments: &[Argument::Files, Argument::Explain],
+        example: "Example:\n  kendo check *.go",
     },
     TextCommand {
         name: "list",
         about: "Lists the code of a program",
         arguments: &[Argument::File, Argument::Explain],
+        example: "Example:\n  kendo list sieve.go",
     },
     TextCommand {
         name: "reference",
@@ -205,6 +217,7 @@ const TEXT_COMMANDS: [TextCommand; 8] = [
             Argument::Pauses,
             Argument::Explain,
         ],
+        example: "Example:\n  kendo reference sieve.go",
     },
     TextCommand {
         name: "timeline",
@@ -218,6 +231,7 @@ const TEXT_COMMANDS: [TextCommand; 8] = [
             Argument::Out,
             Argument::Explain,
         ],
+        example: "Example:\n  kendo timeline stages.go --out stages.svg",
     },
     TextCommand {
         name: "explore",
@@ -227,13 +241,16 @@ const TEXT_COMMANDS: [TextCommand; 8] = [
             Argument::Limit,
             Argument::Tries,
             Argument::States,
+            Argument::Seconds,
             Argument::Ends,
+            Argument::Ordered,
             Argument::Unordered,
             Argument::Leaks,
             Argument::Whole,
             Argument::Folder,
             Argument::Explain,
         ],
+        example: "Example:\n  kendo explore account.go --seconds 10",
     },
     TextCommand {
         name: "test",
@@ -244,9 +261,12 @@ const TEXT_COMMANDS: [TextCommand; 8] = [
             Argument::Orders,
             Argument::Tries,
             Argument::States,
+            Argument::Seconds,
+            Argument::Leaks,
             Argument::Folder,
             Argument::Explain,
         ],
+        example: "Example:\n  kendo test --orders *.go",
     },
     TextCommand {
         name: "inspect",
@@ -259,6 +279,7 @@ const TEXT_COMMANDS: [TextCommand; 8] = [
             Argument::Pauses,
             Argument::Explain,
         ],
+        example: "Example:\n  kendo inspect stages.go --event 20",
     },
     TextCommand {
         name: "run",
@@ -273,6 +294,7 @@ const TEXT_COMMANDS: [TextCommand; 8] = [
             Argument::Strict,
             Argument::Explain,
         ],
+        example: "Example:\n  kendo run sieve.go --workers 8 --trace sieve.trace",
     },
 ];
 
@@ -425,25 +447,36 @@ fn argument_of<'a>(alloc: Global, argument: Argument) -> Arg<'a>
             "How many states are visited at most",
             "1000000",
         ),
+        Argument::Seconds => whole_argument(
+            alloc,
+            "seconds",
+            "N",
+            "Ends the search after N seconds, with what was found so far",
+        ),
         Argument::Ends => flag_argument(
             alloc,
             "ends",
-            "Counts only deadlocks and panics as other ends, not outputs",
+            "Reports deadlocks and panics only, not outputs",
         ),
         Argument::Unordered => flag_argument(
             alloc,
             "unordered",
-            "Does not count the order of lines",
+            "Ignores the order of lines, as is the default",
+        ),
+        Argument::Ordered => flag_argument(
+            alloc,
+            "ordered",
+            "Tells outputs with the same lines in another order apart",
         ),
         Argument::Leaks => flag_argument(
             alloc,
             "leaks",
-            "Counts goroutines that wait when main has returned",
+            "Counts it as a fault if goroutines wait for good when main has returned",
         ),
         Argument::Whole => flag_argument(
             alloc,
             "whole",
-            "Exits with 9 if not all orders could be searched",
+            "Exits with 9 if not all orders were searched",
         ),
         Argument::Orders => flag_argument(
             alloc,
@@ -463,7 +496,9 @@ fn text_command<'a>(alloc: Global, listed: &TextCommand) -> Result<Command<'a>, 
     ensures app { IfOk result (λ c. app_of c ≡ app_for listed.now) }
     ensures local { IfOk result IsLocal }
 {
-    let mut command = Command::new(alloc, listed.name).about(listed.about);
+    let mut command = Command::new(alloc, listed.name)
+        .about(listed.about)
+        .after_help(listed.example);
     for argument in listed.arguments {
         command = command.arg(argument_of(alloc, *argument))?;
     }
@@ -587,8 +622,10 @@ pub fn invocation_of<'m, 'a>(matches: &'m ArgMatches<'a>) -> Option<Invocation<'
     let last = option_number(matches, "last");
     let event = option_number(matches, "event");
     let at = option_number(matches, "at");
+    let seconds = option_number(matches, "seconds");
     let ends = is_set(matches, "ends");
     let unordered = is_set(matches, "unordered");
+    let ordered = is_set(matches, "ordered");
     let leaks = is_set(matches, "leaks");
     let whole = is_set(matches, "whole");
     let orders = is_set(matches, "orders");
@@ -606,8 +643,10 @@ pub fn invocation_of<'m, 'a>(matches: &'m ArgMatches<'a>) -> Option<Invocation<'
         last,
         event,
         at,
+        seconds,
         ends,
         unordered,
+        ordered,
         leaks,
         whole,
         orders,

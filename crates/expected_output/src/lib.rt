@@ -11,4 +11,5 @@ mod said;
 
 pub use expectation::{Expectation, ExpectationError, ExpectedOutput};
 pub use lines::sorted_lines;
+pub use meeting::have_same_lines;
 pub use printed::{MOST_BYTES, Printed};

@@ -46,7 +46,9 @@ impl ExpectedOutput {
 }
 
 /// Whether two texts have the same lines, each as often.
-fn have_same_lines(alloc: Global, one: &str, other: &str) -> Result<bool, Memory>
+///
+/// Errors: out of memory.
+pub fn have_same_lines(alloc: Global, one: &str, other: &str) -> Result<bool, Memory>
     ensures yes { IfOk result (λ same. IsTrue same → HaveSameLines one.now other.now) }
     ensures no { IfOk result (λ same. HaveSameLines one.now other.now → IsTrue same) }
 {

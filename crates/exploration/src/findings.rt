@@ -1,8 +1,9 @@
 //! What is found in other orders of a program's events.
 
-ghost use Rattle.std.specs.Prelude.{◌≡◌, ◌↔◌, [], ◌∷◌, ◌++◌, IsTrue, OnOk, false};
+ghost use Rattle.std.specs.Prelude.{◌≡◌, ◌↔◌, [], ◌∷◌, ◌++◌, IsTrue, OnOk, Some, false, true};
 ghost use Rattle.std.specs.List.{list_all};
-ghost use Rattle.exploration.specs.Shown as limits;
+ghost use Rattle.exploration.specs.Shown as ends;
+ghost use Rattle.exploration.specs.declared.runner.Ran.{Ran as RanValue};
 
 use crate::runner::Ran;
 use crate::shown::Shown;
@@ -14,12 +15,16 @@ use word::panic::Panic;
 /// The result of an exploration.
 #[derive(Clone, Copy, PartialEq, Eq)]
 pub enum Verdict {
-    /// All orders were searched, and all end in the same way.
+    /// All orders were searched: all end like the ordinary run, and not in an error.
     Same,
-    /// All orders searched so far end in the same way, or at a limit that Go doesn't have.
+    /// All orders were searched: none ends in an error, and those that end all do so in the same way. The ordinary run did not end in time.
+    Unended,
+    /// All orders searched so far end in the same way, and not in an error, or at a limit that Go doesn't have.
     SameSoFar,
-    /// There is another end.
+    /// An order ends in an error, or in another way than the ordinary run.
     Other,
+    /// The search found such an order, but no run of the interpreter that shows it.
+    Unshown,
 }
 
 /// How a program ends in the orders of its events that were searched.
@@ -27,12 +32,14 @@ pub enum Verdict {
 pub struct Findings {
     /// How the ordinary run ends; none if it does not end in time.
     pub ordinary: Option<Ran>,
-    /// The other ends that were shown, the first one of number 2.
+    /// The other ends that were shown, in the order of their numbers in the report.
     pub shown: Vec<Shown>,
-    /// How many ends were found that the ordinary run doesn't have.
-    pub(crate) others: usize,
-    /// How many of the other ends no run showed.
-    pub(crate) missed: usize,
+    /// How many of these come before the ordinary end in the report.
+    pub(crate) first: usize,
+    /// The indices, among the ends of the search, of those that no run showed.
+    pub(crate) missed: Vec<usize>,
+    /// How many other ends are only counted.
+    pub(crate) counted: usize,
 }
 
 impl Findings {
@@ -41,11 +48,13 @@ impl Findings {
         ensures ordinary { result.ordinary ≡ ordinary }
         ensures shown { result.shown.items ≡ [] }
     {
+        let first = if has_error(&ordinary) { 0 } else { usize::MAX };
         Findings {
             ordinary,
             shown: Vec::new(alloc),
-            others: 0,
-            missed: 0,
+            first,
+            missed: Vec::new(alloc),
+            counted: 0,
         }
     }
 
@@ -54,16 +63,18 @@ impl Findings {
         ensures ordinary { self.new.ordinary ≡ self.old.ordinary }
         ensures shown { self.new.shown ≡ self.old.shown }
     {
-        self.others = self.others.saturating_add(1);
+        self.counted = self.counted.saturating_add(1);
     }
 
     /// One more end that no run showed.
-    pub(crate) fn miss(&mut self)
+    ///
+    /// Errors: out of memory.
+    pub(crate) fn miss(&mut self, index: usize) -> Result<(), Memory>
         ensures ordinary { self.new.ordinary ≡ self.old.ordinary }
         ensures shown { self.new.shown ≡ self.old.shown }
     {
-        self.count();
-        self.missed = self.missed.saturating_add(1);
+        self.missed.push(index)?;
+        Ok(())
     }
 
     /// One more end.
@@ -73,49 +84,106 @@ impl Findings {
         ensures ordinary { self.new.ordinary ≡ self.old.ordinary }
         ensures shown { OnOk result (self.new.shown.items ≡ self.old.shown.items ++ one ∷ []) }
     {
-        self.count();
         self.shown.push(one)?;
         Ok(())
     }
 
-    /// The verdict; `is_whole` says whether all orders were searched.
-    pub(crate) fn verdict(&self, is_whole: bool) -> Verdict
-        ensures other { (result ≡ Verdict.Other) ↔ (list_all (λ one. limits.is_own_limit one.end) self.now.shown.items ≡ false) }
-        ensures same { result ≡ Verdict.Same → IsTrue is_whole × (self.now.shown.items ≡ []) }
+    /// The number in the report of the end that was shown at an index.
+    pub fn number(&self, index: usize) -> usize {
+        index.saturating_add(if index < self.first { 1 } else { 2 })
+    }
+
+    /// The ordinary end comes after those that are shown by now, unless it is an error, which comes first.
+    pub(crate) fn put_ordinary(&mut self)
+        ensures ordinary { self.new.ordinary ≡ self.old.ordinary }
+        ensures shown { self.new.shown ≡ self.old.shown }
     {
-        let has_other = !are_own_limits(self.shown.as_slice());
-        let has_all = is_whole && self.missed == 0 && self.shown.is_empty();
-        match (has_other, has_all) {
-            (true, _) => Verdict::Other,
-            (false, true) => Verdict::Same,
-            (false, false) => Verdict::SameSoFar,
+        if !has_error(&self.ordinary) {
+            self.first = self.shown.len();
+        }
+    }
+
+    /// No other end was shown.
+    fn is_bare(&self) -> bool
+        ensures { IsTrue result → self.now.shown.items ≡ [] }
+    {
+        self.shown.is_empty()
+    }
+
+    /// The verdict: `is_whole` says whether all orders were searched, and `has_unshown` whether an end was found that Go has too, and that
+    /// no run shows.
+    pub(crate) fn verdict(&self, is_whole: bool, has_unshown: bool) -> Verdict
+        ensures other { (result ≡ Verdict.Other) ↔ (ends.has_other self.now.ordinary (list_all (λ one. one.own_limit) self.now.shown.items) ≡ true) }
+        ensures same { result ≡ Verdict.Same → IsTrue is_whole × (self.now.shown.items ≡ []) × ((ran : RanValue) × (self.now.ordinary ≡ Some ran) × (ran.own_limit ≡ false)) }
+        ensures unended { result ≡ Verdict.Unended → IsTrue is_whole × (self.now.shown.items ≡ []) }
+    {
+        if has_error(&self.ordinary) || !are_own_limits(self.shown.as_slice()) {
+            return Verdict::Other;
+        }
+        if has_unshown {
+            return Verdict::Unshown;
+        }
+        if !is_whole || !self.is_bare() {
+            return Verdict::SameSoFar;
+        }
+        match &self.ordinary {
+            None => Verdict::Unended,
+            Some(ran) => same_verdict(ran.own_limit),
         }
     }
 }
 
+/// The verdict if all orders end like the ordinary run, which may end at a limit of kendo's own.
+fn same_verdict(own_limit: bool) -> Verdict
+    ensures same { result ≡ Verdict.Same → own_limit ≡ false }
+    ensures other { result ≡ Verdict.Other → ⊥ }
+    ensures unended { result ≡ Verdict.Unended → ⊥ }
+{
+    if own_limit {
+        Verdict::SameSoFar
+    } else {
+        Verdict::Same
+    }
+}
+
+/// Whether the ordinary run ends in an error of the program, or leaves goroutines that wait for good, if these count.
+fn has_error(ordinary: &Option<Ran>) -> bool
+    ensures { result ≡ ends.has_error ordinary.now }
+{
+    match ordinary {
+        None => false,
+        Some(ran) => ran.leaks || (!ran.own_limit && is_error(ran.end)),
+    }
+}
+
+/// Whether an end is a deadlock or a panic.
+fn is_error(end: End) -> bool
+    ensures { result ≡ ends.is_error end }
+{
+    matches!(end, End::Deadlock | End::Panicked(_))
+}
+
 /// Whether each of these ends is a limit of kendo's own.
 fn are_own_limits(shown: &[Shown]) -> bool
-    ensures { result ≡ list_all (λ one. limits.is_own_limit one.end) shown.now }
+    ensures { result ≡ list_all (λ one. one.own_limit) shown.now }
 {
     for one in shown.iter() {
-        if !is_own_limit(one.end) {
+        if !one.own_limit {
             return false;
         }
     }
     true
 }
 
-/// Whether an end is a limit of kendo's own, which Go doesn't have.
-pub fn is_own_limit(end: End) -> bool
-    ensures { result ≡ limits.is_own_limit end }
+/// Whether an end is a limit of kendo's own, which Go doesn't have: `is_negative` says of a panic P6 that the size was negative, which
+/// Go refuses too.
+pub(crate) fn is_own_limit(end: End, is_negative: bool) -> bool
+    ensures { ends.IsOwn end result }
 {
-    matches!(
-        end,
-        End::Panicked(
-            Panic::ChannelSize
-                | Panic::CallDepth
-                | Panic::TooManyGoroutines
-                | Panic::TooManyChannels
-        )
-    )
+    match end {
+        End::Panicked(Panic::ChannelSize) => !is_negative,
+        End::Panicked(Panic::CallDepth | Panic::TooManyGoroutines | Panic::TooManyChannels)
+        | End::Exhausted => true,
+        _ => false,
+    }
 }

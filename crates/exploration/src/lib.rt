@@ -3,15 +3,18 @@
 
 mod exploration;
 mod findings;
+mod hint;
 mod lines;
+mod mixed;
 mod runner;
 mod scene;
 mod shown;
 mod shrink;
 mod telling;
 
-pub use exploration::{Exploration, Options};
-pub use findings::{Findings, Verdict, is_own_limit};
+pub use exploration::{Exploration, Extent, Options};
+pub use findings::{Findings, Verdict};
 pub use runner::{Ran, Runner};
 pub use scene::Scene;
 pub use shown::Shown;
+pub use telling::Stop;

@@ -1,12 +1,13 @@
 //! The report of an exploration.
 
+use crate::hint::Hint;
 use crate::scene::Scene;
 use crate::shown::Shown;
 use diagnostic_words::excerpt::push_shown;
 use diagnostic_words::words::Words;
+use go_text::Memory;
 use kendo_report::report;
 use local_states::LocalStates;
-use pauses::Change;
 use program_states::Ending;
 use std::alloc::Global;
 use word::end::End;
@@ -17,23 +18,79 @@ const MOST_BYTES: usize = 60;
 
 /// Appends an end and what was printed.
 pub(crate) fn push_end(said: &mut Words, alloc: Global, ending: Ending, output: &[u8]) {
+    push_ending(said, alloc, ending);
     match ending {
-        Ending::Finished => {
-            said.text("finished, ");
+        Ending::Finished | Ending::Leak => {
+            said.text(", ");
             push_output(said, output);
         }
-        Ending::Leak => {
-            said.text("finished with goroutines that wait, ");
-            push_output(said, output);
-        }
-        Ending::Panicked(panic) => push_panic(said, alloc, panic),
-        Ending::Deadlock => said.text("deadlock"),
-        Ending::Endless => said.text("goes on"),
+        Ending::Panicked(_) | Ending::Deadlock => push_before(said, output),
+        Ending::Limit(_) => {}
     }
 }
 
+/// Appends how a program ends.
+fn push_ending(said: &mut Words, alloc: Global, ending: Ending) {
+    match ending {
+        Ending::Finished => said.text("finished"),
+        Ending::Leak => said.text("goroutines left waiting"),
+        Ending::Panicked(panic) => push_panic(said, alloc, panic),
+        Ending::Deadlock => said.text("deadlock"),
+        Ending::Limit(panic) => {
+            push_panic(said, alloc, panic);
+            said.text(", a limit of kendo");
+        }
+    }
+}
+
+/// How a program ends, in words.
+///
+/// Errors: out of memory.
+pub(crate) fn end_words(alloc: Global, ending: Ending) -> Result<Vec<u8>, Memory> {
+    let mut said = Words::new(alloc);
+    push_ending(&mut said, alloc, ending);
+    Ok(said.into_bytes()?)
+}
+
+/// Appends what was printed before an end, if anything was.
+fn push_before(said: &mut Words, output: &[u8]) {
+    if !output.is_empty() {
+        said.text(" after ");
+        push_output(said, output);
+    }
+}
+
+/// Appends a number, with a comma before each three digits at its end.
+pub(crate) fn push_number(said: &mut Words, number: usize) {
+    let mut place: usize = 1_000_000_000_000_000_000;
+    let mut has_begun = false;
+    for _ in 0..7 {
+        let group = number.checked_div(place).unwrap_or(0) % 1_000;
+        if has_begun {
+            said.text(match group {
+                0..=9 => ",00",
+                10..=99 => ",0",
+                _ => ",",
+            });
+        }
+        if has_begun || group > 0 || place == 1 {
+            said.number(group as i128);
+            has_begun = true;
+        }
+        if place >= 1_000 {
+            place /= 1_000;
+        }
+    }
+}
+
+/// Appends a number and what is counted.
+pub(crate) fn push_count(said: &mut Words, count: usize, one: &str, many: &str) {
+    push_number(said, count);
+    said.text(if count == 1 { one } else { many });
+}
+
 /// Appends a panic, as a run reports it.
-fn push_panic(said: &mut Words, alloc: Global, panic: Panic) {
+pub(crate) fn push_panic(said: &mut Words, alloc: Global, panic: Panic) {
     let Ok((line, _status)) = report(alloc, &Ok(End::Panicked(panic))) else {
         said.refuse();
         return;
@@ -87,7 +144,7 @@ pub(crate) fn push_shown_end(
     push_hint(said, scene, locals, shown);
     match shown.ending {
         Ending::Deadlock | Ending::Leak => push_waiting(said, scene, locals, shown),
-        _ => {}
+        Ending::Finished | Ending::Panicked(_) | Ending::Limit(_) => {}
     }
     if let Some(local) = shown.scene.last {
         said.text("  then ");
@@ -100,6 +157,10 @@ pub(crate) fn push_shown_end(
 /// Appends the goroutines that wait at the end.
 fn push_waiting(said: &mut Words, scene: Scene<'_>, locals: &LocalStates<'_>, shown: &Shown) {
     for local in shown.scene.world.locals.iter() {
+        let is_main = matches!(locals.local(*local), Some(one) if one.goroutine() == 0);
+        if is_main && shown.ending == Ending::Leak {
+            continue;
+        }
         said.text("  then ");
         scene.push_goroutine(said, locals, *local);
         said.text(" waits\n  ");
@@ -107,17 +168,19 @@ fn push_waiting(said: &mut Words, scene: Scene<'_>, locals: &LocalStates<'_>, sh
     }
 }
 
-/// Appends the line before which a `time.Sleep` may show the end in real Go, if one pause does here.
+/// Appends what may show the end in real Go.
 fn push_hint(said: &mut Words, scene: Scene<'_>, locals: &LocalStates<'_>, shown: &Shown) {
-    let [delay] = shown.delays.as_slice() else {
-        return;
-    };
-    if !matches!(delay.change, Change::Wait(_)) {
-        return;
-    }
-    if let Some(frame) = locals.frames(delay.local).last() {
-        said.text("  in Go: time.Sleep(time.Millisecond) before line ");
-        said.number(i128::from(scene.position(frame).line));
-        said.text("\n");
+    match (shown.hint, shown.delays.first()) {
+        (Hint::Sleep(line), _) => {
+            said.text("  in Go: time.Sleep(time.Millisecond) before line ");
+            said.number(i128::from(line));
+            said.text("\n");
+        }
+        (Hint::Alone, Some(delay)) => {
+            said.text("  in Go: ");
+            scene.push_goroutine(said, locals, delay.local);
+            said.text(" has to be late there, and no other one\n");
+        }
+        (Hint::Alone | Hint::Nothing, _) => {}
     }
 }

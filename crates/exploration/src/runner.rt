@@ -1,36 +1,43 @@
 //! Runs of a program by the interpreter, with and without pauses.
 
-ghost use Rattle.std.specs.Prelude.{◌≡◌, ◌^◌, ◌≤◌, [], IfOk, IfSome, Some};
+ghost use Rattle.std.specs.Prelude.{◌≡◌, ◌<◌, ◌^◌, ◌≤◌, [], ℕ, IfNone, IfOk, IfSome, None, Some};
 ghost use Rattle.checker.specs.Trees.{tree_in};
-ghost use Rattle.exploration.specs.Shown.{RunsBy};
+ghost use Rattle.exploration.specs.Shown.{IsLeftBy, IsOrdinary, IsOwn, Lasts, RunsBy};
 ghost use Rattle.meaning.specs.Source.{source_kind};
 ghost use Rattle.pauses.specs.Plans.{pauses_of};
 ghost use Rattle.syntax.specs.Spans.{tree_of};
 ghost use Rattle.whole_run.specs.Runs.{IsWhole};
 ghost use Rattle.word.specs.Related.{kind_of};
+ghost use Rattle.word.specs.Worlds.{end_of, moment};
 
+use crate::findings::is_own_limit;
+use crate::lines::end_words;
 use checker::Typed;
 use go_text::{Fault, Memory};
-use one_thread::{Ended, Goroutine, Interpreter, last_moment};
+use one_thread::{Ended, Goroutine, Interpreter, Step, last_moment};
 use paused_goroutine::{Paused, PausedState};
-use pauses::Plan;
-use program_states::{Ending, Space};
+use pauses::{Plan, PlanHeader};
+use program_states::{Ending, Scope, Space};
 use reference::{Source, program_of};
 use schedule::Standing;
 use std::alloc::Global;
 use word::Flagged;
 use word::end::End;
+use word::panic::Panic;
+use word::request::Request;
 
-/// The most moves of a run.
-const MOST_MOVES: u64 = 1 << 22;
+/// The most moves of a run with pauses.
+pub(crate) const MOST_MOVES: u64 = 1 << 22;
 
 /// How a run ended.
 #[derive(Drop)]
 pub struct Ran {
     pub end: End,
     pub output: Vec<u8>,
-    /// Whether goroutines sleep at its end.
-    pub(crate) has_sleepers: bool,
+    /// Whether it ended at a limit of kendo's own.
+    pub own_limit: bool,
+    /// Whether `main` returned, goroutines that wait then count, and every other goroutine that had not ended waits for good.
+    pub leaks: bool,
 }
 
 /// How a run with pauses ended.
@@ -47,9 +54,14 @@ pub(crate) struct PausedRun {
 #[derive(Clone, Copy)]
 pub struct Runner<'t> {
     pub alloc: Global,
+    /// The path of the program, as it was typed, and its source.
+    pub path: &'t str,
+    pub source: &'t str,
     pub typed: &'t Typed,
     /// The clock limit, 1 to 2^62.
     pub limit: u64,
+    /// Which ends differ.
+    pub scope: Scope,
 }
 
 impl<'t> Runner<'t> {
@@ -62,37 +74,42 @@ impl<'t> Runner<'t> {
         }
     }
 
-    /// Runs the program without pauses; none if it does not end within 2^22 moves.
+    /// The header of a plan that leads to an end.
     ///
     /// Errors: out of memory.
-    pub(crate) fn ordinary(&self) -> Result<Option<Ran>, Memory>
-        ensures { IfOk result (λ seen. IfSome seen (λ ran. IsWhole (source_kind (tree_of (tree_in self.now.typed.now))) self.now.limit (Some []) (Some ran.output.items) ran.end)) }
+    pub(crate) fn header(&self, ending: Ending) -> Result<PlanHeader, Memory> {
+        let end = end_words(self.alloc, ending)?;
+        PlanHeader::new(
+            self.alloc,
+            self.path.as_bytes(),
+            self.source.as_bytes(),
+            end.as_slice(),
+        )
+    }
+
+    /// Runs the program without pauses; none if it does not end in fewer than `most` moves.
+    ///
+    /// Errors: out of memory.
+    pub(crate) fn ordinary(&self, most: u64) -> Result<Option<Ran>, Memory>
+        requires { self.now.limit ≤ 2 ^ 62 }
+        ensures lasts { IfOk result (λ seen. IfNone seen (Lasts (tree_of (tree_in self.now.typed.now)) self.now.limit most)) }
+        ensures ends { IfOk result (λ seen. IfSome seen (IsOrdinary (tree_of (tree_in self.now.typed.now)) self.now.limit self.now.scope.leaks)) }
     {
-        if self.limit > 1 << 62 {
-            return Ok(None);
-        }
         let program = Source {
             program: program_of(self.alloc, self.typed)?,
         };
-        let Some((ended, output)) = run_of(self.alloc, &program, self.limit)? else {
-            return Ok(None);
-        };
-        let has_sleepers = ended
-            .goroutines
-            .iter()
-            .any(|one| matches!(one, Some(one) if one.asleep));
-        Ok(Some(Ran {
-            end: ended.end,
-            output,
-            has_sleepers,
-        }))
+        match run_of(self.alloc, &program, self.limit, most)? {
+            Some(run) => Ok(Some(ran_of(run, self.scope.leaks))),
+            None => Ok(None),
+        }
     }
 
     /// Runs the program with the pauses of a plan; none if it does not end within 2^22 moves.
     ///
     /// Errors: out of memory.
     pub(crate) fn run(&self, plan: &Plan) -> Result<Option<PausedRun>, Memory>
-        ensures { IfOk result (λ seen. IfSome seen (λ run. RunsBy (tree_of (tree_in self.now.typed.now)) self.now.limit (pauses_of plan.now.pauses.items) run.ran.output.items run.ran.end)) }
+        ensures runs { IfOk result (λ seen. IfSome seen (λ run. RunsBy (tree_of (tree_in self.now.typed.now)) self.now.limit (pauses_of plan.now.pauses.items) run.ran.output.items run.ran.end)) }
+        ensures own { IfOk result (λ seen. IfSome seen (λ run. IsOwn run.ran.end run.ran.own_limit)) }
     {
         if self.limit > 1 << 62 {
             return Ok(None);
@@ -100,48 +117,129 @@ impl<'t> Runner<'t> {
         let program = Source {
             program: program_of(self.alloc, self.typed)?,
         };
-        match run_of(self.alloc, &Paused { program, plan }, self.limit)? {
-            Some((ended, output)) => Ok(Some(paused_run(self.alloc, &ended, output)?)),
+        match run_of(
+            self.alloc,
+            &Paused { program, plan },
+            self.limit,
+            MOST_MOVES,
+        )? {
+            Some(run) => Ok(Some(paused_run(self.alloc, run, self.scope.leaks)?)),
             None => Ok(None),
         }
     }
 }
 
-/// How a program runs, and what it prints; none if it does not end within 2^22 moves.
+/// A run that has ended.
+#[derive(Drop)]
+struct Run<S: Drop> {
+    ended: Ended<S>,
+    output: Vec<u8>,
+    /// Whether it ended since a goroutine made a channel of a negative size.
+    is_negative: bool,
+}
+
+/// How a program runs, and what it prints; none if it does not end in fewer than `most` moves.
 fn run_of<P: Interpreter>(
     alloc: Global,
     program: &P,
     limit: u64,
-) -> Result<Option<(Ended<P::State>, Vec<u8>)>, Memory>
+    most: u64,
+) -> Result<Option<Run<P::State>>, Memory>
     requires { limit ≤ 2 ^ 62 }
-    ensures { IfOk result (λ seen. IfSome seen (λ run. IsWhole (kind_of (P.parts program.now)) limit (Some []) (Some run.1.items) run.0.end)) }
+    ensures lasts { IfOk result (λ seen. IfNone seen ((n : ℕ) → n < most → end_of (moment (kind_of (P.parts program.now)) limit n) ≡ None)) }
+    ensures whole { IfOk result (λ seen. IfSome seen (λ run. IsWhole (kind_of (P.parts program.now)) limit (Some []) (Some run.output.items) run.ended.end)) }
 {
     let mut output = Flagged::new(Vec::new(alloc));
-    match last_moment(alloc, program, limit, MOST_MOVES, &mut output) {
-        Ok(Some(ended)) => Ok(Some((ended, output.into_inner()))),
+    match last_moment(alloc, program, limit, most, &mut output) {
+        Ok(Some(ended)) => {
+            let mut ended = ended;
+            let is_negative = is_size_negative(alloc, program, &mut ended)?;
+            Ok(Some(Run {
+                ended,
+                output: output.into_inner(),
+                is_negative,
+            }))
+        }
         Ok(None) => Ok(None),
         Err(Fault::Memory | _) => Err(Memory),
     }
 }
 
-/// What is kept of a run with pauses that printed this.
+/// Whether a run ended since a goroutine made a channel of a negative size, which the goroutine still requests.
+fn is_size_negative<P: Interpreter>(
+    alloc: Global,
+    program: &P,
+    ended: &mut Ended<P::State>,
+) -> Result<bool, Memory>
+    ensures { ended.new.end ≡ ended.old.end }
+{
+    if ended.end != End::Panicked(Panic::ChannelSize) {
+        return Ok(false);
+    }
+    let number = ended.turn.map(|turn| turn.number).unwrap_or(0);
+    let index = usize::try_from(number).unwrap_or(usize::MAX);
+    let Some(Some(goroutine)) = ended.goroutines.get_mut(index) else {
+        return Ok(false);
+    };
+    match program.step(alloc, &mut goroutine.state)? {
+        Step::Asks(Request::Make(size, _zero)) => Ok(size < 0),
+        _ => Ok(false),
+    }
+}
+
+/// How a run without pauses ended; `leaks` says whether goroutines that wait when `main` has returned count.
+fn ran_of<S: Drop>(run: Run<S>, leaks: bool) -> Ran
+    ensures end { result.end ≡ run.ended.end }
+    ensures output { result.output ≡ run.output }
+    ensures own { IsOwn result.end result.own_limit }
+    ensures leaks { IsLeftBy leaks result }
+{
+    let Run {
+        ended,
+        output,
+        is_negative,
+    } = run;
+    Ran {
+        end: ended.end,
+        output,
+        own_limit: is_own_limit(ended.end, is_negative),
+        leaks: leaks && ended.end == End::Finished && is_left(&ended),
+    }
+}
+
+/// Whether goroutines other than `main` have not ended, and all of them sleep.
+fn is_left<S: Drop>(ended: &Ended<S>) -> bool {
+    let mut others = ended
+        .goroutines
+        .iter()
+        .skip(2)
+        .filter_map(|one| one.as_ref());
+    let mut is_left = false;
+    for one in others {
+        if !one.asleep {
+            return false;
+        }
+        is_left = true;
+    }
+    is_left
+}
+
+/// What is kept of a run with pauses.
 fn paused_run<S: Drop>(
     alloc: Global,
-    ended: &Ended<PausedState<S>>,
-    output: Vec<u8>,
+    run: Run<PausedState<S>>,
+    leaks: bool,
 ) -> Result<PausedRun, Memory>
-    ensures end { IfOk result (λ run. run.ran.end ≡ ended.now.end) }
-    ensures output { IfOk result (λ run. run.ran.output ≡ output) }
+    ensures end { IfOk result (λ paused. paused.ran.end ≡ run.ended.end) }
+    ensures output { IfOk result (λ paused. paused.ran.output ≡ run.output) }
+    ensures own { IfOk result (λ paused. IsOwn paused.ran.end paused.ran.own_limit) }
 {
-    let sleepers = sleepers_of(alloc, ended.goroutines.as_slice())?;
+    let sleepers = sleepers_of(alloc, run.ended.goroutines.as_slice())?;
+    let last = last_of(&run.ended);
     Ok(PausedRun {
-        ran: Ran {
-            end: ended.end,
-            output,
-            has_sleepers: !sleepers.is_empty(),
-        },
+        ran: ran_of(run, leaks),
         sleepers,
-        last: last_of(ended),
+        last,
     })
 }
 
@@ -176,11 +274,12 @@ fn last_of<S: Drop>(ended: &Ended<PausedState<S>>) -> Option<Standing> {
 }
 
 impl Ran {
-    /// How the run ended, as it is found; none if its time was exhausted.
-    pub(crate) fn ending(&self, leaks: bool) -> Option<Ending> {
+    /// How the run ended, as the search has it; none if its time was exhausted.
+    pub(crate) fn ending(&self) -> Option<Ending> {
         match self.end {
-            End::Finished if leaks && self.has_sleepers => Some(Ending::Leak),
+            End::Finished if self.leaks => Some(Ending::Leak),
             End::Finished => Some(Ending::Finished),
+            End::Panicked(panic) if self.own_limit => Some(Ending::Limit(panic)),
             End::Panicked(panic) => Some(Ending::Panicked(panic)),
             End::Deadlock => Some(Ending::Deadlock),
             End::Exhausted => None,
@@ -196,7 +295,7 @@ impl Ran {
         ending: Ending,
         output: u32,
     ) -> Result<bool, Memory> {
-        if self.ending(space.counts_leaks()) != Some(ending) {
+        if self.ending() != Some(ending) {
             return Ok(false);
         }
         if !ending.has_output() {

@@ -24,7 +24,7 @@ pub struct Scene<'a> {
     pub code: &'a Code,
 }
 
-impl Scene<'_> {
+impl<'a> Scene<'a> {
     /// The node that a function is at.
     fn node(self, frame: &Frame) -> NodeId {
         self.map.node(frame.function(), frame.place()).unwrap_or(0)
@@ -37,6 +37,12 @@ impl Scene<'_> {
         } else {
             Span { from: 0, to: 0 }
         }
+    }
+
+    /// The text of the line of this number, counted from 1.
+    pub(crate) fn line(self, number: u32) -> Option<&'a str> {
+        let index = (number as usize).checked_sub(1)?;
+        self.source.as_str().split('\n').nth(index)
     }
 
     /// The line and column that a function is at.

@@ -1,18 +1,29 @@
 //! Explores each program of `data`, and prints its report, and the plans that show its ends again; then how many ends
 //! are found if each move is made among all others.
 //!
-//! Line 2 of each program names what is to be found: `deadlock`, a panic, `output`, `leak` or `none`.
+//! Line 2 of each program names what is to be found: `deadlock`, a panic, `output`, `leak` or `none`. A program whose name has
+//! `leak`, `ordered` or `ends_only` in it is explored with that option.
+//!
+//! With arguments it prints the ends of programs for a comparison with another search (see `ends`).
 #![tactic(auto)]
 
+mod ends;
 mod unreduced;
 
-use kendo_explore::{Explored, Options, Progress, Scope, Verdict, explore_bytes};
+use ends::print_ends;
+use go_text::Memory;
+use kendo_explore::{Explored, Extent, Options, PlanFile, Progress, Scope, Verdict, explore_bytes};
 use row_format::folder::names;
+use std::alloc::Global;
 use std::io::Write;
-use std::{fs, io};
+use std::{env, fs, io};
 use unreduced::{Count, unreduced};
 
 fn main(rt: HostRuntime) -> io::Result<()> {
+    let words: Vec<String> = env::args(&rt)?.collect(rt.alloc())?;
+    if words.len() > 1 {
+        return print_ends(&rt, words.as_slice());
+    }
     for name in names(&rt, ".")?.iter() {
         if name.as_str().ends_with(".go") {
             explore(&rt, name.as_str())?;
@@ -21,12 +32,18 @@ fn main(rt: HostRuntime) -> io::Result<()> {
     Ok(())
 }
 
-/// Prints nothing while an exploration goes on.
+/// Names plans by their numbers.
 #[derive(Drop)]
 struct Silent;
 
 impl Progress for Silent {
-    fn visited(&mut self, _states: usize) {}
+    fn goes_on(&mut self, _extent: Extent) -> bool {
+        true
+    }
+
+    fn shows(&mut self, alloc: Global, number: usize, _plan: &PlanFile) -> Result<String, Memory> {
+        Ok(format!(in alloc; "{number}.pauses")?)
+    }
 }
 
 /// Explores the program of a file, and prints its report.
@@ -39,8 +56,8 @@ fn explore(rt: &HostRuntime, name: &str) -> io::Result<()> {
         states: 100_000,
         limit: 1 << 40,
         scope: Scope {
-            outputs: true,
-            lines_in_order: true,
+            outputs: !name.contains("ends_only"),
+            lines_in_order: name.contains("ordered"),
             leaks: name.contains("leak"),
         },
     };
@@ -74,9 +91,16 @@ fn print(rt: &HostRuntime, explored: &Explored) -> io::Result<()> {
         println!(rt; "{name}:")?;
         out.write_all(plan.bytes.as_slice())?;
     }
-    match explored.verdict {
-        Verdict::Same => println!(rt; "same"),
-        Verdict::SameSoFar => println!(rt; "same so far"),
-        Verdict::Other => println!(rt; "other"),
+    println!(rt; "{}", verdict_word(explored.verdict))
+}
+
+/// The word for a verdict.
+fn verdict_word(verdict: Verdict) -> &'static str {
+    match verdict {
+        Verdict::Same => "same",
+        Verdict::Unended => "unended",
+        Verdict::SameSoFar => "same so far",
+        Verdict::Other => "other",
+        Verdict::Unshown => "unshown",
     }
 }

@@ -1,20 +1,21 @@
 -- What an exit status says of a program.
-use Rattle.std.proofs.Common.{◌≡◌, ◌⊎◌, ◌∙◌, ℕ, Bool, inl, inr, true, false, List, [], Option, Some, None, Result, Ok, Err, IfOk, refl, sym, subst, ap}
+use Rattle.std.proofs.Common.{◌≡◌, ◌⊎◌, ◌∙◌, ℕ, Bool, inl, inr, true, false, List, Option, Some, None, Result, Ok, Err, IfOk, refl, sym, subst, ap, arith}
 use Rattle.command_line.specs.declared.arguments.Invocation.{Invocation}
 use Rattle.command_line.specs.declared.arguments.Subcommand.{Subcommand}
 use Rattle.command_line.specs.declared.arguments.Subcommand.TheVariants as subcommands
 use Rattle.exploration.specs.declared.findings.Verdict.{Verdict}
-use Rattle.exploration.specs.declared.findings.Verdict.TheVariants.{Other, Same, SameSoFar}
+use Rattle.exploration.specs.declared.findings.Verdict.TheVariants.{Other, Same, SameSoFar, Unended, Unshown}
 use Rattle.go_text.specs.declared.fault.Fault.{Fault}
-use Rattle.go_text.specs.declared.fault.Fault.TheVariants as faults
-use Rattle.kendo.specs.Verdicts.{compared_status, Compares, exploration_status, explored_status, Explores, FindsPlainly, IsAgainst, IsAgainstIfAny, IsExplored, IsJudged, IsSaid, IsTested, IsTracedAs, Judges, Says, SaysIfAny, test_status, tested_status, Tests}
+use Rattle.kendo.specs.Verdicts.{compared_status, Compares, exploration_status, explored_status, Explores, FindsPlainly, IsAgainst, IsAgainstIfAny, IsExplored, IsJudged, IsSaid, IsTested, IsTracedAs, Judges, JudgesAll, LosesCounts, Says, SaysIfAny, scope_of, test_status, tested_status, Tests}
 use Rattle.kendo_compare.specs.Comparing.{IsCompared}
 use Rattle.kendo_report.specs.Outcome.{report_status}
 use Rattle.clap.specs.Words.{Text}
 use Rattle.kendo_shell.proofs.Findings.{explored as of_verdict, told, told_status}
 use Rattle.kendo_shell.proofs.Obeying.{obeyed}
-use Rattle.kendo_shell.specs.Answers.{Finds, IsReason, IsStatus, IsStatusOf, Obeys, Tells}
+use Rattle.kendo_shell.proofs.SeveralFiles.{of_all_status}
+use Rattle.kendo_shell.specs.Answers.{Finds, IsOfAll, IsOfOne, IsReason, IsStatus, IsStatusOf, Obeys, Tells}
 use Rattle.pauses.specs.Plans.{Pause}
+use Rattle.program_states.specs.declared.space.Scope.{Scope}
 use Rattle.word.specs.declared.end.End.{End}
 use Rattle.word.specs.declared.end.End.TheVariants.{Finished}
 
@@ -37,66 +38,66 @@ refused invocation text fault status why is = (Err fault, finds_reason invocatio
 
 -- ---- what it finds
 
-explored_in : {T : Type 0} (s : Subcommand) (against : Option T) (strict whole : Bool) (text : List ℕ) (verdict : Verdict) (status : ℕ) → IsExplored s text verdict
-    → status ≡ explored_status verdict whole → Finds s text (Ok Finished) × Says s against strict whole text Finished status
-explored_in (subcommands.Explore limit tries states) against strict whole text verdict status shown is =
+explored_in : {T : Type 0} (s : Subcommand) (scope : Scope) (against : Option T) (strict whole : Bool) (text : List ℕ) (verdict : Verdict) (status : ℕ) → IsExplored s scope text verdict
+    → status ≡ explored_status verdict whole → Finds s text (Ok Finished) × Says s scope against strict whole text Finished status
+explored_in (subcommands.Explore limit tries states) scope against strict whole text verdict status shown is =
     ((refl, shown.0, (shown.1.0, shown.1.2)), (verdict, shown, is))
-explored_in subcommands.Check against strict whole text verdict status shown is = absurd shown
-explored_in subcommands.List against strict whole text verdict status shown is = absurd shown
-explored_in (subcommands.Reference limit) against strict whole text verdict status shown is = absurd shown
-explored_in (subcommands.Timeline limit) against strict whole text verdict status shown is = absurd shown
-explored_in (subcommands.Test limit tries states) against strict whole text verdict status shown is = absurd shown
-explored_in (subcommands.Inspect limit) against strict whole text verdict status shown is = absurd shown
-explored_in (subcommands.Paused limit) against strict whole text verdict status shown is = absurd shown
-explored_in (subcommands.Run workers limit) against strict whole text verdict status shown is = absurd shown
+explored_in subcommands.Check scope against strict whole text verdict status shown is = absurd shown
+explored_in subcommands.List scope against strict whole text verdict status shown is = absurd shown
+explored_in (subcommands.Reference limit) scope against strict whole text verdict status shown is = absurd shown
+explored_in (subcommands.Timeline limit) scope against strict whole text verdict status shown is = absurd shown
+explored_in (subcommands.Test limit tries states) scope against strict whole text verdict status shown is = absurd shown
+explored_in (subcommands.Inspect limit) scope against strict whole text verdict status shown is = absurd shown
+explored_in (subcommands.Paused limit) scope against strict whole text verdict status shown is = absurd shown
+explored_in (subcommands.Run workers limit) scope against strict whole text verdict status shown is = absurd shown
 
-explored : (invocation : Invocation) (text : List ℕ) (verdict : Verdict) (status : ℕ) → IsExplored invocation.subcommand text verdict
+explored : (invocation : Invocation) (text : List ℕ) (verdict : Verdict) (status : ℕ) → IsExplored invocation.subcommand (scope_of invocation) text verdict
     → status ≡ explored_status verdict invocation.whole → IsJudged invocation text status
 explored invocation text verdict status shown is =
-    let both = explored_in invocation.subcommand invocation.against invocation.strict invocation.whole text verdict status shown is in
+    let both = explored_in invocation.subcommand (scope_of invocation) invocation.against invocation.strict invocation.whole text verdict status shown is in
     (Ok Finished, both.0, both.1)
 
-pub explored_or_not : (invocation : Invocation) (text : List ℕ) (found : Result Verdict Fault) (status : ℕ) → Explores invocation.subcommand text found
+pub explored_or_not : (invocation : Invocation) (text : List ℕ) (found : Result Verdict Fault) (status : ℕ) → Explores invocation.subcommand (scope_of invocation) text found
     → status ≡ exploration_status found invocation.whole → IsJudged invocation text status
 explored_or_not invocation text (Ok verdict) status shown is = explored invocation text verdict status shown is
 explored_or_not invocation text (Err fault) status why is = refused invocation text fault status why is
 
-tested_in : {T : Type 0} (s : Subcommand) (against : Option T) (strict whole : Bool) (text : List ℕ) (passed : Bool) (status : ℕ) → IsTested s text passed
-    → status ≡ tested_status passed → Finds s text (Ok Finished) × Says s against strict whole text Finished status
-tested_in (subcommands.Test limit tries states) against strict whole text passed status shown is = ((refl, shown.0), (passed, shown, is))
-tested_in subcommands.Check against strict whole text passed status shown is = absurd shown
-tested_in subcommands.List against strict whole text passed status shown is = absurd shown
-tested_in (subcommands.Reference limit) against strict whole text passed status shown is = absurd shown
-tested_in (subcommands.Timeline limit) against strict whole text passed status shown is = absurd shown
-tested_in (subcommands.Explore limit tries states) against strict whole text passed status shown is = absurd shown
-tested_in (subcommands.Inspect limit) against strict whole text passed status shown is = absurd shown
-tested_in (subcommands.Paused limit) against strict whole text passed status shown is = absurd shown
-tested_in (subcommands.Run workers limit) against strict whole text passed status shown is = absurd shown
+tested_in : {T : Type 0} (s : Subcommand) (scope : Scope) (against : Option T) (strict whole : Bool) (text : List ℕ) (passed : Bool) (status : ℕ) → IsTested s scope.leaks text passed
+    → status ≡ tested_status passed → Finds s text (Ok Finished) × Says s scope against strict whole text Finished status
+tested_in (subcommands.Test limit tries states) scope against strict whole text passed status shown is = ((refl, shown.0), (passed, shown, is))
+tested_in subcommands.Check scope against strict whole text passed status shown is = absurd shown
+tested_in subcommands.List scope against strict whole text passed status shown is = absurd shown
+tested_in (subcommands.Reference limit) scope against strict whole text passed status shown is = absurd shown
+tested_in (subcommands.Timeline limit) scope against strict whole text passed status shown is = absurd shown
+tested_in (subcommands.Explore limit tries states) scope against strict whole text passed status shown is = absurd shown
+tested_in (subcommands.Inspect limit) scope against strict whole text passed status shown is = absurd shown
+tested_in (subcommands.Paused limit) scope against strict whole text passed status shown is = absurd shown
+tested_in (subcommands.Run workers limit) scope against strict whole text passed status shown is = absurd shown
 
-tested : (invocation : Invocation) (text : List ℕ) (passed : Bool) (status : ℕ) → IsTested invocation.subcommand text passed → status ≡ tested_status passed
+tested : (invocation : Invocation) (text : List ℕ) (passed : Bool) (status : ℕ) → IsTested invocation.subcommand invocation.leaks text passed → status ≡ tested_status passed
     → IsJudged invocation text status
 tested invocation text passed status shown is =
-    let both = tested_in invocation.subcommand invocation.against invocation.strict invocation.whole text passed status shown is in
+    let both = tested_in invocation.subcommand (scope_of invocation) invocation.against invocation.strict invocation.whole text passed status shown is in
     (Ok Finished, both.0, both.1)
 
-pub tested_or_not : (invocation : Invocation) (text : List ℕ) (found : Result Bool Fault) (status : ℕ) → Tests invocation.subcommand text found → status ≡ test_status found
+pub tested_or_not : (invocation : Invocation) (text : List ℕ) (found : Result Bool Fault) (status : ℕ) → Tests invocation.subcommand invocation.leaks text found → status ≡ test_status found
     → IsJudged invocation text status
 tested_or_not invocation text (Ok passed) status shown is = tested invocation text passed status shown is
 tested_or_not invocation text (Err fault) status why is = refused invocation text fault status why is
 
-against_in : {T : Type 0} (s : Subcommand) (against : Option T) (path : T) (strict whole : Bool) (pauses : List Pause) (recorded text : List ℕ) (end : End) (status : ℕ)
-    → against ≡ Some path → IsAgainst s pauses strict recorded text end status → Says s against strict whole text end status
-against_in (subcommands.Run workers limit) against path strict whole pauses recorded text end status is says =
-    subst (λ a. Says (subcommands.Run workers limit) a strict whole text end status) (sym is) (pauses, recorded, says)
-against_in (subcommands.Paused limit) against path strict whole pauses recorded text end status is says =
-    subst (λ a. Says (subcommands.Paused limit) a strict whole text end status) (sym is) (pauses, recorded, says)
-against_in subcommands.Check against path strict whole pauses recorded text end status is (lines, same, traced, as_said, status_is) = absurd traced
-against_in subcommands.List against path strict whole pauses recorded text end status is (lines, same, traced, as_said, status_is) = absurd traced
-against_in (subcommands.Reference limit) against path strict whole pauses recorded text end status is (lines, same, traced, as_said, status_is) = absurd traced
-against_in (subcommands.Timeline limit) against path strict whole pauses recorded text end status is (lines, same, traced, as_said, status_is) = absurd traced
-against_in (subcommands.Explore limit tries states) against path strict whole pauses recorded text end status is (lines, same, traced, as_said, status_is) = absurd traced
-against_in (subcommands.Test limit tries states) against path strict whole pauses recorded text end status is (lines, same, traced, as_said, status_is) = absurd traced
-against_in (subcommands.Inspect limit) against path strict whole pauses recorded text end status is (lines, same, traced, as_said, status_is) = absurd traced
+against_in : {T : Type 0} (s : Subcommand) (scope : Scope) (against : Option T) (path : T) (strict whole : Bool) (pauses : List Pause) (recorded text : List ℕ) (end : End) (status : ℕ)
+    → against ≡ Some path → IsAgainst s pauses strict recorded text end status → Says s scope against strict whole text end status
+against_in (subcommands.Run workers limit) scope against path strict whole pauses recorded text end status is says =
+    subst (λ a. Says (subcommands.Run workers limit) scope a strict whole text end status) (sym is) (pauses, recorded, says)
+against_in (subcommands.Paused limit) scope against path strict whole pauses recorded text end status is says =
+    subst (λ a. Says (subcommands.Paused limit) scope a strict whole text end status) (sym is) (pauses, recorded, says)
+against_in subcommands.Check scope against path strict whole pauses recorded text end status is (lines, same, traced, as_said, status_is) = absurd traced
+against_in subcommands.List scope against path strict whole pauses recorded text end status is (lines, same, traced, as_said, status_is) = absurd traced
+against_in (subcommands.Reference limit) scope against path strict whole pauses recorded text end status is (lines, same, traced, as_said, status_is) = absurd traced
+against_in (subcommands.Timeline limit) scope against path strict whole pauses recorded text end status is (lines, same, traced, as_said, status_is) = absurd traced
+against_in (subcommands.Explore limit tries states) scope against path strict whole pauses recorded text end status is (lines, same, traced, as_said, status_is) = absurd traced
+against_in (subcommands.Test limit tries states) scope against path strict whole pauses recorded text end status is (lines, same, traced, as_said, status_is) = absurd traced
+against_in (subcommands.Inspect limit) scope against path strict whole pauses recorded text end status is (lines, same, traced, as_said, status_is) = absurd traced
 
 -- a run that ended was compared with a trace
 pub compared : (invocation : Invocation) (pauses : List Pause) (text lines recorded : List ℕ) (outcome : Result End Fault) (end : End) (strict is_same : Bool) (report status : ℕ)
@@ -120,36 +121,36 @@ pub uncompared : (invocation : Invocation) (pauses : List Pause) (text recorded 
 uncompared invocation pauses text recorded outcome fault status is finds status_is =
     (Err fault, subst (Finds invocation.subcommand text) is finds, status_is ∙ ap report_status is)
 
-said_in : {T : Type 0} (s : Subcommand) (against : Option T) (path : T) (strict whole : Bool) (pauses : List Pause) (recorded text : List ℕ) (outcome : Result End Fault) (status : ℕ)
-    → against ≡ Some path → IsAgainstIfAny s pauses strict recorded text outcome status → SaysIfAny s against strict whole text outcome status
-said_in s against path strict whole pauses recorded text (Ok end) status is says = against_in s against path strict whole pauses recorded text end status is says
-said_in s against path strict whole pauses recorded text (Err fault) status is says = says
+said_in : {T : Type 0} (s : Subcommand) (scope : Scope) (against : Option T) (path : T) (strict whole : Bool) (pauses : List Pause) (recorded text : List ℕ) (outcome : Result End Fault) (status : ℕ)
+    → against ≡ Some path → IsAgainstIfAny s pauses strict recorded text outcome status → SaysIfAny s scope against strict whole text outcome status
+said_in s scope against path strict whole pauses recorded text (Ok end) status is says = against_in s scope against path strict whole pauses recorded text end status is says
+said_in s scope against path strict whole pauses recorded text (Err fault) status is says = says
 
 -- the status of a run that is compared is that of the invocation
-pub against_trace : {T : Type 0} (s : Subcommand) (against : Option T) (path : T) (strict whole : Bool) (pauses : List Pause) (recorded text : List ℕ) (status : ℕ) → against ≡ Some path
+pub against_trace : {T : Type 0} (s : Subcommand) (scope : Scope) (against : Option T) (path : T) (strict whole : Bool) (pauses : List Pause) (recorded text : List ℕ) (status : ℕ) → against ≡ Some path
     → (outcome : Result End Fault) × Finds s text outcome × IsAgainstIfAny s pauses strict recorded text outcome status
-    → (outcome : Result End Fault) × Finds s text outcome × SaysIfAny s against strict whole text outcome status
-against_trace s against path strict whole pauses recorded text status is (outcome, finds, says) =
-    (outcome, finds, said_in s against path strict whole pauses recorded text outcome status is says)
+    → (outcome : Result End Fault) × Finds s text outcome × SaysIfAny s scope against strict whole text outcome status
+against_trace s scope against path strict whole pauses recorded text status is (outcome, finds, says) =
+    (outcome, finds, said_in s scope against path strict whole pauses recorded text outcome status is says)
 
 -- ---- a command that neither explores nor tests, nor compares its run
 
-plainly_in : {T : Type 0} (s : Subcommand) (against : Option T) (strict whole : Bool) (text : List ℕ) (end : End) (status : ℕ) → against ≡ None → FindsPlainly s text (Ok end)
-    → status ≡ report_status (Ok end) → Finds s text (Ok end) × Says s against strict whole text end status
-plainly_in (subcommands.Explore limit tries states) against strict whole text end status none finds is = absurd finds
-plainly_in (subcommands.Test limit tries states) against strict whole text end status none finds is = absurd finds
-plainly_in subcommands.Check against strict whole text end status none finds is = (finds, subst (λ a. Says subcommands.Check a strict whole text end status) (sym none) is)
-plainly_in subcommands.List against strict whole text end status none finds is = (finds, subst (λ a. Says subcommands.List a strict whole text end status) (sym none) is)
-plainly_in (subcommands.Reference limit) against strict whole text end status none finds is =
-    (finds, subst (λ a. Says (subcommands.Reference limit) a strict whole text end status) (sym none) is)
-plainly_in (subcommands.Timeline limit) against strict whole text end status none finds is =
-    (finds, subst (λ a. Says (subcommands.Timeline limit) a strict whole text end status) (sym none) is)
-plainly_in (subcommands.Inspect limit) against strict whole text end status none finds is =
-    (finds, subst (λ a. Says (subcommands.Inspect limit) a strict whole text end status) (sym none) is)
-plainly_in (subcommands.Paused limit) against strict whole text end status none finds is =
-    (finds, subst (λ a. Says (subcommands.Paused limit) a strict whole text end status) (sym none) is)
-plainly_in (subcommands.Run workers limit) against strict whole text end status none finds is =
-    (finds, subst (λ a. Says (subcommands.Run workers limit) a strict whole text end status) (sym none) is)
+plainly_in : {T : Type 0} (s : Subcommand) (scope : Scope) (against : Option T) (strict whole : Bool) (text : List ℕ) (end : End) (status : ℕ) → against ≡ None → FindsPlainly s text (Ok end)
+    → status ≡ report_status (Ok end) → Finds s text (Ok end) × Says s scope against strict whole text end status
+plainly_in (subcommands.Explore limit tries states) scope against strict whole text end status none finds is = absurd finds
+plainly_in (subcommands.Test limit tries states) scope against strict whole text end status none finds is = absurd finds
+plainly_in subcommands.Check scope against strict whole text end status none finds is = (finds, subst (λ a. Says subcommands.Check scope a strict whole text end status) (sym none) is)
+plainly_in subcommands.List scope against strict whole text end status none finds is = (finds, subst (λ a. Says subcommands.List scope a strict whole text end status) (sym none) is)
+plainly_in (subcommands.Reference limit) scope against strict whole text end status none finds is =
+    (finds, subst (λ a. Says (subcommands.Reference limit) scope a strict whole text end status) (sym none) is)
+plainly_in (subcommands.Timeline limit) scope against strict whole text end status none finds is =
+    (finds, subst (λ a. Says (subcommands.Timeline limit) scope a strict whole text end status) (sym none) is)
+plainly_in (subcommands.Inspect limit) scope against strict whole text end status none finds is =
+    (finds, subst (λ a. Says (subcommands.Inspect limit) scope a strict whole text end status) (sym none) is)
+plainly_in (subcommands.Paused limit) scope against strict whole text end status none finds is =
+    (finds, subst (λ a. Says (subcommands.Paused limit) scope a strict whole text end status) (sym none) is)
+plainly_in (subcommands.Run workers limit) scope against strict whole text end status none finds is =
+    (finds, subst (λ a. Says (subcommands.Run workers limit) scope a strict whole text end status) (sym none) is)
 
 plain_reason : (s : Subcommand) (text : List ℕ) (fault : Fault) → FindsPlainly s text (Err fault) → Finds s text (Err fault)
 plain_reason subcommands.Check text fault why = why
@@ -165,70 +166,67 @@ plain_reason (subcommands.Run workers limit) text fault why = why
 pub answered : (invocation : Invocation) (text : List ℕ) (outcome : Result End Fault) (status : ℕ) → invocation.against ≡ None
     → FindsPlainly invocation.subcommand text outcome → status ≡ report_status outcome → IsJudged invocation text status
 answered invocation text (Ok end) status none finds is =
-    let both = plainly_in invocation.subcommand invocation.against invocation.strict invocation.whole text end status none finds is in
+    let both = plainly_in invocation.subcommand (scope_of invocation) invocation.against invocation.strict invocation.whole text end status none finds is in
     (Ok end, both.0, both.1)
 answered invocation text (Err fault) status none finds is = (Err fault, plain_reason invocation.subcommand text fault finds, is)
 
 -- ---- of some program
 
 pub of_some : {E : Type 0} (invocation : Invocation) (text : List ℕ) (result : Result ℕ E) → IfOk result (IsJudged invocation text)
-    → IfOk result (λ status. (status ≡ 64) ⊎ Judges invocation status)
+    → IfOk result (IsOfOne (Judges invocation))
 of_some invocation text (Ok status) is = inr (text, is)
 of_some invocation text (Err e) is = is
 
--- one of two exit statuses that say what was found
-pub either : (invocation : Invocation) (first second status : ℕ) → (status ≡ first) ⊎ (status ≡ second) → (first ≡ 64) ⊎ Judges invocation first
-    → (second ≡ 64) ⊎ Judges invocation second → (status ≡ 64) ⊎ Judges invocation status
-either invocation first second status (inl is) a b = subst (λ s. (s ≡ 64) ⊎ Judges invocation s) (sym is) a
-either invocation first second status (inr is) a b = subst (λ s. (s ≡ 64) ⊎ Judges invocation s) (sym is) b
-
 -- the exit status of tests, or, if how many passed can't be written, of that
-pub summed : (invocation : Invocation) (limit tries states status all : ℕ) → invocation.subcommand ≡ subcommands.Test limit tries states → (all ≡ status) ⊎ (all ≡ 6)
-    → (status ≡ 64) ⊎ Judges invocation status → (all ≡ 64) ⊎ Judges invocation all
-summed invocation limit tries states status all is (inl same) judges = subst (λ n. (n ≡ 64) ⊎ Judges invocation n) (sym same) judges
-summed invocation limit tries states status all is (inr lost) judges =
-    inr ([], (Err faults.Write, subst (λ (s : Subcommand). Finds s [] (Err faults.Write)) (sym is) tt, lost))
+pub summed : (invocation : Invocation) (limit tries states count status all : ℕ) → invocation.subcommand ≡ subcommands.Test limit tries states → (all ≡ status) ⊎ (all ≡ 6)
+    → IsOfAll (Judges invocation) count status → IsOfAll (Judges invocation) count all ⊎ LosesCounts invocation.subcommand all
+summed invocation limit tries states count status all is (inl same) of_all = inl (subst (λ n. IsOfAll (Judges invocation) count n) (sym same) of_all)
+summed invocation limit tries states count status all is (inr lost) of_all = inr (subst (λ (s : Subcommand). LosesCounts s all) (sym is) lost)
 
 -- ---- of any command line
 
-verdict_in : {T : Type 0} (s : Subcommand) (against : Option T) (strict whole : Bool) (text : List ℕ) (end : End) (status : ℕ) → Finds s text (Ok end)
-    → Says s against strict whole text end status → IsStatusOf s text status
-verdict_in (subcommands.Explore limit tries states) against strict whole text end status finds (Other, shown, is) =
+verdict_in : {T : Type 0} (s : Subcommand) (scope : Scope) (against : Option T) (strict whole : Bool) (text : List ℕ) (end : End) (status : ℕ) → Finds s text (Ok end)
+    → Says s scope against strict whole text end status → IsStatusOf s text status
+verdict_in (subcommands.Explore limit tries states) scope against strict whole text end status finds (Other, shown, is) =
     of_verdict (subcommands.Explore limit tries states) text (Ok end) _ status finds refl (inr (inl is))
-verdict_in (subcommands.Explore limit tries states) against strict true text end status finds (SameSoFar, shown, is) =
+verdict_in (subcommands.Explore limit tries states) scope against strict true text end status finds (SameSoFar, shown, is) =
     of_verdict (subcommands.Explore limit tries states) text (Ok end) _ status finds refl (inr (inr is))
-verdict_in (subcommands.Explore limit tries states) against strict false text end status finds (SameSoFar, shown, is) =
+verdict_in (subcommands.Explore limit tries states) scope against strict false text end status finds (SameSoFar, shown, is) =
     told (subcommands.Explore limit tries states) text (Ok end) status finds (is ∙ sym (ap (λ (e : End). report_status (Ok e)) finds.0))
-verdict_in (subcommands.Explore limit tries states) against strict whole text end status finds (Same, shown, is) =
+verdict_in (subcommands.Explore limit tries states) scope against strict whole text end status finds (Same, shown, is) =
     told (subcommands.Explore limit tries states) text (Ok end) status finds (is ∙ sym (ap (λ (e : End). report_status (Ok e)) finds.0))
-verdict_in (subcommands.Test limit tries states) against strict whole text end status finds (true, shown, is) =
+verdict_in (subcommands.Explore limit tries states) scope against strict whole text end status finds (Unended, shown, is) =
+    told (subcommands.Explore limit tries states) text (Ok end) status finds (is ∙ sym (ap (λ (e : End). report_status (Ok e)) finds.0))
+verdict_in (subcommands.Explore limit tries states) scope against strict whole text end status finds (Unshown, shown, is) =
+    of_verdict (subcommands.Explore limit tries states) text (Ok end) _ status finds refl (inr (inl is))
+verdict_in (subcommands.Test limit tries states) scope against strict whole text end status finds (true, shown, is) =
     told (subcommands.Test limit tries states) text (Ok end) status finds (is ∙ sym (ap (λ (e : End). report_status (Ok e)) finds.0))
-verdict_in (subcommands.Test limit tries states) against strict whole text end status finds (false, shown, is) =
+verdict_in (subcommands.Test limit tries states) scope against strict whole text end status finds (false, shown, is) =
     of_verdict (subcommands.Test limit tries states) text (Ok end) _ status finds refl (inr is)
-verdict_in subcommands.Check None strict whole text end status finds is = told subcommands.Check text (Ok end) status finds is
-verdict_in subcommands.List None strict whole text end status finds is = told subcommands.List text (Ok end) status finds is
-verdict_in (subcommands.Reference limit) None strict whole text end status finds is = told (subcommands.Reference limit) text (Ok end) status finds is
-verdict_in (subcommands.Timeline limit) None strict whole text end status finds is = told (subcommands.Timeline limit) text (Ok end) status finds is
-verdict_in (subcommands.Inspect limit) None strict whole text end status finds is = told (subcommands.Inspect limit) text (Ok end) status finds is
-verdict_in (subcommands.Paused limit) None strict whole text end status finds is = told (subcommands.Paused limit) text (Ok end) status finds is
-verdict_in (subcommands.Run workers limit) None strict whole text end status finds is = told (subcommands.Run workers limit) text (Ok end) status finds is
-verdict_in (subcommands.Paused limit) (Some path) strict whole text end status finds (pauses, recorded, (lines, true, traced, as_said, is)) =
+verdict_in subcommands.Check scope None strict whole text end status finds is = told subcommands.Check text (Ok end) status finds is
+verdict_in subcommands.List scope None strict whole text end status finds is = told subcommands.List text (Ok end) status finds is
+verdict_in (subcommands.Reference limit) scope None strict whole text end status finds is = told (subcommands.Reference limit) text (Ok end) status finds is
+verdict_in (subcommands.Timeline limit) scope None strict whole text end status finds is = told (subcommands.Timeline limit) text (Ok end) status finds is
+verdict_in (subcommands.Inspect limit) scope None strict whole text end status finds is = told (subcommands.Inspect limit) text (Ok end) status finds is
+verdict_in (subcommands.Paused limit) scope None strict whole text end status finds is = told (subcommands.Paused limit) text (Ok end) status finds is
+verdict_in (subcommands.Run workers limit) scope None strict whole text end status finds is = told (subcommands.Run workers limit) text (Ok end) status finds is
+verdict_in (subcommands.Paused limit) scope (Some path) strict whole text end status finds (pauses, recorded, (lines, true, traced, as_said, is)) =
     told (subcommands.Paused limit) text (Ok end) status finds is
-verdict_in (subcommands.Paused limit) (Some path) strict whole text end status finds (pauses, recorded, (lines, false, traced, as_said, is)) =
+verdict_in (subcommands.Paused limit) scope (Some path) strict whole text end status finds (pauses, recorded, (lines, false, traced, as_said, is)) =
     of_verdict (subcommands.Paused limit) text (Ok end) _ status finds refl (inr is)
-verdict_in (subcommands.Run workers limit) (Some path) strict whole text end status finds (pauses, recorded, (lines, true, traced, as_said, is)) =
+verdict_in (subcommands.Run workers limit) scope (Some path) strict whole text end status finds (pauses, recorded, (lines, true, traced, as_said, is)) =
     told (subcommands.Run workers limit) text (Ok end) status finds is
-verdict_in (subcommands.Run workers limit) (Some path) strict whole text end status finds (pauses, recorded, (lines, false, traced, as_said, is)) =
+verdict_in (subcommands.Run workers limit) scope (Some path) strict whole text end status finds (pauses, recorded, (lines, false, traced, as_said, is)) =
     of_verdict (subcommands.Run workers limit) text (Ok end) _ status finds refl (inr is)
-verdict_in subcommands.Check (Some path) strict whole text end status finds (pauses, recorded, (lines, same, traced, as_said, told_so)) = absurd traced
-verdict_in subcommands.List (Some path) strict whole text end status finds (pauses, recorded, (lines, same, traced, as_said, told_so)) = absurd traced
-verdict_in (subcommands.Reference limit) (Some path) strict whole text end status finds (pauses, recorded, (lines, same, traced, as_said, told_so)) = absurd traced
-verdict_in (subcommands.Timeline limit) (Some path) strict whole text end status finds (pauses, recorded, (lines, same, traced, as_said, told_so)) = absurd traced
-verdict_in (subcommands.Inspect limit) (Some path) strict whole text end status finds (pauses, recorded, (lines, same, traced, as_said, told_so)) = absurd traced
+verdict_in subcommands.Check scope (Some path) strict whole text end status finds (pauses, recorded, (lines, same, traced, as_said, told_so)) = absurd traced
+verdict_in subcommands.List scope (Some path) strict whole text end status finds (pauses, recorded, (lines, same, traced, as_said, told_so)) = absurd traced
+verdict_in (subcommands.Reference limit) scope (Some path) strict whole text end status finds (pauses, recorded, (lines, same, traced, as_said, told_so)) = absurd traced
+verdict_in (subcommands.Timeline limit) scope (Some path) strict whole text end status finds (pauses, recorded, (lines, same, traced, as_said, told_so)) = absurd traced
+verdict_in (subcommands.Inspect limit) scope (Some path) strict whole text end status finds (pauses, recorded, (lines, same, traced, as_said, told_so)) = absurd traced
 
 status_in : (invocation : Invocation) (text : List ℕ) (outcome : Result End Fault) (status : ℕ) → Finds invocation.subcommand text outcome → IsSaid invocation text outcome status
     → IsStatusOf invocation.subcommand text status
-status_in invocation text (Ok end) status finds is = verdict_in invocation.subcommand invocation.against invocation.strict invocation.whole text end status finds is
+status_in invocation text (Ok end) status finds is = verdict_in invocation.subcommand (scope_of invocation) invocation.against invocation.strict invocation.whole text end status finds is
 status_in invocation text (Err fault) status finds is = told invocation.subcommand text (Err fault) status finds is
 
 -- what the status says of some program is the status of some program
@@ -236,6 +234,21 @@ tells : (invocation : Invocation) (status : ℕ) → (status ≡ 64) ⊎ Judges 
 tells invocation status (inl is) = inl is
 tells invocation status (inr (text, (outcome, finds, is))) = inr (text, status_in invocation text outcome status finds is)
 
-pub judged_status : (words : List Text) (status : ℕ) → Obeys Judges words status → IsStatus status
-judged_status words status obeys =
-    obeyed {Reports = Judges} words status (λ invocation judges. told_status invocation.subcommand status (tells invocation status judges)) obeys
+lost_status : (subcommand : Subcommand) (status : ℕ) → LosesCounts subcommand status → IsStatus status
+lost_status (subcommands.Test limit tries states) status is = inl (omega (arith, is))
+lost_status subcommands.Check status is = absurd is
+lost_status subcommands.List status is = absurd is
+lost_status (subcommands.Reference limit) status is = absurd is
+lost_status (subcommands.Timeline limit) status is = absurd is
+lost_status (subcommands.Explore limit tries states) status is = absurd is
+lost_status (subcommands.Inspect limit) status is = absurd is
+lost_status (subcommands.Paused limit) status is = absurd is
+lost_status (subcommands.Run workers limit) status is = absurd is
+
+pub judged_status : (words : List Text) (status : ℕ) → Obeys JudgesAll words status → IsStatus status
+judged_status words status obeys = obeyed {Reports = JudgesAll} words status by obeys
+  where
+    by : (invocation : Invocation) → (status ≡ 64) ⊎ JudgesAll invocation status → IsStatus status
+    by invocation (inl is) = inr (inl is)
+    by invocation (inr (inl all)) = of_all_status (Judges invocation) _ status (λ one judges. told_status invocation.subcommand one (tells invocation one judges)) all
+    by invocation (inr (inr lost)) = lost_status invocation.subcommand status lost

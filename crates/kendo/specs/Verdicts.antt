@@ -1,10 +1,10 @@
 -- What an exit status says of a program.
-use Rattle.std.specs.Prelude.{◌≡◌, ℕ, Bool, true, false, List, Option, Some, None, Result, Ok, Err}
+use Rattle.std.specs.Prelude.{◌≡◌, ◌⊎◌, ℕ, Bool, true, false, not, List, Option, Some, None, Result, Ok, Err, length}
 use Rattle.command_line.specs.declared.arguments.Invocation.{Invocation}
 use Rattle.command_line.specs.declared.arguments.Subcommand.{Subcommand}
 use Rattle.command_line.specs.declared.arguments.Subcommand.TheVariants as subcommands
 use Rattle.exploration.specs.declared.findings.Verdict.{Verdict}
-use Rattle.exploration.specs.declared.findings.Verdict.TheVariants.{Other, Same, SameSoFar}
+use Rattle.exploration.specs.declared.findings.Verdict.TheVariants.{Other, Same, SameSoFar, Unended, Unshown}
 use Rattle.go_text.specs.declared.fault.Fault.{Fault}
 use Rattle.kendo_compare.specs.Comparing.{IsCompared}
 use Rattle.kendo_compare.specs.Traces.{IsTraced, IsTracedBy}
@@ -12,32 +12,39 @@ use Rattle.kendo_explore.specs.Explored.{AreShown}
 use Rattle.kendo_explore.specs.declared.exploring.Explored.{Explored}
 use Rattle.kendo_reading.specs.Reading.{Reads}
 use Rattle.kendo_report.specs.Outcome.{report_status}
-use Rattle.kendo_shell.specs.Answers.{Finds, IsReason}
+use Rattle.kendo_shell.specs.Answers.{Finds, IsOfAll, IsReason}
 use Rattle.kendo_test.specs.Passing.{IsRight}
 use Rattle.kendo_test.specs.declared.testing.Verdict.{Verdict as TestVerdict}
 use Rattle.kendo_test.specs.declared.testing.Verdict.TheVariants as tests
 use Rattle.pauses.specs.Plans.{Pause}
+use Rattle.program_states.specs.declared.space.Scope.{Scope}
 use Rattle.syntax.specs.Tree.{File}
 use Rattle.whole_run.specs.Runs.{IsLimit}
 use Rattle.word.specs.declared.end.End.{End}
 
 -- ---- explorations
 
+-- which ends differ for the command
+abbrev pub scope_of : Invocation → Scope
+scope_of invocation = record { outputs = not invocation.ends; lines_in_order = invocation.ordered; leaks = invocation.leaks }
+
 -- what an exploration of the text shows
-abbrev pub IsExplored : Subcommand → (text : List ℕ) → Verdict → Type 0
-IsExplored (subcommands.Explore limit tries states) text verdict =
-    IsLimit limit × ((file : File) × (explored : Explored) × Reads text file × AreShown file limit explored × (explored.verdict ≡ verdict))
-IsExplored subcommand text verdict = ⊥
+abbrev pub IsExplored : Subcommand → Scope → (text : List ℕ) → Verdict → Type 0
+IsExplored (subcommands.Explore limit tries states) scope text verdict =
+    IsLimit limit × ((file : File) × (explored : Explored) × Reads text file × AreShown file limit scope explored × (explored.verdict ≡ verdict))
+IsExplored subcommand scope text verdict = ⊥
 
 -- that, or why there is none
-abbrev pub Explores : Subcommand → (text : List ℕ) → Result Verdict Fault → Type 0
-Explores subcommand text (Ok verdict) = IsExplored subcommand text verdict
-Explores subcommand text (Err fault) = IsReason subcommand text fault
+abbrev pub Explores : Subcommand → Scope → (text : List ℕ) → Result Verdict Fault → Type 0
+Explores subcommand scope text (Ok verdict) = IsExplored subcommand scope text verdict
+Explores subcommand scope text (Err fault) = IsReason subcommand text fault
 
 -- the status of an exploration, which with `--whole` says if not all orders were searched
 abbrev pub explored_status : Verdict → (whole : Bool) → ℕ
 explored_status Other whole = 8
+explored_status Unshown whole = 8
 explored_status Same whole = 0
+explored_status Unended whole = 0
 explored_status SameSoFar true = 9
 explored_status SameSoFar false = 0
 
@@ -51,17 +58,19 @@ exploration_status (Err fault) whole = report_status (Err fault)
 abbrev pub passes : TestVerdict → Bool
 passes (tests.Passed expectation) = true
 passes (tests.Failed expectation) = false
+passes (tests.Doubted expectation) = false
 passes tests.Untested = false
 
 -- a test of the text shows that it passes, or that it fails or can't be tested
-abbrev pub IsTested : Subcommand → (text : List ℕ) → (passed : Bool) → Type 0
-IsTested (subcommands.Test limit tries states) text passed = IsLimit limit × ((verdict : TestVerdict) × IsRight verdict text limit × (passed ≡ passes verdict))
-IsTested subcommand text passed = ⊥
+abbrev pub IsTested : Subcommand → (leaks : Bool) → (text : List ℕ) → (passed : Bool) → Type 0
+IsTested (subcommands.Test limit tries states) leaks text passed =
+    IsLimit limit × ((verdict : TestVerdict) × IsRight verdict leaks text limit × (passed ≡ passes verdict))
+IsTested subcommand leaks text passed = ⊥
 
 -- that, or why there is none
-abbrev pub Tests : Subcommand → (text : List ℕ) → Result Bool Fault → Type 0
-Tests subcommand text (Ok passed) = IsTested subcommand text passed
-Tests subcommand text (Err fault) = IsReason subcommand text fault
+abbrev pub Tests : Subcommand → (leaks : Bool) → (text : List ℕ) → Result Bool Fault → Type 0
+Tests subcommand leaks text (Ok passed) = IsTested subcommand leaks text passed
+Tests subcommand leaks text (Err fault) = IsReason subcommand text fault
 
 abbrev pub tested_status : (passed : Bool) → ℕ
 tested_status true = 0
@@ -105,22 +114,22 @@ Compares invocation pauses recorded text status =
 -- ---- all commands
 
 -- the status of a command that came to an end. `against` is the path of a recorded trace
-abbrev pub Says : {T : Type 0} → Subcommand → (against : Option T) → (strict whole : Bool) → (text : List ℕ) → End → (status : ℕ) → Type 0
-Says (subcommands.Explore limit tries states) against strict whole text end status =
-    (verdict : Verdict) × IsExplored (subcommands.Explore limit tries states) text verdict × (status ≡ explored_status verdict whole)
-Says (subcommands.Test limit tries states) against strict whole text end status =
-    (passed : Bool) × IsTested (subcommands.Test limit tries states) text passed × (status ≡ tested_status passed)
-Says subcommand None strict whole text end status = status ≡ report_status (Ok end)
-Says subcommand (Some path) strict whole text end status = (pauses : List Pause) × (recorded : List ℕ) × IsAgainst subcommand pauses strict recorded text end status
+abbrev pub Says : {T : Type 0} → Subcommand → Scope → (against : Option T) → (strict whole : Bool) → (text : List ℕ) → End → (status : ℕ) → Type 0
+Says (subcommands.Explore limit tries states) scope against strict whole text end status =
+    (verdict : Verdict) × IsExplored (subcommands.Explore limit tries states) scope text verdict × (status ≡ explored_status verdict whole)
+Says (subcommands.Test limit tries states) scope against strict whole text end status =
+    (passed : Bool) × IsTested (subcommands.Test limit tries states) scope.leaks text passed × (status ≡ tested_status passed)
+Says subcommand scope None strict whole text end status = status ≡ report_status (Ok end)
+Says subcommand scope (Some path) strict whole text end status = (pauses : List Pause) × (recorded : List ℕ) × IsAgainst subcommand pauses strict recorded text end status
 
 -- or the status of why it did not
-abbrev pub SaysIfAny : {T : Type 0} → Subcommand → (against : Option T) → (strict whole : Bool) → (text : List ℕ) → Result End Fault → (status : ℕ) → Type 0
-SaysIfAny subcommand against strict whole text (Ok end) status = Says subcommand against strict whole text end status
-SaysIfAny subcommand against strict whole text (Err fault) status = status ≡ report_status (Err fault)
+abbrev pub SaysIfAny : {T : Type 0} → Subcommand → Scope → (against : Option T) → (strict whole : Bool) → (text : List ℕ) → Result End Fault → (status : ℕ) → Type 0
+SaysIfAny subcommand scope against strict whole text (Ok end) status = Says subcommand scope against strict whole text end status
+SaysIfAny subcommand scope against strict whole text (Err fault) status = status ≡ report_status (Err fault)
 
 -- the status of what the invocation finds
 abbrev pub IsSaid : Invocation → (text : List ℕ) → Result End Fault → (status : ℕ) → Type 0
-IsSaid invocation text outcome status = SaysIfAny invocation.subcommand invocation.against invocation.strict invocation.whole text outcome status
+IsSaid invocation text outcome status = SaysIfAny invocation.subcommand (scope_of invocation) invocation.against invocation.strict invocation.whole text outcome status
 
 -- the exit status of what the invocation finds in this program
 abbrev pub IsJudged : Invocation → (text : List ℕ) → (status : ℕ) → Type 0
@@ -129,6 +138,15 @@ IsJudged invocation text status = (outcome : Result End Fault) × Finds invocati
 -- the exit status of what it finds in some program, as a file's bytes are in no contract
 abbrev pub Judges : Invocation → (status : ℕ) → Type 0
 Judges invocation status = (text : List ℕ) × IsJudged invocation text status
+
+-- the exit status if the line that says how many tests passed can't be written
+abbrev pub LosesCounts : Subcommand → (status : ℕ) → Type 0
+LosesCounts (subcommands.Test limit tries states) status = status ≡ 6
+LosesCounts subcommand status = ⊥
+
+-- the exit status of what the invocation finds in its files
+abbrev pub JudgesAll : Invocation → (status : ℕ) → Type 0
+JudgesAll invocation status = IsOfAll (Judges invocation) (length invocation.files.now) status ⊎ LosesCounts invocation.subcommand status
 
 -- what a command finds that neither explores nor tests
 abbrev pub FindsPlainly : Subcommand → (text : List ℕ) → Result End Fault → Type 0

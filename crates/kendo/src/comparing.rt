@@ -8,6 +8,7 @@ ghost use Rattle.pauses.specs.Plans.{pauses_of};
 
 use crate::explaining::{explain, kept_program};
 use crate::exploring::Task;
+use crate::plans::GivenPlan;
 use command_line::arguments::{Invocation, Subcommand};
 use go_text::{Fault, Memory};
 use kendo_compare::{
@@ -34,7 +35,7 @@ pub(crate) fn compare_file(
     threads: &(impl Threads + Wait + Sync),
     alloc: Global,
     invocation: &Invocation<'_, '_>,
-    plan: &Plan,
+    plan: &GivenPlan<'_>,
     file: &str,
 ) -> Result<u8, Memory>
     ensures { IfOk result (λ status. (status ≡ USAGE) ⊎ Judges invocation.now status) }
@@ -48,6 +49,7 @@ pub(crate) fn compare_file(
     let Some((bytes, _no_trace)) = opened(rt, alloc, invocation, file, None)? else {
         return Ok(USAGE);
     };
+    plan.compare_source(rt, alloc, file, bytes.as_slice())?;
     let recorded = Recorded {
         path,
         bytes: recorded.as_slice(),
@@ -59,7 +61,7 @@ pub(crate) fn compare_file(
         invocation,
         file,
     };
-    compare_run(task, threads, invocation, plan, bytes, &recorded)
+    compare_run(task, threads, invocation, &plan.plan, bytes, &recorded)
 }
 
 /// Like `compare_file`, for the bytes of the file and of the recorded trace.

@@ -2,40 +2,26 @@
 
 ghost use Rattle.std.specs.Prelude.{◌≡◌, ◌⊎◌, IfErr, IfOk};
 ghost use Rattle.command_line.specs.declared.arguments.Subcommand.TheVariants as subcommands;
-ghost use Rattle.kendo.specs.Verdicts.{Explores, IsJudged, Judges, exploration_status, explored_status};
+ghost use Rattle.kendo.specs.Verdicts.{Explores, IsJudged, Judges, exploration_status, explored_status, scope_of};
 
 use crate::explaining::{explain, kept_program};
+use crate::plan_files::check_folder;
+use crate::progress::Follower;
 use command_line::arguments::{Invocation, Subcommand};
 use go_text::{Fault, Memory};
-use kendo_explore::{Explored, Options, PlanFile, Progress, Scope, Verdict, explore_bytes};
+use kendo_explore::{Explored, Options, Scope, Verdict, explore_bytes};
 use kendo_shell::USAGE;
 use kendo_shell::files::opened;
-use kendo_shell::streams::{tell, told};
+use kendo_shell::streams::told;
 use kendo_shell::tracing::{Outputs, Trace};
 use std::alloc::Global;
-use std::fs;
 use word::write_all;
 
-/// The exit status if another end was found.
+/// The exit status if an order ends in an error, or in another way than the ordinary run.
 const OTHER: u8 = 8;
 
 /// The exit status if not all orders could be searched, and that counts.
 const NOT_ALL: u8 = 9;
-
-/// Reports on standard error how many states were visited.
-#[derive(Clone, Copy)]
-pub(crate) struct Counter<'r> {
-    pub rt: &'r HostRuntime,
-    pub alloc: Global,
-}
-
-impl Progress for Counter<'_> {
-    fn visited(&mut self, states: usize) {
-        if let Ok(line) = format!(in self.alloc; "{states} states\n") {
-            tell(self.rt, line.as_bytes());
-        }
-    }
-}
 
 /// An exploration, or a test, of the program of a file.
 #[derive(Clone, Copy)]
@@ -60,9 +46,24 @@ pub(crate) fn explore_file(
         trace: None,
         ..*invocation
     };
-    match opened(rt, alloc, &source, file, None)? {
-        Some((bytes, _no_trace)) => explore(rt, alloc, invocation, file, bytes),
-        None => Ok(USAGE),
+    let Some((bytes, _no_trace)) = opened(rt, alloc, &source, file, None)? else {
+        return Ok(USAGE);
+    };
+    if !has_folder(rt, alloc, invocation)? {
+        return Ok(USAGE);
+    }
+    explore(rt, alloc, invocation, file, bytes)
+}
+
+/// Whether plans can be written to the folder that the command names, if it names one; else standard error says why not.
+pub(crate) fn has_folder(
+    rt: &HostRuntime,
+    alloc: Global,
+    invocation: &Invocation<'_, '_>,
+) -> Result<bool, Memory> {
+    match invocation.out {
+        Some(folder) => check_folder(rt, alloc, folder, invocation.explains),
+        None => Ok(true),
     }
 }
 
@@ -112,9 +113,9 @@ fn status_of(verdict: Verdict, whole: bool) -> u8
     ensures { result ≡ explored_status verdict whole }
 {
     match verdict {
-        Verdict::Other => OTHER,
+        Verdict::Other | Verdict::Unshown => OTHER,
         Verdict::SameSoFar if whole => NOT_ALL,
-        Verdict::Same | Verdict::SameSoFar => 0,
+        Verdict::Same | Verdict::Unended | Verdict::SameSoFar => 0,
     }
 }
 
@@ -125,7 +126,7 @@ fn find(
     bytes: Vec<u8>,
     outputs: &mut Outputs,
 ) -> Result<Verdict, Fault>
-    ensures { Explores invocation.now.subcommand bytes.items result }
+    ensures { Explores invocation.now.subcommand (scope_of invocation.now) bytes.items result }
 {
     match invocation.subcommand {
         Subcommand::Explore {
@@ -137,15 +138,22 @@ fn find(
                 tries,
                 states,
                 limit,
-                scope: Scope {
-                    outputs: !invocation.ends,
-                    lines_in_order: !invocation.unordered,
-                    leaks: invocation.leaks,
-                },
+                scope: scope_of(invocation),
             };
             task.explore(bytes, options, outputs)
         }
         _ => Err(Fault::Memory),
+    }
+}
+
+/// Which ends differ for the command.
+fn scope_of(invocation: &Invocation<'_, '_>) -> Scope
+    ensures { result ≡ scope_of invocation.now }
+{
+    Scope {
+        outputs: !invocation.ends,
+        lines_in_order: invocation.ordered,
+        leaks: invocation.leaks,
     }
 }
 
@@ -157,45 +165,23 @@ impl Task<'_, '_, '_> {
         options: Options,
         outputs: &mut Outputs,
     ) -> Result<Verdict, Fault>
-        ensures { Explores (subcommands.Explore options.limit options.tries options.states) bytes.items result }
+        ensures { Explores (subcommands.Explore options.limit options.tries options.states) options.scope bytes.items result }
     {
-        let mut counter = Counter {
-            rt: self.rt,
-            alloc: self.alloc,
-        };
-        let explored = explore_bytes(self.alloc, self.file, bytes, options, &mut counter)?;
-        self.write(&explored, outputs)?;
+        let mut follower = Follower::new(self.rt, self.alloc, self.invocation, self.file);
+        let explored = explore_bytes(self.alloc, self.file, bytes, options, &mut follower)?;
+        follower.clear();
+        write(&explored, outputs)?;
+        follower.all_written()?;
         Ok(explored.verdict)
     }
+}
 
-    /// Writes the report to standard output, and the plans to their files.
-    fn write(self, explored: &Explored, outputs: &mut Outputs) -> Result<(), Fault>
-        ensures { IfErr result (λ fault. (fault ≡ Fault.Memory) ⊎ (fault ≡ Fault.Write)) }
-    {
-        for plan in explored.plans.iter() {
-            self.write_plan(plan)?;
-        }
-        match write_all(&mut outputs.standard, explored.report.as_slice()) {
-            Ok(()) => Ok(()),
-            Err(_) => Err(Fault::Write),
-        }
-    }
-
-    /// Writes a plan to its file in the folder, or in the current one.
-    pub(crate) fn write_plan(self, plan: &PlanFile) -> Result<(), Fault>
-        ensures { IfErr result (λ fault. (fault ≡ Fault.Memory) ⊎ (fault ≡ Fault.Write)) }
-    {
-        let name = plan.name.as_str();
-        let path = match self.invocation.out {
-            Some(folder) => format!(in self.alloc; "{folder}/{name}"),
-            None => format!(in self.alloc; "{name}"),
-        };
-        let Ok(path) = path else {
-            return Err(Fault::Memory);
-        };
-        match fs::write(self.rt, path.as_str(), plan.bytes.as_slice()) {
-            Ok(()) => Ok(()),
-            Err(_) => Err(Fault::Write),
-        }
+/// Writes the report to standard output.
+fn write(explored: &Explored, outputs: &mut Outputs) -> Result<(), Fault>
+    ensures { IfErr result (λ fault. fault ≡ Fault.Write) }
+{
+    match write_all(&mut outputs.standard, explored.report.as_slice()) {
+        Ok(()) => Ok(()),
+        Err(_) => Err(Fault::Write),
     }
 }

@@ -7,7 +7,7 @@ ghost use Rattle.kendo_shell.specs.Answers.{Finds};
 ghost use Rattle.syntax.specs.Tree.{File};
 ghost use Rattle.whole_run.specs.Runs.{IsLimit};
 
-use command_line::arguments::{Invocation, Subcommand};
+use command_line::arguments::Invocation;
 use go_text::Fault;
 use kendo_inspect::{Inspected, Until, inspect_bytes, inspect_paused_bytes};
 use kendo_shell::tracing::Outputs;
@@ -16,16 +16,19 @@ use std::alloc::Global;
 use word::end::End;
 use word::write_all;
 
-/// The line on standard error if a run is to be inspected, and it isn't said at which one moment.
+/// The last clock that is shown if the command names no moment: a run that goes on then is shown as it is at this clock.
+const LAST_CLOCK: u64 = 1_000_000;
+
+/// The line below what is shown of such a run.
+const GOES_ON: &[u8] =
+    b"the run goes on: this is its moment at logical time 1000000; --at and --event show a later one\n";
+
+/// The line on standard error if the command to inspect names two moments, or one that there is not.
 pub(crate) fn moment_conflict(invocation: &Invocation<'_, '_>) -> Option<&'static [u8]> {
-    let Subcommand::Inspect { .. } = invocation.subcommand else {
-        return None;
-    };
     match (invocation.event, invocation.at) {
         (Some(0), None) => Some(b"kendo: events are counted from 1\n"),
-        (None, None) => Some(b"kendo: inspect needs --event or --at\n"),
         (Some(_), Some(_)) => Some(b"kendo: --event and --at can't be used together\n"),
-        (Some(_), None) | (None, Some(_)) => None,
+        (Some(_) | None, None) | (None, Some(_)) => None,
     }
 }
 
@@ -41,7 +44,7 @@ pub(crate) fn inspect(
     ensures { Finds (subcommands.Inspect limit) bytes.items result }
 {
     let seen = inspected(alloc, bytes, plan, limit, invocation)?;
-    show(&seen, outputs)?;
+    show(&seen, rest_of(&seen, invocation), outputs)?;
     Ok(End::Finished)
 }
 
@@ -66,20 +69,36 @@ fn inspected(
     }
 }
 
-/// The moment that the command names.
+/// The moment that the command names, else the last one up to `LAST_CLOCK`.
 fn until_of(invocation: &Invocation<'_, '_>) -> Until {
     match (invocation.event, invocation.at) {
         (Some(number), _) => Until::Event(number),
         (None, Some(time)) => Until::Clock(time),
-        (None, None) => Until::Clock(0),
+        (None, None) => Until::Clock(LAST_CLOCK),
     }
 }
 
-/// Writes what is shown of a moment to standard output.
-fn show(seen: &Inspected, outputs: &mut Outputs) -> Result<(), Fault>
+/// The line below what is shown: that the run goes on, if the command names no moment and the run has not ended.
+fn rest_of(seen: &Inspected, invocation: &Invocation<'_, '_>) -> &'static [u8] {
+    match (invocation.event, invocation.at, seen.end) {
+        (None, None, None) => GOES_ON,
+        _ => b"",
+    }
+}
+
+/// Writes what is shown of a moment, and the line below it, to standard output.
+fn show(seen: &Inspected, rest: &[u8], outputs: &mut Outputs) -> Result<(), Fault>
     ensures { IfErr result (λ fault. fault ≡ Fault.Write) }
 {
-    match write_all(&mut outputs.standard, seen.text.as_slice()) {
+    write(seen.text.as_slice(), outputs)?;
+    write(rest, outputs)
+}
+
+/// Writes these bytes to standard output.
+fn write(bytes: &[u8], outputs: &mut Outputs) -> Result<(), Fault>
+    ensures { IfErr result (λ fault. fault ≡ Fault.Write) }
+{
+    match write_all(&mut outputs.standard, bytes) {
         Ok(()) => Ok(()),
         Err(_) => Err(Fault::Write),
     }

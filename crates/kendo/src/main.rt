@@ -1,16 +1,18 @@
 //! The program: its command line, its files, and the standard streams.
 #![tactic(auto)]
 
-ghost use Rattle.std.specs.Prelude.{◌≡◌, ◌⊎◌, IfOk, map, None, string_bytes};
-ghost use Rattle.kendo.specs.Verdicts.{FindsPlainly, IsJudged, Judges};
-ghost use Rattle.kendo_shell.specs.Answers.{Finds, IsStatus, Obeys};
+ghost use Rattle.std.specs.Prelude.{◌≡◌, ◌⊎◌, IfOk, length, map, None, string_bytes};
+ghost use Rattle.kendo.specs.Verdicts.{FindsPlainly, IsJudged, Judges, JudgesAll};
+ghost use Rattle.kendo_shell.specs.Answers.{Finds, IsOfAll, IsOfOne, IsStatus, Obeys};
 
 mod comparing;
 mod explaining;
 mod exploring;
 mod inspecting;
 mod pictures;
+mod plan_files;
 mod plans;
+mod progress;
 mod testing;
 
 use command_line::arguments::{Invocation, Subcommand, command, invocation_of};
@@ -21,16 +23,15 @@ use go_text::{Fault, Memory};
 use inspecting::{inspect, moment_conflict};
 use kendo_base::run_text;
 use kendo_code::list_bytes;
-use kendo_front::{paused_bytes, reference_bytes, traced_bytes};
+use kendo_front::{paused_bytes_noting, reference_bytes, traced_bytes_noting};
 use kendo_shell::USAGE;
 use kendo_shell::checking::check;
 use kendo_shell::files::opened;
 use kendo_shell::streams::{Stream, exit, tell, told};
 use kendo_shell::tracing::{Outputs, Trace};
 use kendo_shell::words::{first_failure, name_of, show, with_environment, words_in};
-use pauses::Plan;
 use pictures::picture;
-use plans::plan_of;
+use plans::{GivenPlan, plan_of};
 use std::alloc::Global;
 use std::fs::File;
 use std::io::Stdout;
@@ -63,7 +64,7 @@ fn obey(
     alloc: Global,
     words: &[String],
 ) -> Result<u8, Memory>
-    ensures { IfOk result (λ status. Obeys Judges (map string_bytes words.now) status) }
+    ensures { IfOk result (λ status. Obeys JudgesAll (map string_bytes words.now) status) }
 {
     match command(alloc)?.try_get_matches_from(words) {
         Ok(matches) => match invocation_of(&matches) {
@@ -82,7 +83,7 @@ fn perform(
     alloc: Global,
     invocation: &Invocation<'_, '_>,
 ) -> Result<u8, Memory>
-    ensures { IfOk result (λ status. (status ≡ USAGE) ⊎ Judges invocation.now status) }
+    ensures { IfOk result (λ status. (status ≡ USAGE) ⊎ JudgesAll invocation.now status) }
 {
     if let Some(line) = conflict(invocation) {
         tell(rt, line);
@@ -95,8 +96,8 @@ fn perform(
     let Some(plan) = plan_of(rt, alloc, invocation)? else {
         return Ok(USAGE);
     };
-    let first = perform_on(rt, threads, alloc, invocation, &plan, invocation.file)?;
-    perform_rest(rt, threads, alloc, invocation, &plan, first)
+    let status = perform_each(rt, threads, alloc, invocation, &plan)?;
+    Ok(status)
 }
 
 /// The line on standard error if two options can't be used together.
@@ -110,23 +111,36 @@ fn conflict(invocation: &Invocation<'_, '_>) -> Option<&'static [u8]> {
     if invocation.strict && invocation.against.is_none() {
         return Some(b"kendo: --strict needs --against\n");
     }
-    moment_conflict(invocation)
+    if invocation.ordered && invocation.unordered {
+        return Some(b"kendo: --ordered and --unordered can't be used together\n");
+    }
+    match invocation.subcommand {
+        Subcommand::Test { .. } => test_conflict(invocation),
+        Subcommand::Inspect { .. } => moment_conflict(invocation),
+        _ => None,
+    }
 }
 
-/// Like `perform`, for all files but the first, whose status is `first`.
-fn perform_rest(
+/// Like `conflict`, for a test: goroutines that wait for good are found by the search of other orders alone.
+fn test_conflict(invocation: &Invocation<'_, '_>) -> Option<&'static [u8]> {
+    if invocation.leaks && !invocation.orders {
+        return Some(b"kendo: --leaks needs --orders\n");
+    }
+    None
+}
+
+/// Like `perform`, with the plan that the command names.
+fn perform_each(
     rt: &HostRuntime,
     threads: &(impl Threads + Wait + Sync),
     alloc: Global,
     invocation: &Invocation<'_, '_>,
-    plan: &Plan,
-    first: u8,
+    plan: &GivenPlan<'_>,
 ) -> Result<u8, Memory>
-    requires { (first ≡ USAGE) ⊎ Judges invocation.now first }
-    ensures { IfOk result (λ status. (status ≡ USAGE) ⊎ Judges invocation.now status) }
+    ensures { IfOk result (IsOfAll (Judges invocation.now) (length invocation.now.files.now)) }
 {
-    let mut status = first;
-    for file in invocation.files.iter().skip(1) {
+    let mut status = 0;
+    for file in invocation.files {
         let next = perform_on(rt, threads, alloc, invocation, plan, file)?;
         status = first_failure(status, next);
     }
@@ -139,10 +153,10 @@ fn perform_on(
     threads: &(impl Threads + Wait + Sync),
     alloc: Global,
     invocation: &Invocation<'_, '_>,
-    plan: &Plan,
+    plan: &GivenPlan<'_>,
     file: &str,
 ) -> Result<u8, Memory>
-    ensures { IfOk result (λ status. (status ≡ USAGE) ⊎ Judges invocation.now status) }
+    ensures { IfOk result (IsOfOne (Judges invocation.now)) }
 {
     if let Subcommand::Explore { .. } = invocation.subcommand {
         return explore_file(rt, alloc, invocation, file);
@@ -159,11 +173,11 @@ fn answer_file(
     threads: &(impl Threads + Wait + Sync),
     alloc: Global,
     invocation: &Invocation<'_, '_>,
-    plan: &Plan,
+    plan: &GivenPlan<'_>,
     file: &str,
 ) -> Result<u8, Memory>
     requires { invocation.now.against ≡ None }
-    ensures { IfOk result (λ status. (status ≡ USAGE) ⊎ Judges invocation.now status) }
+    ensures { IfOk result (IsOfOne (Judges invocation.now)) }
 {
     match opened(rt, alloc, invocation, file, name_of(invocation, file))? {
         Some((bytes, trace)) => answer(rt, threads, alloc, invocation, plan, file, bytes, trace),
@@ -179,7 +193,7 @@ fn answer(
     threads: &(impl Threads + Wait + Sync),
     alloc: Global,
     invocation: &Invocation<'_, '_>,
-    plan: &Plan,
+    plan: &GivenPlan<'_>,
     file: &str,
     bytes: Vec<u8>,
     trace: Trace,
@@ -187,10 +201,12 @@ fn answer(
     requires { invocation.now.against ≡ None }
     ensures { IfOk result (IsJudged invocation.now bytes.items) }
 {
-    let kept = kept_program(alloc, invocation, file, Some(plan), bytes.as_slice());
+    plan.compare_source(rt, alloc, file, bytes.as_slice())?;
+    let kept = kept_program(alloc, invocation, file, Some(&plan.plan), bytes.as_slice());
     let mut outputs = Outputs::new(rt, trace);
     let outcome = find(threads, alloc, invocation, plan, bytes, &mut outputs);
     let status = told(rt, alloc, name_of(invocation, file), &outcome)?;
+    plan.report_unused(rt, alloc, invocation, &outcome)?;
     explain(rt, alloc, invocation, kept, outcome, outputs.refused());
     Ok(status)
 }
@@ -200,17 +216,18 @@ fn find(
     threads: &(impl Threads + Wait + Sync),
     alloc: Global,
     invocation: &Invocation<'_, '_>,
-    plan: &Plan,
+    given: &GivenPlan<'_>,
     bytes: Vec<u8>,
     outputs: &mut Outputs,
 ) -> Result<End, Fault>
     ensures { FindsPlainly invocation.now.subcommand bytes.items result }
 {
+    let plan = &given.plan;
     match invocation.subcommand {
         Subcommand::Check => check(alloc, bytes),
         Subcommand::List => list(alloc, bytes, outputs),
         Subcommand::Reference { limit } => interpret(alloc, bytes, limit, outputs),
-        Subcommand::Paused { limit } => pause(alloc, bytes, plan, limit, outputs),
+        Subcommand::Paused { limit } => pause(alloc, bytes, given, limit, outputs),
         Subcommand::Timeline { limit } => picture(alloc, bytes, plan, limit, invocation, outputs),
         Subcommand::Explore { .. } | Subcommand::Test { .. } => Err(Fault::Memory),
         Subcommand::Inspect { limit } => inspect(alloc, bytes, plan, limit, invocation, outputs),
@@ -240,7 +257,7 @@ fn interpret(alloc: Global, bytes: Vec<u8>, limit: u64, outputs: &mut Outputs) -
 fn pause(
     alloc: Global,
     bytes: Vec<u8>,
-    plan: &Plan,
+    plan: &GivenPlan<'_>,
     limit: u64,
     outputs: &mut Outputs,
 ) -> Result<End, Fault>
@@ -250,7 +267,7 @@ fn pause(
     if let Trace::Kept(trace) = file {
         return pause_traced(alloc, bytes, plan, limit, standard, trace);
     }
-    let end = paused_bytes(alloc, bytes, plan, limit, standard)?;
+    let end = paused_bytes_noting(alloc, bytes, &plan.plan, &plan.uses, limit, standard)?;
     Ok(end)
 }
 
@@ -258,13 +275,13 @@ fn pause(
 fn pause_traced(
     alloc: Global,
     bytes: Vec<u8>,
-    plan: &Plan,
+    plan: &GivenPlan<'_>,
     limit: u64,
     standard: &mut Stream<Stdout>,
     trace: &mut Stream<File>,
 ) -> Result<End, Fault>
     ensures { Finds (Subcommand.Paused limit) bytes.items result }
 {
-    let end = traced_bytes(alloc, bytes, plan, limit, standard, trace)?;
+    let end = traced_bytes_noting(alloc, bytes, &plan.plan, &plan.uses, limit, standard, trace)?;
     Ok(end)
 }

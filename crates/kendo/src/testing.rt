@@ -2,10 +2,12 @@
 
 ghost use Rattle.std.specs.Prelude.{◌≡◌, ◌⊎◌, IfErr, IfOk};
 ghost use Rattle.command_line.specs.declared.arguments.Subcommand.TheVariants as subcommands;
-ghost use Rattle.kendo.specs.Verdicts.{IsJudged, Judges, Tests, passes, test_status, tested_status};
+ghost use Rattle.kendo.specs.Verdicts.{IsJudged, Judges, JudgesAll, Tests, passes, test_status, tested_status};
+ghost use Rattle.kendo_shell.specs.Answers.{IsOfOne};
 
 use crate::explaining::{explain, kept_program};
-use crate::exploring::{Counter, Task};
+use crate::exploring::{Task, has_folder};
+use crate::progress::Follower;
 use command_line::arguments::{Invocation, Subcommand};
 use go_text::{Fault, Memory};
 use kendo_shell::files::opened;
@@ -62,7 +64,7 @@ pub(crate) fn test_files(
     alloc: Global,
     invocation: &Invocation<'_, '_>,
 ) -> Result<u8, Memory>
-    ensures { IfOk result (λ status. (status ≡ USAGE) ⊎ Judges invocation.now status) }
+    ensures { IfOk result (λ status. (status ≡ USAGE) ⊎ JudgesAll invocation.now status) }
 {
     let Subcommand::Test { limit, .. } = invocation.subcommand else {
         return Ok(USAGE);
@@ -70,10 +72,9 @@ pub(crate) fn test_files(
     if limit < 1 || limit > 1 << 62 {
         return bad_limit(rt, alloc);
     }
-    let first = test_file(rt, threads, alloc, invocation, invocation.file)?;
-    let mut counts = Counts::new().with(first);
-    let mut status = first;
-    for file in invocation.files.iter().skip(1) {
+    let mut counts = Counts::new();
+    let mut status = 0;
+    for file in invocation.files {
         let next = test_file(rt, threads, alloc, invocation, file)?;
         counts = counts.with(next);
         status = first_failure(status, next);
@@ -110,7 +111,7 @@ fn test_file(
     invocation: &Invocation<'_, '_>,
     file: &str,
 ) -> Result<u8, Memory>
-    ensures { IfOk result (λ status. (status ≡ USAGE) ⊎ Judges invocation.now status) }
+    ensures { IfOk result (IsOfOne (Judges invocation.now)) }
 {
     let source = Invocation {
         out: None,
@@ -168,7 +169,7 @@ fn find(
     bytes: Vec<u8>,
     outputs: &mut Outputs,
 ) -> Result<bool, Fault>
-    ensures { Tests invocation.now.subcommand bytes.items result }
+    ensures { Tests invocation.now.subcommand invocation.now.leaks bytes.items result }
 {
     match invocation.subcommand {
         Subcommand::Test {
@@ -177,7 +178,15 @@ fn find(
             states,
         } => {
             let search = OrderSearch { tries, states };
-            test(task, threads, bytes, limit, search, outputs)
+            test(
+                task,
+                threads,
+                bytes,
+                limit,
+                search,
+                invocation.leaks,
+                outputs,
+            )
         }
         _ => Err(Fault::Memory),
     }
@@ -190,9 +199,10 @@ fn test(
     bytes: Vec<u8>,
     limit: u64,
     search: OrderSearch,
+    leaks: bool,
     outputs: &mut Outputs,
 ) -> Result<bool, Fault>
-    ensures { Tests (subcommands.Test limit search.tries search.states) bytes.items result }
+    ensures { Tests (subcommands.Test limit search.tries search.states) leaks bytes.items result }
 {
     let Task {
         rt,
@@ -207,17 +217,20 @@ fn test(
         } else {
             None
         },
+        leaks,
     };
-    let mut counter = Counter { rt, alloc };
+    let mut follower = Follower::new(rt, alloc, invocation, file);
     let tested = test_bytes(
         threads,
         alloc,
         file,
         bytes.as_slice(),
         options,
-        &mut counter,
+        &mut follower,
     )?;
-    write(task, &tested, outputs)?;
+    follower.clear();
+    write(&tested, outputs)?;
+    follower.all_written()?;
     explain_test(task, bytes.as_slice(), &tested);
     Ok(is_passed(&tested.verdict))
 }
@@ -229,13 +242,10 @@ fn is_passed(verdict: &Verdict) -> bool
     matches!(verdict, Verdict::Passed(_))
 }
 
-/// Writes the lines that report a test to standard output, and its plans to their files.
-fn write(task: Task<'_, '_, '_>, tested: &Tested, outputs: &mut Outputs) -> Result<(), Fault>
-    ensures { IfErr result (λ fault. (fault ≡ Fault.Memory) ⊎ (fault ≡ Fault.Write)) }
+/// Writes the lines that report a test to standard output.
+fn write(tested: &Tested, outputs: &mut Outputs) -> Result<(), Fault>
+    ensures { IfErr result (λ fault. fault ≡ Fault.Write) }
 {
-    for plan in tested.plans.iter() {
-        task.write_plan(plan)?;
-    }
     match write_all(&mut outputs.standard, tested.lines.as_slice()) {
         Ok(()) => Ok(()),
         Err(_) => Err(Fault::Write),

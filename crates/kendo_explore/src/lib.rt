@@ -2,8 +2,7 @@
 #![tactic(auto)]
 
 mod exploring;
-mod names;
 
-pub use exploration::{Options, Ran, Verdict, is_own_limit};
+pub use exploration::{Extent, Options, Ran, Verdict};
 pub use exploring::{Explored, PlanFile, Progress, explore_bytes};
 pub use program_states::Scope;

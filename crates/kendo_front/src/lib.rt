@@ -4,9 +4,11 @@
 mod agreement;
 mod explanation;
 mod interpretation;
+mod noting;
 mod pausing;
 
 pub use agreement::runs_agree;
 pub use explanation::explain_end;
 pub use interpretation::reference_bytes;
+pub use noting::{paused_bytes_noting, traced_bytes_noting};
 pub use pausing::{paused_bytes, traced_bytes};

@@ -2,24 +2,18 @@
 
 ghost use Rattle.std.specs.Prelude.{◌≡◌, ◌⊎◌, ◌↔◌, IfErr, IfOk, IsErrOf, true};
 ghost use Rattle.meaning.specs.Source.{source_kind};
-ghost use Rattle.checker.specs.Trees.{tree_in};
 ghost use Rattle.kendo_reading.specs.Reading.{HasNoReading, IsRefusal, IsWhy, Reads};
 ghost use Rattle.pauses.specs.Paused.{paused};
 ghost use Rattle.pauses.specs.Plans.{pauses_of};
 ghost use Rattle.tracer.specs.Trace.{BeginsTrace, IsWholeTrace};
 ghost use Rattle.whole_run.specs.Runs.{BeginsOutput, IsLimit, IsWhole};
-ghost use Rattle.syntax.specs.Spans.{tree_of};
 ghost use Rattle.syntax.specs.Tree.{File};
 
-use checker::Typed;
+use crate::noting::{paused_bytes_noting, traced_bytes_noting};
 use go_text::Fault;
-use kendo_reading::read;
-use one_thread::run;
-use paused_goroutine::Paused;
+use paused_goroutine::PauseUses;
 use pauses::Plan;
-use reference::{Source, program_of};
 use std::alloc::Global;
-use traced_run::run_traced;
 use word::Write;
 use word::end::End;
 
@@ -44,40 +38,8 @@ pub fn paused_bytes<O: Write>(
     if limit < 1 || limit > 1 << 62 {
         return Err(Fault::BadLimit);
     }
-    let (_source, typed) = read(alloc, bytes)?;
-    let end = run_paused(alloc, &typed, plan, limit, out)?;
-    Ok(end)
-}
-
-/// Runs a program as its source says, but for its pauses.
-fn run_paused<O: Write>(
-    alloc: Global,
-    typed: &Typed,
-    plan: &Plan,
-    limit: u64,
-    out: &mut O,
-) -> Result<End, Fault>
-    ensures limit { IsErrOf result Fault.BadLimit ↔ (IsLimit limit → ⊥) }
-    ensures nothing { IsErrOf result Fault.BadLimit → O.contents out.new ≡ O.contents out.old }
-    ensures begins { BeginsOutput (paused (source_kind (tree_of (tree_in typed.now))) (pauses_of plan.now.pauses.items)) limit (O.contents out.old) (O.contents out.new) }
-    ensures whole { IfOk result (λ end. IsWhole (paused (source_kind (tree_of (tree_in typed.now))) (pauses_of plan.now.pauses.items)) limit (O.contents out.old) (O.contents out.new) end) }
-    ensures write { IsErrOf result Fault.Write → O.has_failed out.new ≡ true }
-    ensures only { IfErr result (λ fault. (fault ≡ Fault.Memory) ⊎ ((fault ≡ Fault.Write) ⊎ (fault ≡ Fault.BadLimit))) }
-{
-    if limit < 1 || limit > 1 << 62 {
-        return Err(Fault::BadLimit);
-    }
-    let program = program_of(alloc, typed)?;
-    let source = Source { program };
-    run(
-        alloc,
-        &Paused {
-            program: source,
-            plan,
-        },
-        limit,
-        out,
-    )
+    let uses = PauseUses::new(alloc, plan)?;
+    paused_bytes_noting(alloc, bytes, plan, &uses, limit, out)
 }
 
 /// Like `paused_bytes`, but also writes the trace of the run: a line for each event. What is written to `trace` begins the trace of
@@ -107,42 +69,6 @@ pub fn traced_bytes<O: Write, T: Write>(
     if limit < 1 || limit > 1 << 62 {
         return Err(Fault::BadLimit);
     }
-    let (_source, typed) = read(alloc, bytes)?;
-    let end = trace_paused(alloc, &typed, plan, limit, out, trace)?;
-    Ok(end)
-}
-
-/// Runs a program as its source says, but for its pauses, with its trace.
-fn trace_paused<O: Write, T: Write>(
-    alloc: Global,
-    typed: &Typed,
-    plan: &Plan,
-    limit: u64,
-    out: &mut O,
-    trace: &mut T,
-) -> Result<End, Fault>
-    ensures limit { IsErrOf result Fault.BadLimit ↔ (IsLimit limit → ⊥) }
-    ensures nothing { IsErrOf result Fault.BadLimit → (O.contents out.new ≡ O.contents out.old) × (T.contents trace.new ≡ T.contents trace.old) }
-    ensures begins { BeginsOutput (paused (source_kind (tree_of (tree_in typed.now))) (pauses_of plan.now.pauses.items)) limit (O.contents out.old) (O.contents out.new) }
-    ensures traces { BeginsTrace (paused (source_kind (tree_of (tree_in typed.now))) (pauses_of plan.now.pauses.items)) limit (T.contents trace.old) (T.contents trace.new) }
-    ensures whole { IfOk result (λ end. IsWhole (paused (source_kind (tree_of (tree_in typed.now))) (pauses_of plan.now.pauses.items)) limit (O.contents out.old) (O.contents out.new) end) }
-    ensures traced { IfOk result (λ end. IsWholeTrace (paused (source_kind (tree_of (tree_in typed.now))) (pauses_of plan.now.pauses.items)) limit (T.contents trace.old) (T.contents trace.new) end) }
-    ensures write { IsErrOf result Fault.Write → (O.has_failed out.new ≡ true) ⊎ (T.has_failed trace.new ≡ true) }
-    ensures only { IfErr result (λ fault. (fault ≡ Fault.Memory) ⊎ ((fault ≡ Fault.Write) ⊎ (fault ≡ Fault.BadLimit))) }
-{
-    if limit < 1 || limit > 1 << 62 {
-        return Err(Fault::BadLimit);
-    }
-    let program = program_of(alloc, typed)?;
-    let source = Source { program };
-    run_traced(
-        alloc,
-        &Paused {
-            program: source,
-            plan,
-        },
-        limit,
-        out,
-        trace,
-    )
+    let uses = PauseUses::new(alloc, plan)?;
+    traced_bytes_noting(alloc, bytes, plan, &uses, limit, out, trace)
 }

@@ -2,9 +2,9 @@
 //! first program runs.
 #![tactic(auto)]
 
-ghost use Rattle.std.specs.Prelude.{◌≡◌, ◌⊎◌, IfOk, map, string_bytes};
-ghost use Rattle.kendo_run.specs.Tasks.{subcommand_of};
-ghost use Rattle.kendo_shell.specs.Answers.{Finds, IsStatus, IsStatusOf, Obeys, Tells, TellsOf};
+ghost use Rattle.std.specs.Prelude.{◌≡◌, ◌⊎◌, IfOk, length, map, string_bytes};
+ghost use Rattle.kendo_run.specs.Tasks.{IsReported, Reports, ReportsAll, subcommand_of};
+ghost use Rattle.kendo_shell.specs.Answers.{Finds, IsOfAll, IsOfOne, IsStatus, Obeys};
 
 mod task;
 
@@ -29,7 +29,7 @@ fn main(rt: HostRuntime) -> ExitCode {
 }
 
 /// Reads the command line and runs its command, down to the exit status. `threads` permits a run to start workers and wait for them.
-#[tactic(auto, using(kendo_shell::proofs::Obeying::obeyed_status))]
+#[tactic(auto, using(crate::proofs::Reporting::reported_status))]
 fn start(rt: &HostRuntime, threads: &(impl Threads + Wait + Sync)) -> Result<u8, Memory>
     ensures { IfOk result IsStatus }
 {
@@ -47,7 +47,7 @@ fn obey(
     alloc: Global,
     words: &[String],
 ) -> Result<u8, Memory>
-    ensures { IfOk result (λ status. Obeys TellsOf (map string_bytes words.now) status) }
+    ensures { IfOk result (λ status. Obeys ReportsAll (map string_bytes words.now) status) }
 {
     match command(alloc)?.try_get_matches_from(words) {
         Ok(matches) => match invocation_of(&matches) {
@@ -66,7 +66,7 @@ fn perform(
     alloc: Global,
     invocation: &Invocation<'_, '_>,
 ) -> Result<u8, Memory>
-    ensures { IfOk result (λ status. (status ≡ USAGE) ⊎ Tells invocation.now.subcommand status) }
+    ensures { IfOk result (λ status. (status ≡ USAGE) ⊎ ReportsAll invocation.now status) }
 {
     let invocation = &with_environment(rt, invocation);
     let Some(task) = task_of(invocation) else {
@@ -76,24 +76,21 @@ fn perform(
         );
         return Ok(USAGE);
     };
-    let first = perform_on(rt, threads, alloc, invocation, task, invocation.file)?;
-    perform_rest(rt, threads, alloc, invocation, task, first)
+    perform_each(rt, threads, alloc, invocation, task)
 }
 
-/// Like `perform`, for all files but the first, whose status is `first`.
-fn perform_rest(
+/// Like `perform`, by the task that this program has for the command.
+fn perform_each(
     rt: &HostRuntime,
     threads: &(impl Threads + Wait + Sync),
     alloc: Global,
     invocation: &Invocation<'_, '_>,
     task: Task,
-    first: u8,
 ) -> Result<u8, Memory>
-    requires { (first ≡ USAGE) ⊎ Tells (subcommand_of task) first }
-    ensures { IfOk result (λ status. (status ≡ USAGE) ⊎ Tells (subcommand_of task) status) }
+    ensures { IfOk result (IsOfAll (Reports (subcommand_of task)) (length invocation.now.files.now)) }
 {
-    let mut status = first;
-    for file in invocation.files.iter().skip(1) {
+    let mut status = 0;
+    for file in invocation.files {
         let next = perform_on(rt, threads, alloc, invocation, task, file)?;
         status = first_failure(status, next);
     }
@@ -109,7 +106,7 @@ fn perform_on(
     task: Task,
     file: &str,
 ) -> Result<u8, Memory>
-    ensures { IfOk result (λ status. (status ≡ USAGE) ⊎ Tells (subcommand_of task) status) }
+    ensures { IfOk result (IsOfOne (Reports (subcommand_of task))) }
 {
     let name = name_of(invocation, file);
     match opened(rt, alloc, invocation, file, name)? {
@@ -119,7 +116,7 @@ fn perform_on(
 }
 
 /// Checks or runs a program, and reports the outcome.
-#[tactic(auto, using(kendo_shell::proofs::Findings::told))]
+#[tactic(auto, using(crate::proofs::Reporting::reported))]
 fn answer(
     rt: &HostRuntime,
     threads: &(impl Threads + Wait + Sync),
@@ -129,7 +126,7 @@ fn answer(
     bytes: Vec<u8>,
     trace: Trace,
 ) -> Result<u8, Memory>
-    ensures { IfOk result (IsStatusOf (subcommand_of task) bytes.items) }
+    ensures { IfOk result (IsReported (subcommand_of task) bytes.items) }
 {
     let mut outputs = Outputs::new(rt, trace);
     let outcome = find(threads, alloc, task, bytes, &mut outputs);

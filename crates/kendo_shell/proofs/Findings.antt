@@ -1,7 +1,7 @@
 -- What a command finds in a text, and the exit status that tells it.
-use Rattle.std.proofs.Common.{◌≡◌, ◌↔◌, ℕ, ◌≤◌, ◌<◌, ◌==◌, ◌^◌, cond, ◌⊎◌, inl, inr, Bool, true, false, List, Result, Ok, Err, IfOk, IsErrOf, refl, sym, ap, subst, ◌∙◌, arith}
+use Rattle.std.proofs.Common.{◌≡◌, ◌↔◌, ℕ, ◌≤◌, ◌<◌, ◌^◌, ◌⊎◌, inl, inr, List, Result, Ok, Err, IsErrOf, refl, sym, ap, subst, ◌∙◌, arith}
 use Rattle.std.proofs.lemmas.Bool.{cases_lt}
-use Rattle.kendo_shell.specs.Answers.{Finds, HasReading, IsInBounds, IsReason, IsStatus, IsStatusOf, IsVerdict, Tells, first_failed}
+use Rattle.kendo_shell.specs.Answers.{Finds, HasReading, IsInBounds, IsReason, IsStatus, IsStatusOf, IsVerdict, Tells}
 use Rattle.command_line.specs.declared.arguments.Subcommand.{Subcommand}
 use Rattle.command_line.specs.declared.arguments.Subcommand.TheVariants as subcommands
 use Rattle.kendo_report.specs.Outcome.{fault_status, report_status}
@@ -224,12 +224,6 @@ pub explored : (subcommand : Subcommand) (text : List ℕ) (outcome : Result End
 explored subcommand text outcome status told finds is (inl same) = (outcome, finds, inl (same ∙ is))
 explored subcommand text outcome status told finds is (inr verdict) = (outcome, finds, inr verdict)
 
--- the status of one program is that of some program
-pub of_some : {E : Type 0} (subcommand : Subcommand) (text : List ℕ) (result : Result ℕ E) → IfOk result (IsStatusOf subcommand text)
-    → IfOk result (λ status. (status ≡ 64) ⊎ Tells subcommand status)
-of_some subcommand text (Ok status) is = inr (text, is)
-of_some subcommand text (Err e) is = is
-
 fault_is : (subcommand : Subcommand) (text : List ℕ) (fault : Fault) → IsReason subcommand text fault → IsStatus (fault_status fault)
 fault_is subcommand text faults.NotYours is = elim is [ ]
 fault_is subcommand text faults.BadWorkers is = inr (inl refl)
@@ -262,16 +256,3 @@ pub told_status : (subcommand : Subcommand) (status : ℕ) → (status ≡ 64) �
 told_status subcommand status (inl is) = inr (inl is)
 told_status subcommand status (inr (text, (outcome, finds, inl is))) = subst IsStatus (sym is) (outcome_is subcommand text outcome finds)
 told_status subcommand status (inr (text, (outcome, finds, inr is))) = verdict_is subcommand outcome status is
-
-is_one_of : (b : Bool) (first second status : ℕ) → status ≡ cond b second first → (status ≡ first) ⊎ (status ≡ second)
-is_one_of true first second status is = inr is
-is_one_of false first second status is = inl is
-
-pub one_of : (first second status : ℕ) → status ≡ first_failed first second → (status ≡ first) ⊎ (status ≡ second)
-one_of first second status is = is_one_of (first == 0) first second status is
-
--- one of two exit statuses that tell what was found
-pub either_tells : (subcommand : Subcommand) (first second status : ℕ) → (status ≡ first) ⊎ (status ≡ second) → (first ≡ 64) ⊎ Tells subcommand first → (second ≡ 64) ⊎ Tells subcommand second
-    → (status ≡ 64) ⊎ Tells subcommand status
-either_tells subcommand first second status (inl is) a b = subst (λ s. (s ≡ 64) ⊎ Tells subcommand s) (sym is) a
-either_tells subcommand first second status (inr is) a b = subst (λ s. (s ≡ 64) ⊎ Tells subcommand s) (sym is) b

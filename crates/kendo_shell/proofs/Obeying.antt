@@ -9,8 +9,7 @@ use Rattle.clap.specs.declared.error.Error.{Error}
 use Rattle.clap.specs.declared.error.kind.ErrorKind.{ErrorKind}
 use Rattle.clap.specs.declared.error.kind.ErrorKind.TheVariants as kinds
 use Rattle.clap.specs.declared.parser.matches.ArgMatches.{ArgMatches}
-use Rattle.kendo_shell.proofs.Findings.{told_status}
-use Rattle.kendo_shell.specs.Answers.{IsStatus, Obeys, WasDone, WasNothing, WasShown, ShowsAs, TellsOf}
+use Rattle.kendo_shell.specs.Answers.{IsStatus, Obeys, WasDone, WasNothing, WasShown, ShowsAs}
 use Rattle.command_line.specs.CommandLine.{IsAsked, kendo}
 use Rattle.command_line.specs.declared.arguments.Invocation.{Invocation}
 
@@ -67,6 +66,3 @@ pub obeyed : {Reports : Invocation → ℕ → Type 0} (words : List Text) (stat
 obeyed words status reported (WasDone none invocation a reports) = reported invocation reports
 obeyed words status reported (WasNothing none a is) = inr (inl is)
 obeyed words status reported (WasShown kind among shows) = shown_status kind status shows
-
-pub obeyed_status : (words : List Text) (status : ℕ) → Obeys TellsOf words status → IsStatus status
-obeyed_status words status obeys = obeyed {Reports = TellsOf} words status (λ invocation tells. told_status invocation.subcommand status tells) obeys

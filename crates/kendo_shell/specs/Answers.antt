@@ -1,5 +1,5 @@
 -- What the program finds in a file.
-use Rattle.std.specs.Prelude.{◌≡◌, ℕ, ◌≤◌, ◌==◌, ◌⊎◌, List, [], Some, None, Result, Ok, Err, if◌then◌else◌}
+use Rattle.std.specs.Prelude.{◌≡◌, ℕ, ◌≤◌, ◌==◌, ◌⊎◌, List, [], Some, None, Result, Ok, Err, if◌then◌else◌, length, fold, All}
 use Rattle.clap.specs.Faults.{fault_of}
 use Rattle.clap.specs.Kinds.{IsAmong}
 use Rattle.clap.specs.Simple.{subcommand_of}
@@ -103,6 +103,14 @@ Tells subcommand status = (text : List ℕ) × IsStatusOf subcommand text status
 abbrev pub first_failed : (first second : ℕ) → ℕ
 first_failed first second = if first == 0 then second else first
 
+-- the exit status of a command on one file: 64 if the file can't be used, otherwise it reports what was found in it
+abbrev pub IsOfOne : (Reports : (status : ℕ) → Type 0) → (status : ℕ) → Type 0
+IsOfOne Reports status = (status ≡ 64) ⊎ Reports status
+
+-- on this many files: of one status for each file, the first that is not 0, or 0
+abbrev pub IsOfAll : (Reports : (status : ℕ) → Type 0) → (count status : ℕ) → Type 0
+IsOfAll Reports count status = (statuses : List ℕ) × (length statuses ≡ count) × All (IsOfOne Reports) statuses × (status ≡ fold first_failed 0 statuses)
+
 -- an exit status of the program
 abbrev pub IsStatus : ℕ → Type 0
 IsStatus status = (status ≤ 6) ⊎ ((status ≡ 64) ⊎ ((status ≡ 8) ⊎ (status ≡ 9)))
@@ -113,13 +121,9 @@ ShowsAs kinds.DisplayHelp status = (status ≡ 0) ⊎ (status ≡ 6)
 ShowsAs kinds.DisplayVersion status = (status ≡ 0) ⊎ (status ≡ 6)
 ShowsAs kind status = status ≡ 64
 
--- the exit status of what an invocation finds in some program
-abbrev pub TellsOf : Invocation → (status : ℕ) → Type 0
-TellsOf invocation status = Tells invocation.subcommand status
-
--- the exit status of a command line, if `Reports` says which statuses report what an invocation finds
+-- the exit status of a command line, if `Reports` says which statuses report what an invocation finds in all its files
 pub data Obeys (Reports : Invocation → (status : ℕ) → Type 0) (words : List Text) (status : ℕ) : Type 0 where
-  -- the words are accepted: 64 if a file can't be read or created, otherwise the status reports what was found
+  -- the words are accepted: 64 if options can't be used together, or the plan of pauses can't be used, or this program does not do the command, otherwise the status reports what was found
   WasDone : fault_of kendo words ≡ [] → (invocation : Invocation) → IsAsked (subcommand_of kendo words) (Some invocation) → (status ≡ 64) ⊎ Reports invocation status → Obeys Reports words status
   -- they request nothing that is done
   WasNothing : fault_of kendo words ≡ [] → IsAsked (subcommand_of kendo words) None → status ≡ 64 → Obeys Reports words status

@@ -1,20 +1,24 @@
 -- When a program passes its test, and when it fails.
-use Rattle.std.specs.Prelude.{◌≡◌, ◌⊎◌, ◌≤◌, ℕ, List, Some, length, string_bytes}
+use Rattle.std.specs.Prelude.{◌≡◌, ◌⊎◌, ◌≤◌, ℕ, All, Bool, true, false, List, Some, length, string_bytes}
 use Rattle.expected_output.specs.Expecting.{IsSaidIn, IsUnknown}
 use Rattle.expected_output.specs.Meeting.{Meets}
 use Rattle.expected_output.specs.declared.expectation.Expectation.{Expectation}
-use Rattle.exploration.specs.Shown.{RunsBy, ShownEnd}
+use Rattle.exploration.specs.Shown.{IsOrdinary, IsOwn, RunsBy, ShownEnd}
+use Rattle.exploration.specs.declared.runner.Ran.{Ran}
 use Rattle.expected_output.specs.declared.expectation.ExpectationError.{ExpectationError}
 use Rattle.expected_output.specs.declared.expectation.ExpectationError.TheVariants as errors
 use Rattle.expected_output.specs.declared.printed.TheConstants.{MOST_BYTES}
 use Rattle.go_text.specs.declared.fault.Fault.TheVariants as faults
 use Rattle.kendo_reading.specs.Reading.{HasNoReading, Reads}
+use Rattle.kendo_explore.specs.Explored.{ends_by}
+use Rattle.kendo_test.specs.declared.ordering.Found.{Found}
 use Rattle.kendo_test.specs.declared.testing.Verdict.{Verdict}
-use Rattle.kendo_test.specs.declared.testing.Verdict.TheVariants.{Passed, Failed, Untested}
+use Rattle.kendo_test.specs.declared.testing.Verdict.TheVariants.{Passed, Failed, Doubted, Untested}
 use Rattle.meaning.specs.Source.{source_kind}
 use Rattle.pauses.specs.Plans.{Pause}
 use Rattle.syntax.specs.Tree.{File}
 use Rattle.word.specs.declared.end.End.{End}
+use Rattle.word.specs.declared.end.End.TheVariants.{Finished}
 use Rattle.word.specs.Worlds.{end_of, moment}
 
 -- the one-thread run of the text's reading, up to this limit, prints this in all, and ends so
@@ -39,12 +43,27 @@ Misses expectation end output = Meets expectation end output → ⊥
 abbrev pub FailsAlone : Expectation → (text : List ℕ) → (limit : ℕ) → Type 0
 FailsAlone expectation text limit = (output : List ℕ) × (end : End) × Prints text limit output end × Misses expectation end output
 
--- the run by the plan that shows this end is not
-abbrev pub FailsBy : Expectation → (text : List ℕ) → (limit : ℕ) → ShownEnd → Type 0
-FailsBy expectation text limit one = PrintsPaused text limit one.output one.end × Misses expectation one.end one.output
+-- `main` returns, and goroutines that are left count
+abbrev pub Leaks : (leaks : Bool) → ShownEnd → Type 0
+Leaks leaks one = (leaks ≡ true) × (one.leaks ≡ true) × (one.end ≡ Finished)
 
-abbrev pub Fails : Expectation → (text : List ℕ) → (limit : ℕ) → Type 0
-Fails expectation text limit = FailsAlone expectation text limit ⊎ ((one : ShownEnd) × FailsBy expectation text limit one)
+-- the run by the plan that shows this end, which is no limit of kendo's own, is not as expected, or leaves goroutines that count
+abbrev pub FailsBy : Expectation → (leaks : Bool) → (text : List ℕ) → (limit : ℕ) → ShownEnd → Type 0
+FailsBy expectation leaks text limit one =
+    PrintsPaused text limit one.output one.end × IsOwn one.end false × (Misses expectation one.end one.output ⊎ Leaks leaks one)
+
+-- the run leaves goroutines that count
+abbrev pub LeaksAlone : (leaks : Bool) → (text : List ℕ) → (limit : ℕ) → Type 0
+LeaksAlone leaks text limit = (file : File) × (ran : Ran) × Reads text file × IsOrdinary file limit leaks ran × (ran.leaks ≡ true)
+
+abbrev pub Fails : Expectation → (leaks : Bool) → (text : List ℕ) → (limit : ℕ) → Type 0
+Fails expectation leaks text limit =
+    FailsAlone expectation text limit ⊎ (LeaksAlone leaks text limit ⊎ ((one : ShownEnd) × FailsBy expectation leaks text limit one))
+
+-- each of these plans shows that a program fails, or its run leaves goroutines that count
+pub record IsFound (expectation : Expectation) (leaks : Bool) (text : List ℕ) (limit : ℕ) (found : Found) : Type 0 where
+  pub failing : All (FailsBy expectation leaks text limit) (ends_by found.failing.items)
+  pub alone : found.leaks_alone ≡ true → LeaksAlone leaks text limit
 
 -- the one-thread run prints at least as much as is compared at most
 abbrev pub PrintsTooMuch : (text : List ℕ) → (limit : ℕ) → Type 0
@@ -59,14 +78,17 @@ abbrev pub IsUntold : (text : List ℕ) → ExpectationError → Type 0
 IsUntold text (errors.Fault fault) = (fault ≡ faults.Memory) ⊎ HasNoReading text
 IsUntold text (errors.UnknownEnd words) = IsUnknown text (string_bytes words)
 
--- by this expectation a text that is said to pass passes, and one that is said to fail fails
-abbrev pub IsRightBy : Expectation → Verdict → (text : List ℕ) → (limit : ℕ) → Type 0
-IsRightBy expectation (Passed by) text limit = (by ≡ expectation) × Passes expectation text limit
-IsRightBy expectation (Failed by) text limit = (by ≡ expectation) × Fails expectation text limit
-IsRightBy expectation Untested text limit = CannotBeTested text limit
+-- By this expectation a text that is said to pass passes, and one that is said to fail fails. The run of one that is doubted passes; the
+-- search found another order that fails, and no run shows it.
+abbrev pub IsRightBy : Expectation → Verdict → (leaks : Bool) → (text : List ℕ) → (limit : ℕ) → Type 0
+IsRightBy expectation (Passed by) leaks text limit = (by ≡ expectation) × Passes expectation text limit
+IsRightBy expectation (Failed by) leaks text limit = (by ≡ expectation) × Fails expectation leaks text limit
+IsRightBy expectation (Doubted by) leaks text limit = (by ≡ expectation) × Passes expectation text limit
+IsRightBy expectation Untested leaks text limit = CannotBeTested text limit
 
 -- so it is by what the comments of the text say
-abbrev pub IsRight : Verdict → (text : List ℕ) → (limit : ℕ) → Type 0
-IsRight (Passed expectation) text limit = IsSaidIn text expectation × Passes expectation text limit
-IsRight (Failed expectation) text limit = IsSaidIn text expectation × Fails expectation text limit
-IsRight Untested text limit = CannotBeTested text limit
+abbrev pub IsRight : Verdict → (leaks : Bool) → (text : List ℕ) → (limit : ℕ) → Type 0
+IsRight (Passed expectation) leaks text limit = IsSaidIn text expectation × Passes expectation text limit
+IsRight (Failed expectation) leaks text limit = IsSaidIn text expectation × Fails expectation leaks text limit
+IsRight (Doubted expectation) leaks text limit = IsSaidIn text expectation × Passes expectation text limit
+IsRight Untested leaks text limit = CannotBeTested text limit

@@ -7,6 +7,6 @@ mod ordering;
 mod running;
 mod testing;
 
-pub use kendo_explore::{PlanFile, Progress};
+pub use kendo_explore::{Extent, PlanFile, Progress};
 pub use ordering::OrderSearch;
 pub use testing::{TestOptions, Tested, Verdict, test_bytes};

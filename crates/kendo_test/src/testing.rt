@@ -10,7 +10,7 @@ ghost use Rattle.whole_run.specs.Runs.{IsLimit};
 
 use crate::differences::push_differences;
 use crate::lines::Failure;
-use crate::ordering::{Found, OrderSearch, push_failing};
+use crate::ordering::{Found, OrderSearch, OrderTask, push_failing};
 use crate::running::{Ran, run_expected};
 use diagnostic_words::words::Words;
 use expected_output::{Expectation, ExpectationError, MOST_BYTES};
@@ -29,6 +29,8 @@ pub struct TestOptions {
     pub limit: u64,
     /// How long other orders are searched, if they are.
     pub orders: Option<OrderSearch>,
+    /// Whether goroutines that wait for good when `main` has returned count, if other orders are searched.
+    pub leaks: bool,
 }
 
 /// Whether a program passes its test.
@@ -38,6 +40,8 @@ pub enum Verdict {
     Passed(Expectation),
     /// It does something else: in its run, or in another order.
     Failed(Expectation),
+    /// Its run does what is expected, but the search found another order that does not, and no run that shows it.
+    Doubted(Expectation),
     /// It can't be tested: it is no program, a comment names no end that there is, or it prints too much to be compared.
     Untested,
 }
@@ -68,7 +72,7 @@ pub fn test_bytes<R: Threads + Wait + Sync, P: Progress>(
 ) -> Result<Tested, Fault>
     ensures limit { IsErrOf result Fault.BadLimit ↔ (IsLimit options.limit → ⊥) }
     ensures only { IfErr result (λ fault. (fault ≡ Fault.Memory) ⊎ (fault ≡ Fault.BadLimit)) }
-    ensures right { IfOk result (λ tested. IsRight tested.verdict bytes.now options.limit) }
+    ensures right { IfOk result (λ tested. IsRight tested.verdict options.leaks bytes.now options.limit) }
 {
     if options.limit < 1 || options.limit > 1 << 62 {
         return Err(Fault::BadLimit);
@@ -88,7 +92,7 @@ fn test<R: Threads + Wait + Sync, P: Progress>(
     progress: &mut P,
 ) -> Result<Tested, Memory>
     requires { IsLimit options.limit }
-    ensures { IfOk result (λ tested. IsRight tested.verdict bytes.now options.limit) }
+    ensures { IfOk result (λ tested. IsRight tested.verdict options.leaks bytes.now options.limit) }
 {
     match expectation_in(alloc, bytes) {
         Ok(expectation) => compare(rt, alloc, path, bytes, options, expectation, progress),
@@ -130,7 +134,7 @@ fn compare<R: Threads + Wait + Sync, P: Progress>(
     progress: &mut P,
 ) -> Result<Tested, Memory>
     requires { IsLimit options.limit }
-    ensures { IfOk result (λ tested. IsRightBy expectation tested.verdict bytes.now options.limit) }
+    ensures { IfOk result (λ tested. IsRightBy expectation tested.verdict options.leaks bytes.now options.limit) }
 {
     let text = Vec::from_slice(alloc, bytes)?;
     match run_expected(rt, alloc, text, options.limit, &expectation) {
@@ -156,18 +160,41 @@ fn search_others<P: Progress>(
     progress: &mut P,
 ) -> Result<Tested, Memory>
     requires { Passes expectation bytes.now options.limit }
-    ensures { IfOk result (λ tested. IsRightBy expectation tested.verdict bytes.now options.limit) }
+    ensures { IfOk result (λ tested. IsRightBy expectation tested.verdict options.leaks bytes.now options.limit) }
+{
+    let Some(orders) = options.orders else {
+        return passes(alloc, path, expectation, None);
+    };
+    let task = OrderTask {
+        limit: options.limit,
+        leaks: options.leaks,
+        expectation: &expectation,
+    };
+    let found = orders.find(alloc, path, bytes, &task, progress)?;
+    if found.fails() {
+        return fails_elsewhere(alloc, path, expectation, found);
+    }
+    if found.has_unshown {
+        return doubted(alloc, path, expectation);
+    }
+    passes(alloc, path, expectation, Some(&found))
+}
+
+/// The program passes; if other orders were searched, this is how far.
+fn passes(
+    alloc: Global,
+    path: &str,
+    expectation: Expectation,
+    found: Option<&Found>,
+) -> Result<Tested, Memory>
+    ensures { IfOk result (λ tested. tested.verdict ≡ Verdict.Passed expectation) }
 {
     let mut said = Words::new(alloc);
     said.text("ok    ");
     said.text(path);
-    if let Some(orders) = options.orders {
-        let found = orders.find(alloc, path, bytes, options.limit, &expectation, progress)?;
-        if !found.failing.is_empty() {
-            return fails_elsewhere(alloc, path, expectation, found);
-        }
+    if let Some(found) = found {
         said.text("    ");
-        orders.push_extent(&mut said, &found);
+        found.push_extent(&mut said);
     }
     said.text(if expectation.is_said {
         "\n"
@@ -183,6 +210,23 @@ fn search_others<P: Progress>(
     })
 }
 
+/// Another order of the program fails, and no run shows it.
+fn doubted(alloc: Global, path: &str, expectation: Expectation) -> Result<Tested, Memory>
+    ensures { IfOk result (λ tested. tested.verdict ≡ Verdict.Doubted expectation) }
+{
+    let mut failure = Failure::new(alloc, path);
+    failure.reason();
+    failure.said.text(
+        "ends or prints otherwise in another order, which no run with pauses shows in time",
+    );
+    told(
+        alloc,
+        failure,
+        Verdict::Doubted(expectation),
+        Ok(End::Finished),
+    )
+}
+
 /// The program fails in other orders.
 fn fails_elsewhere(
     alloc: Global,
@@ -194,10 +238,14 @@ fn fails_elsewhere(
 {
     let Found {
         failing,
-        states: _,
-        is_whole: _,
+        leaks_alone,
+        ..
     } = found;
     let mut failure = Failure::new(alloc, path);
+    if leaks_alone {
+        failure.reason();
+        failure.said.text("goroutines left waiting");
+    }
     push_failing(&mut failure, alloc, &expectation, failing.as_slice())?;
     let lines = failure.lines()?;
     Ok(Tested {

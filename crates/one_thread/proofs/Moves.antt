@@ -1,5 +1,5 @@
 -- Moves of the run, and what was written.
-use Rattle.std.proofs.Common.{◌≡◌, ℕ, suc, ◌+◌, Bool, true, false, ◌&&◌, not, cond, List, [], ◌∷◌, ◌++◌, length, map, take, Option, Some, None, refl, sym, ap, ◌∙◌, subst, append-nil, append_assoc, zero-add, suc-add}
+use Rattle.std.proofs.Common.{◌≡◌, ◌⊎◌, inl, inr, ℕ, zero, suc, ◌+◌, ◌<◌, ◌≤◌, arith, Bool, true, false, ◌&&◌, not, cond, List, [], ◌∷◌, ◌++◌, length, map, take, Option, Some, None, refl, sym, ap, ◌∙◌, subst, append-nil, append_assoc, zero-add, suc-add}
 use Rattle.std.specs.Prelude.{◌==◌, ◌^◌, Result, Ok, Err, IfOk, option_map, slice_index_or}
 use Rattle.std.specs.Io.KnownBytes.{Appends}
 use Rattle.std.specs.Option.{is_some}
@@ -67,6 +67,16 @@ still_exhausted w n = go (length w.events + 1 == 2 ^ 62)
 pub ok_more : {T E : Type 0} (r : Result T E) {A B : T → Type 0} → IfOk r A → ((x : T) → A x → B x) → IfOk r B
 ok_more (Ok x) h more = more x h
 ok_more (Err e) h more = tt
+
+-- of two numbers the first one is less, or the second one is not more
+below_or_not : (n m : ℕ) → (n < m) ⊎ (m ≤ n)
+below_or_not n zero = inr (omega arith)
+below_or_not zero (suc m) = inl (omega arith)
+below_or_not (suc n) (suc m) = up (below_or_not n m)
+  where
+    up : (n < m) ⊎ (m ≤ n) → (suc n < suc m) ⊎ (suc m ≤ suc n)
+    up (inl below) = inl (omega (arith, below))
+    up (inr not_below) = inr (omega (arith, not_below))
 
 never_none : (k : Key) (o : Option Key) → sooner k o ≡ None → ⊥
 never_none k None e = cc
@@ -138,6 +148,10 @@ module _ {S : Type 0} (K : GoroutineKind) (held : S → K.State) (limit : ℕ) w
 
   moment_next : (n : ℕ) → moment K limit (n + 1) ≡ one (rules K limit) (moment K limit n)
   moment_next n = run_add (rules K limit) (laws K limit) n 1 (opening K)
+
+  -- a world after some moves of a run of which nothing is written
+  abbrev pub at_moment : (m : ℕ) (old : List (Option (Goroutine S))) (v : SharedValue) → IsWorldOf K held (moment K limit m) old v → v.ending ≡ None → Stands K held limit None None old v
+  at_moment m old v world going = record { moves = m; world = world; written = tt; goes_on = going }
 
   -- ---- each move
 
@@ -324,3 +338,19 @@ module _ {S : Type 0} (K : GoroutineKind) (held : S → K.State) (limit : ℕ) w
         written = appends_none seen;
         goes_on = refl;
       })
+
+  pub opened_first : (places : List (Option (Goroutine S))) (v : SharedValue) → IsOpen K held places → v ≡ opened → IsWorldOf K held (moment K limit 0) places v
+  opened_first places v start is = subst (λ (x : SharedValue). IsWorldOf K held (moment K limit 0) places x) (sym is) (opened_world places start)
+
+  -- ---- how long a run lasts
+
+  -- a run whose goroutines have a turn after m moves has not ended by then
+  pub one_more_lasts : (m : ℕ) (places : List (Option (Goroutine S))) (v : SharedValue) → IsWorldOf K held (moment K limit m) places v → v.ending ≡ None
+      → (turn : Key) → least (keys clock_of 0 places) ≡ Some turn → ((n : ℕ) → n < m → end_of (moment K limit n) ≡ None) → (n : ℕ) → n < m + 1 → end_of (moment K limit n) ≡ None
+  one_more_lasts m places v world going turn is before n less = go (below_or_not n m)
+    where
+      go : (n < m) ⊎ (m ≤ n) → end_of (moment K limit n) ≡ None
+      go (inl below) = before n below
+      go (inr above) =
+          let same : n ≡ m = omega (arith, less, above) in
+          subst (λ k. end_of (moment K limit k) ≡ None) (sym same) (runs_on None None places v (at_moment m places v world going) turn is)

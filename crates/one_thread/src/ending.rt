@@ -1,7 +1,8 @@
 //! The state of all goroutines at the end of a run.
 
-ghost use Rattle.std.specs.Prelude.{◌≡◌, ◌^◌, ◌≤◌, IfOk, IfSome, None, Some};
+ghost use Rattle.std.specs.Prelude.{◌≡◌, ◌<◌, ◌^◌, ◌≤◌, ℕ, IfNone, IfOk, IfSome, None, Some};
 ghost use Rattle.word.specs.Related.{kind_of};
+ghost use Rattle.word.specs.Worlds.{end_of, moment};
 ghost use Rattle.one_thread.specs.Worlds.{IsLast};
 ghost use Rattle.whole_run.specs.Runs.{IsWhole};
 
@@ -26,8 +27,8 @@ pub struct Ended<S: Drop> {
     pub goroutines: Vec<Option<Goroutine<S>>>,
 }
 
-/// Like `run`, but makes at most `most` moves, and returns the state of all goroutines at the end of the run; none if it has not
-/// ended by then.
+/// Like `run`, but makes at most `most` moves, and returns the state of all goroutines at the end of the run; none if it does not end
+/// in fewer moves.
 ///
 /// Errors: `Write`; `Memory`.
 pub fn last_moment<P: Interpreter, W: Write>(
@@ -39,11 +40,13 @@ pub fn last_moment<P: Interpreter, W: Write>(
 ) -> Result<Option<Ended<P::State>>, Fault>
     requires { limit ≤ 2 ^ 62 }
     ensures whole { IfOk result (λ seen. IfSome seen (λ last. IsWhole (kind_of (P.parts program.now)) limit (W.contents output.old) (W.contents output.new) last.end)) }
+    ensures lasts { IfOk result (λ seen. IfNone seen ((n : ℕ) → n < most → end_of (moment (kind_of (P.parts program.now)) limit n) ≡ None)) }
     ensures last { IfOk result (λ seen. IfSome seen (λ last. IsLast (kind_of (P.parts program.now)) (P.held program.now) limit last.turn last.goroutines.items)) }
 {
     let mut goroutines = opening(alloc, program)?;
     let mut shared = Shared::new(alloc)?;
-    for _ in 0..most {
+    for count in 0..most {
+        let _so_far = count;
         let Some(turn) = goroutines.least() else {
             return Ok(Some(deserted(goroutines.into_all())));
         };

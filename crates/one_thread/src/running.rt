@@ -6,9 +6,10 @@ ghost use Rattle.word.specs.Kinds.{Clocked};
 ghost use Rattle.word.specs.Related.{kind_of};
 ghost use Rattle.word.specs.Values.{Request as AnyRequest};
 ghost use Rattle.word.specs.Views.{request_of};
+ghost use Rattle.word.specs.Worlds.{moment};
 ghost use Rattle.one_thread.specs.Places.{AreWithin, awake_of, here};
 ghost use Rattle.one_thread.specs.Progress.{EventFalls, MoveFalls, TickFalls, ending_in, events_left};
-ghost use Rattle.one_thread.specs.Worlds.{Applies, Goes, IsAsked, IsOpen, Stands, printed};
+ghost use Rattle.one_thread.specs.Worlds.{Applies, Goes, IsAsked, IsOpen, IsWorldOf, Stands, printed};
 ghost use Rattle.whole_run.specs.Runs.{BeginsOutput, IsLimit, IsWhole};
 
 use crate::goroutine::{Goroutine, Turn};
@@ -164,6 +165,7 @@ pub(crate) fn one_move<P: Interpreter, W: Write>(
     ensures begins { (known : Option (List ℕ)) → Stands (kind_of (P.parts program.now)) (P.held program.now) limit known (W.contents output.old) places.old shared.old → BeginsOutput (kind_of (P.parts program.now)) limit known (W.contents output.new) }
     ensures going { IfOk result (λ made. ending_in made ≡ None → shared.new.ending ≡ None) }
     ensures falls { IfOk result (λ made. MoveFalls (λ state. P.weight program.now (P.held program.now state)) limit made places.old shared.old places.new shared.new) }
+    ensures moves { IfOk result (λ made. (m : ℕ) → IsWorldOf (kind_of (P.parts program.now)) (P.held program.now) (moment (kind_of (P.parts program.now)) limit m) places.old shared.old → ending_in made ≡ None → IsWorldOf (kind_of (P.parts program.now)) (P.held program.now) (moment (kind_of (P.parts program.now)) limit (m + 1)) places.new shared.new) }
     ensures write { IsErrOf result Fault.Write → W.has_failed output.new ≡ true }
     ensures only { IfErr result (λ fault. (fault ≡ Fault.Memory) ⊎ (fault ≡ Fault.Write)) }
 {
@@ -201,6 +203,7 @@ fn perform<P: Interpreter, W: Write>(
     ensures begins { (limit : ℕ) (known : Option (List ℕ)) → IsAsked (kind_of (P.parts program.now)) (P.held program.now) limit places.old place clock (request_of request) → Stands (kind_of (P.parts program.now)) (P.held program.now) limit known (W.contents output.old) places.old shared.old → BeginsOutput (kind_of (P.parts program.now)) limit known (W.contents output.new) }
     ensures going { IfOk result (λ made. ending_in made ≡ None → shared.new.ending ≡ None) }
     ensures falls { IfOk result (λ made. EventFalls made shared.old shared.new) }
+    ensures moves { IfOk result (λ made. (limit m : ℕ) → IsAsked (kind_of (P.parts program.now)) (P.held program.now) limit places.old place clock (request_of request) → IsWorldOf (kind_of (P.parts program.now)) (P.held program.now) (moment (kind_of (P.parts program.now)) limit m) places.old shared.old → ending_in made ≡ None → IsWorldOf (kind_of (P.parts program.now)) (P.held program.now) (moment (kind_of (P.parts program.now)) limit (m + 1)) places.new shared.new) }
     ensures write { IsErrOf result Fault.Write → W.has_failed output.new ≡ true }
     ensures only { IfErr result (λ fault. (fault ≡ Fault.Memory) ⊎ (fault ≡ Fault.Write)) }
 {

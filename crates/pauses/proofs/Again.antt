@@ -8,14 +8,14 @@ use Rattle.pauses.specs.Plans.{Change, Wait, Clause, Pause, is_rival}
 
 -- ---- pieces
 
-abbrev cut : ℕ → List ℕ → List (List ℕ)
+abbrev pub cut : ℕ → List ℕ → List (List ℕ)
 cut mark xs = slice_split (λ b. b == mark) xs
 
-abbrev lacks : ℕ → List ℕ → Bool
+abbrev pub lacks : ℕ → List ℕ → Bool
 lacks mark [] = true
 lacks mark (x ∷ xs) = not (x == mark) && lacks mark xs
 
-lacks_append : (mark : ℕ) (xs ys : List ℕ) → lacks mark xs ≡ true → lacks mark ys ≡ true → lacks mark (xs ++ ys) ≡ true
+pub lacks_append : (mark : ℕ) (xs ys : List ℕ) → lacks mark xs ≡ true → lacks mark ys ≡ true → lacks mark (xs ++ ys) ≡ true
 lacks_append mark [] ys h k = k
 lacks_append mark (x ∷ xs) ys h k =
     let p = and_parts _ _ h in
@@ -25,19 +25,19 @@ lacks_append mark (x ∷ xs) ys h k =
 cut_more : (mark x : ℕ) (xs : List ℕ) → not (x == mark) ≡ true → cut mark (x ∷ xs) ≡ onto_first x (cut mark xs)
 cut_more mark x xs h = ap (λ (b : Bool). cond b ([] ∷ cut mark xs) (onto_first x (cut mark xs))) (not-true _ h)
 
-cut_none : (mark : ℕ) (xs : List ℕ) → lacks mark xs ≡ true → cut mark xs ≡ xs ∷ []
+pub cut_none : (mark : ℕ) (xs : List ℕ) → lacks mark xs ≡ true → cut mark xs ≡ xs ∷ []
 cut_none mark [] h = refl
 cut_none mark (x ∷ xs) h =
     let p = and_parts _ _ h in
     cut_more mark x xs p.0 ∙ ap (onto_first x) (cut_none mark xs p.1)
 
-same_number : (n : ℕ) → (n == n) ≡ true
+pub same_number : (n : ℕ) → (n == n) ≡ true
 same_number n = eq-eqb n n refl
 
 cut_here : (mark : ℕ) (ys : List ℕ) → cut mark (mark ∷ ys) ≡ [] ∷ cut mark ys
 cut_here mark ys = ap (λ (b : Bool). cond b ([] ∷ cut mark ys) (onto_first mark (cut mark ys))) (same_number mark)
 
-cut_at : (mark : ℕ) (xs ys : List ℕ) → lacks mark xs ≡ true → cut mark (xs ++ mark ∷ ys) ≡ xs ∷ cut mark ys
+pub cut_at : (mark : ℕ) (xs ys : List ℕ) → lacks mark xs ≡ true → cut mark (xs ++ mark ∷ ys) ≡ xs ∷ cut mark ys
 cut_at mark [] ys h = cut_here mark ys
 cut_at mark (x ∷ xs) ys h =
     let p = and_parts _ _ h in
@@ -216,7 +216,7 @@ text_is p rest = rw (change_is p.change) (simp append_assoc)
 with_rival : (n : ℕ) (before : List Pause) (p : Pause) (others : List Pause → Reading) → list_any (is_rival p) before ≡ false → with_line n before (Says p) others ≡ others (before ++ p ∷ [])
 with_rival n before p others h = ap (λ (b : Bool). cond b (Breaks n) (others (before ++ p ∷ []))) h
 
-lines_again : (n : ℕ) (before ps : List Pause) → ArePauses before ps → lines_from n before (cut 10 (flat_map pause_text ps)) ≡ Reads (before ++ ps)
+pub lines_again : (n : ℕ) (before ps : List Pause) → ArePauses before ps → lines_from n before (cut 10 (flat_map pause_text ps)) ≡ Reads (before ++ ps)
 lines_again n before [] h = ap (λ (b : List Pause). Reads b) (sym (append-nil before))
 lines_again n before (p ∷ ps) h =
     ap (lines_from n before) (ap (cut 10) (text_is p (flat_map pause_text ps)) ∙ cut_at 10 (line p) (flat_map pause_text ps) (line_lacks p h.0))

@@ -1,8 +1,10 @@
 pub mod Files
+pub mod Headers
 pub mod Laws
 pub mod Lines
 pub mod Paused
 pub mod Plans
 pub mod Selects
+pub mod Tests
 pub mod Views
 pub mod Weights

@@ -2,7 +2,9 @@
 //! of goroutine that keeps to a plan.
 #![tactic(auto)]
 
+mod checksum;
 mod error;
+mod header;
 mod laws;
 mod line;
 mod lookup;
@@ -10,11 +12,17 @@ mod number;
 mod plan;
 mod reading;
 mod select;
+mod validity;
 mod way;
 mod writing;
 
+pub use checksum::Checksum;
 pub use error::PlanError;
-pub use laws::{paused_goroutines_keep_requests, plans_are_read_again};
+pub use header::PlanHeader;
+pub use laws::{
+    headed_plans_are_read_again, headers_are_read_again, paused_goroutines_keep_requests,
+    plans_are_read_again,
+};
 pub use plan::{Change, Pause, Plan};
 pub use select::{alone, thinned};
 pub use way::{way_in, way_to, with_way};

@@ -9,7 +9,7 @@ use crate::plan::{Change, Pause, Plan};
 
 impl Pause {
     /// Whether it changes this request of the goroutine of this way.
-    fn is_at(&self, way: &[u64], request: u64) -> bool
+    pub fn is_at(&self, way: &[u64], request: u64) -> bool
         ensures { result ≡ is_at (pause_of self.now) way.now request }
     {
         self.way.as_slice() == way && self.request == request

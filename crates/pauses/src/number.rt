@@ -7,7 +7,7 @@ ghost use Rattle.pauses.specs.Files.{digits_after, is_digit, number};
 use std::alloc::{AllocError, Global};
 
 /// Numbers of a plan are below this one.
-const BOUND: u64 = 1_000_000_000_000_000_000;
+pub(crate) const BOUND: u64 = 1_000_000_000_000_000_000;
 
 /// Whether the byte is a decimal digit.
 fn is_digit(byte: u8) -> bool

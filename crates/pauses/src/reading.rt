@@ -13,7 +13,7 @@ use go_text::is_word;
 use std::alloc::Global;
 
 /// The first line of a plan's file.
-const TITLE: &[u8] = b"kendo pauses 1";
+pub(crate) const TITLE: &[u8] = b"kendo pauses 1";
 
 impl Plan {
     /// The plan that a file is.
@@ -31,7 +31,7 @@ impl Plan {
 }
 
 /// Whether one of the pauses changes the same thing as this one.
-fn has_rival(pauses: &[Pause], pause: &Pause) -> bool
+pub(crate) fn has_rival(pauses: &[Pause], pause: &Pause) -> bool
     ensures { result ≡ list_any (is_rival (pause_of pause.now)) (pauses_of pauses.now) }
 {
     for one in pauses {

@@ -61,8 +61,10 @@ fn told(alloc: Global, asked: &Invocation<'_, '_>) -> Result<String, AllocError>
         last,
         event,
         at,
+        seconds,
         ends,
         unordered,
+        ordered,
         leaks,
         whole,
         orders,
@@ -79,19 +81,25 @@ fn told(alloc: Global, asked: &Invocation<'_, '_>) -> Result<String, AllocError>
     let moment = moment(alloc, event, at)?;
     let plan = plan(alloc, pauses)?;
     let compared = compared(alloc, against, strict)?;
-    let scope = scope(alloc, [ends, unordered, leaks, whole, orders])?;
+    let time = time(alloc, seconds)?;
+    let scope = scope(alloc, [ends, unordered, ordered, leaks, whole, orders])?;
     format!(in alloc;
-        "file {file:?} {more}trace {trace:?} {plan}{compared}out {out:?} {events}{moment}{scope}explains {explains}: {done}"
+        "file {file:?} {more}trace {trace:?} {plan}{compared}out {out:?} {events}{moment}{time}{scope}explains {explains}: {done}"
     )
 }
 
 /// What counts in an exploration, and whether other orders are tested, if anything is chosen.
-fn scope(alloc: Global, chosen: [bool; 5]) -> Result<String, AllocError> {
+fn scope(alloc: Global, chosen: [bool; 6]) -> Result<String, AllocError> {
     let mut text = String::new(alloc);
-    for (name, is_chosen) in ["ends ", "unordered ", "leaks ", "whole ", "orders "]
-        .iter()
-        .zip(chosen.iter())
-    {
+    let names = [
+        "ends ",
+        "unordered ",
+        "ordered ",
+        "leaks ",
+        "whole ",
+        "orders ",
+    ];
+    for (name, is_chosen) in names.iter().zip(chosen.iter()) {
         if *is_chosen {
             text.push_str(name)?;
         }
@@ -129,6 +137,14 @@ fn moment(alloc: Global, event: Option<u64>, at: Option<u64>) -> Result<String, 
     match (event, at) {
         (None, None) => Ok(String::new(alloc)),
         (event, at) => format!(in alloc; "event {event:?} at {at:?} "),
+    }
+}
+
+/// How many seconds a search takes at most, if that is chosen.
+fn time(alloc: Global, seconds: Option<u64>) -> Result<String, AllocError> {
+    match seconds {
+        None => Ok(String::new(alloc)),
+        Some(seconds) => format!(in alloc; "seconds {seconds} "),
     }
 }
 

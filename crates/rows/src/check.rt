@@ -1,7 +1,7 @@
 //! What a file says of its program, and whether that is true.
 
 use crate::reading::{explained, listing, paused_picture, picture, recorded_lines};
-use crate::run::{Ran, check_paused, check_runs};
+use crate::run::{Ran, check_paused, check_runs, unused_pauses};
 use go_text::Fault;
 use pauses::{Plan, PlanError};
 use row_format::folder::{FileKind, Made, RowFile};
@@ -61,11 +61,28 @@ fn check_run<R: Files + AllocGlobal + Threads + Wait + Sync>(
     }
 }
 
-/// Checks that the file of a plan is one, and belongs to a program.
+/// Checks that the file of a plan is one, and that in the run of its program those of its pauses don't happen of which comments say so,
+/// as `# unused 2: goroutine 1.2 made no request 1`.
 fn check_plan<R: Files + AllocGlobal>(rt: &R, file: &RowFile<'_>) -> Result<(), RowError> {
-    file.text(rt)?;
-    plan(rt, file)?;
+    let text = file.text(rt)?;
+    if let Some(plan) = plan(rt, file)? {
+        let unused = unused_pauses(rt.alloc(), &text, &plan, file.row(rt)?.limit)?;
+        let wanted = unused_comments(rt.alloc(), file.bytes(rt)?.as_slice())?;
+        same_lines(rt.alloc(), "the unused pauses", &wanted, &unused)?;
+    }
     Ok(())
+}
+
+/// The comments of a plan's file that say that a pause doesn't happen.
+fn unused_comments(alloc: Global, plan: &[u8]) -> Result<Vec<u8>, RowError> {
+    let mut comments = Vec::new(alloc);
+    for line in plan.split(|byte| *byte == b'\n') {
+        if line.starts_with(b"# unused ") {
+            comments.extend_from_slice(line)?;
+            comments.push(b'\n')?;
+        }
+    }
+    Ok(comments)
 }
 
 /// The plan that belongs to a file, if there is one.

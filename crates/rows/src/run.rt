@@ -2,9 +2,10 @@
 
 use go_text::Fault;
 use kendo_base::{Gate, run_bytes};
-use kendo_front::{paused_bytes, reference_bytes, traced_bytes};
+use kendo_front::{paused_bytes, paused_bytes_noting, reference_bytes, traced_bytes};
 use kendo_reading::check_bytes;
 use kendo_report::report;
+use paused_goroutine::PauseUses;
 use pauses::Plan;
 use row_format::row::Row;
 use row_format::row_error::{RowError, same};
@@ -190,6 +191,30 @@ pub(crate) fn check_paused(
     ran.check(alloc, row, output, "--pauses")?;
     let traced = Ran::traced(alloc, text, plan, row.limit)?;
     traced.check(alloc, row, output, "--pauses --trace")
+}
+
+/// Which pauses don't happen in the run of a program by a plan: comments for the plan's file.
+pub(crate) fn unused_pauses(
+    alloc: Global,
+    text: &[u8],
+    plan: &Plan,
+    limit: u64,
+) -> Result<Vec<u8>, RowError> {
+    let bytes = Vec::from_slice(alloc, text)?;
+    let uses = PauseUses::new(alloc, plan).map_err(Fault::from)?;
+    let mut out = Flagged::new(Vec::new(alloc));
+    paused_bytes_noting(alloc, bytes, plan, &uses, limit, &mut out)?;
+    let mut comments = Vec::new(alloc);
+    let mut index = 0usize;
+    for pause in &plan.pauses {
+        let why = uses.why_unused(alloc, index, pause).map_err(Fault::from)?;
+        index = index.wrapping_add(1);
+        if let Some(why) = why {
+            let comment = format!(in alloc; "# unused {index}: {why}\n")?;
+            comments.extend_from_slice(comment.as_bytes())?;
+        }
+    }
+    Ok(comments)
 }
 
 /// Runs a program with `workers` workers, and compares the results.

@@ -2,7 +2,9 @@
 #![tactic(auto)]
 
 mod delay;
+mod late;
 mod timing;
 
 pub use delay::{Delay, plan_of};
+pub use late::{Lateness, late_delays};
 pub use timing::{Schedule, Standing, schedule_of};

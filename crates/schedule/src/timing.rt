@@ -85,7 +85,7 @@ pub fn schedule_of(
         last = timing.standing(step.actor);
         match space.after(&world, found)? {
             After::Goes(next) => world = next,
-            After::Ends(_ending, _output) => break,
+            After::Ends(_) => break,
         }
         timing.forget(space, &world);
         timing.arrive(space, clock.saturating_add(1))?;

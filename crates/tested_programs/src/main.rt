@@ -4,8 +4,12 @@
 //! Line 2 of a program, if it is not empty, says what is expected: that it passes, or why it fails.
 #![tactic(auto)]
 
-use kendo_test::{OrderSearch, Progress, TestOptions, Tested, Verdict, test_bytes};
+use go_text::Memory;
+use kendo_test::{
+    Extent, OrderSearch, PlanFile, Progress, TestOptions, Tested, Verdict, test_bytes,
+};
 use row_format::folder::names;
+use std::alloc::Global;
 use std::io::Write;
 use std::sync::Wait;
 use std::thread::Threads;
@@ -25,7 +29,13 @@ fn main(rt: HostRuntime) -> io::Result<()> {
 struct Silent;
 
 impl Progress for Silent {
-    fn visited(&mut self, _states: usize) {}
+    fn goes_on(&mut self, _extent: Extent) -> bool {
+        true
+    }
+
+    fn shows(&mut self, alloc: Global, number: usize, _plan: &PlanFile) -> Result<String, Memory> {
+        Ok(format!(in alloc; "{number}.pauses")?)
+    }
 }
 
 /// Tests the program of a file, without other orders and, if it ends, with them.
@@ -53,6 +63,7 @@ fn test_by(
     let options = TestOptions {
         limit: 100_000,
         orders,
+        leaks: name.contains("leak"),
     };
     match test_bytes(threads, rt.alloc(), name, bytes, options, &mut Silent) {
         Ok(tested) => print(rt, &tested),
@@ -72,6 +83,7 @@ fn print(rt: &HostRuntime, tested: &Tested) -> io::Result<()> {
     match &tested.verdict {
         Verdict::Passed(_) => println!(rt; "passed"),
         Verdict::Failed(_) => println!(rt; "failed"),
+        Verdict::Doubted(_) => println!(rt; "doubted"),
         Verdict::Untested => println!(rt; "not tested"),
     }
 }

@@ -13,4 +13,4 @@ pub returns : goal.returns
 returns c =
     let made = c.in_ok-end.ensures in
     let whole = made.whole in
-    (limit_ended c.args.limit _ made.limit, (pauses_of c.args.plan.now.pauses.items, whole.0, whole.2.0, whole.1, whole.2.2))
+    (limit_ended c.args.limit _ made.limit, (pauses_of c.args.plan.now.plan.pauses.items, whole.0, whole.2.0, whole.1, whole.2.2))

@@ -1,5 +1,5 @@
 use Rattle.kendo_run.specs.Tasks.{subcommand_of}
-use Rattle.kendo_shell.proofs.Findings.{of_some}
+use Rattle.kendo_run.proofs.Reporting.{of_some}
 use Rattle.kendo_run.proofs.perform_on.Goals as goal
 
 pub returns-in-Some : goal.returns-in-Some

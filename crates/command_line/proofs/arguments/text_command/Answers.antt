@@ -7,10 +7,11 @@ use Rattle.command_line.proofs.arguments.text_command.Goals as goal
 
 pub loop-argument-init : goal.loop-argument-init
 loop-argument-init c =
-    let named : app_of c.about-command.result ≡ new_app c.args.listed.now.name.now = ap app_of_fields c.about-command.ensures ∙ c.new.ensures.app in
+    let named : app_of c.after_help-command.result ≡ new_app c.args.listed.now.name.now =
+    ap app_of_fields c.after_help-command.ensures ∙ ap app_of_fields c.about.ensures ∙ c.new.ensures.app in
     record {
       app = ap (λ a. with_rules a c.args.listed.now.arguments.now) named;
-      local = ap (λ f. f.has_globals) c.about-command.ensures ∙ c.new.ensures.local;
+      local = ap (λ f. f.has_globals) c.after_help-command.ensures ∙ ap (λ f. f.has_globals) c.about.ensures ∙ c.new.ensures.local;
     }
 
 pub loop-argument-preserved : goal.loop-argument-preserved

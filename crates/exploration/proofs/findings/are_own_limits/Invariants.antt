@@ -1,8 +1,7 @@
 use Rattle.std.proofs.Common.{◌≡◌, true, take}
 use Rattle.std.specs.List.{list_all}
-use Rattle.exploration.specs.Shown.{is_own_limit}
 use Rattle.exploration.specs.declared.shown.Shown.{Shown}
 use Rattle.exploration.proofs.findings.are_own_limits.Given as goal
 
 abbrev pub invariant-loop-one : goal.invariant-loop-one
-invariant-loop-one l = list_all (λ (one : Shown). is_own_limit one.end) (take l.one-index l.shown) ≡ true
+invariant-loop-one l = list_all (λ (one : Shown). one.own_limit) (take l.one-index l.shown) ≡ true

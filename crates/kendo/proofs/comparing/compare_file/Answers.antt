@@ -1,6 +1,7 @@
 use Rattle.std.proofs.Common.{inr}
 use Rattle.std.proofs.lemmas.Result.{IfOk-weaker}
 use Rattle.kendo.proofs.Judging.{against_trace}
+use Rattle.kendo.specs.Verdicts.{scope_of}
 use Rattle.kendo.proofs.comparing.compare_file.Goals as goal
 
 pub returns : goal.returns
@@ -8,4 +9,4 @@ returns g c =
     let invocation = c.args.invocation.now in
     let text = c.in-Some-3.bytes.items in
     IfOk-weaker c.compare_run.result _ _ (λ status compares.
-    inr (text, against_trace invocation.subcommand invocation.against c.in-Some.path invocation.strict invocation.whole _ _ text status c.in-Some.is compares)) c.compare_run.ensures
+    inr (text, against_trace invocation.subcommand (scope_of invocation) invocation.against c.in-Some.path invocation.strict invocation.whole _ _ text status c.in-Some.is compares)) c.compare_run.ensures

@@ -1,7 +1,7 @@
-use Rattle.std.proofs.Common.{◌≡◌, ◌⊎◌}
 use Rattle.kendo.specs.Verdicts.{Judges}
+use Rattle.kendo_shell.specs.Answers.{IsOfAll}
 use Rattle.kendo.proofs.testing.test_files.Given as goal
 
--- the status so far is 64, or says what was found in some program
+-- the status so far is that of the files so far
 abbrev pub invariant-loop-file : goal.invariant-loop-file
-invariant-loop-file g l = (l.status ≡ 64) ⊎ Judges l.invocation l.status
+invariant-loop-file g l = IsOfAll (Judges l.invocation) l.file-index l.status

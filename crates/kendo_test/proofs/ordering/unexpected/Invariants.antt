@@ -9,4 +9,4 @@ use Rattle.kendo_test.proofs.ordering.unexpected.Given as goal
 abbrev pub invariant-loop-plan : goal.invariant-loop-plan
 invariant-loop-plan l =
     (text : List ℕ) (limit : ℕ) (file : File) → Reads text file → All (IsEnd file limit) (ends_by l.fn.explored.plans.items)
-    → All (IsEnd file limit) (ends_by l.plan-iterator.rest.items) × All (FailsBy l.expectation text limit) (ends_by l.failing.items)
+    → All (IsEnd file limit) (ends_by l.plan-iterator.rest.items) × All (FailsBy l.expectation l.leaks text limit) (ends_by l.failing.items)

@@ -1,10 +1,10 @@
-use Rattle.std.proofs.Common.{refl, sym, ◌∙◌, subst}
+use Rattle.std.proofs.Common.{None, refl, sym, ◌∙◌, subst}
 use Rattle.word.specs.Related.{kind_of}
 use Rattle.one_thread.specs.declared.goroutine.Turn.{Turn}
 use Rattle.one_thread.specs.Places.{AdvancesAt}
 use Rattle.one_thread.specs.Progress.{TurnFalls}
 use Rattle.one_thread.proofs.Falling.{event_falls, least_awake}
-use Rattle.one_thread.proofs.Moves.{asks_on, begins, deadlock, exhausted, ok_more, stepped}
+use Rattle.one_thread.proofs.Moves.{asked_world, asks_on, at_moment, begins, deadlock, exhausted, ok_more, stepped, stepped_world}
 use Rattle.one_thread.proofs.running.one_move.Goals as goal
 
 pub returns-in_default-clause-begins : goal.returns-in_default-clause-begins
@@ -73,3 +73,20 @@ returns-in-Ticked-clause-falls g c =
 pub returns-in-Asks-clause-falls : goal.returns-in-Asks-clause-falls
 returns-in-Asks-clause-falls g c =
     ok_more c.perform.result c.perform.ensures.falls (λ made falls. event_falls (λ (state : g.row.P-State.Denot). g.P.Interpreter.weight c.args.program.now (g.P.Interpreter.held c.args.program.now state)) c.args.limit made c.args.places.now c.args.shared.now c.perform.new.places c.perform.new.shared falls)
+
+pub returns-in-Slid-clause-moves : goal.returns-in-Slid-clause-moves
+returns-in-Slid-clause-moves g c = λ m world none.
+    let turn = subst (λ (t : Turn). AdvancesAt (kind_of (g.P.Interpreter.parts c.args.program.now)) (g.P.Interpreter.held c.args.program.now) c.args.limit t c.args.places.now c.in-Some.key.number c.advance_at.new.places) c.in-Slid.is c.in_ok-advance_at.ensures.turn in
+    stepped_world (kind_of (g.P.Interpreter.parts c.args.program.now)) (g.P.Interpreter.held c.args.program.now) c.args.limit None None c.args.places.now c.args.shared.now (at_moment (kind_of (g.P.Interpreter.parts c.args.program.now)) (g.P.Interpreter.held c.args.program.now) c.args.limit m c.args.places.now c.args.shared.now world c.requires.going) c.in-Some.key c.in-Some.key.number c.advance_at.new.places (sym c.least.ensures ∙ c.in-Some.is) refl turn
+
+pub returns-in-Ticked-clause-moves : goal.returns-in-Ticked-clause-moves
+returns-in-Ticked-clause-moves g c = λ m world none.
+    let turn = subst (λ (t : Turn). AdvancesAt (kind_of (g.P.Interpreter.parts c.args.program.now)) (g.P.Interpreter.held c.args.program.now) c.args.limit t c.args.places.now c.in-Some.key.number c.advance_at.new.places) c.in-Ticked.is c.in_ok-advance_at.ensures.turn in
+    stepped_world (kind_of (g.P.Interpreter.parts c.args.program.now)) (g.P.Interpreter.held c.args.program.now) c.args.limit None None c.args.places.now c.args.shared.now (at_moment (kind_of (g.P.Interpreter.parts c.args.program.now)) (g.P.Interpreter.held c.args.program.now) c.args.limit m c.args.places.now c.args.shared.now world c.requires.going) c.in-Some.key c.in-Some.key.number c.advance_at.new.places (sym c.least.ensures ∙ c.in-Some.is) refl turn
+
+pub returns-in-Asks-clause-moves : goal.returns-in-Asks-clause-moves
+returns-in-Asks-clause-moves g c =
+    ok_more c.perform.result c.perform.ensures.moves (λ made more m world none.
+    let turn = subst (λ (t : Turn). AdvancesAt (kind_of (g.P.Interpreter.parts c.args.program.now)) (g.P.Interpreter.held c.args.program.now) c.args.limit t c.args.places.now c.in-Some.key.number c.advance_at.new.places) c.in-Asks.is c.in_ok-advance_at.ensures.turn in
+    let both = asks_on (kind_of (g.P.Interpreter.parts c.args.program.now)) (g.P.Interpreter.held c.args.program.now) c.args.limit None None c.args.places.now c.args.shared.now (at_moment (kind_of (g.P.Interpreter.parts c.args.program.now)) (g.P.Interpreter.held c.args.program.now) c.args.limit m c.args.places.now c.args.shared.now world c.requires.going) c.in-Some.key c.in-Some.key.number c.in-Asks.clock c.in-Asks.request c.advance_at.new.places (sym c.least.ensures ∙ c.in-Some.is) refl turn in
+    more c.args.limit m both.1 (asked_world (kind_of (g.P.Interpreter.parts c.args.program.now)) (g.P.Interpreter.held c.args.program.now) c.args.limit None None c.args.places.now c.args.shared.now (at_moment (kind_of (g.P.Interpreter.parts c.args.program.now)) (g.P.Interpreter.held c.args.program.now) c.args.limit m c.args.places.now c.args.shared.now world c.requires.going) c.advance_at.new.places turn.4 turn.5) none)

@@ -1,4 +1,4 @@
-use Rattle.std.proofs.Common.{Option, length, refl, subst, sym, ap, ◌∙◌, ◌+◌}
+use Rattle.std.proofs.Common.{None, Option, length, refl, subst, sym, ap, ◌∙◌, ◌+◌}
 use Rattle.std.specs.Io.KnownBytes.{Appends}
 use Rattle.std.proofs.Math.Seq.{take-length}
 use Rattle.word.specs.declared.end.End.{End}
@@ -8,7 +8,7 @@ use Rattle.one_thread.specs.declared.move_kind.Move.{Move}
 use Rattle.one_thread.specs.Progress.{EventFalls, ending_in}
 use Rattle.one_thread.specs.Worlds.{Goes, printed}
 use Rattle.one_thread.proofs.Falling.{performed_ends, performed_falls}
-use Rattle.one_thread.proofs.Moves.{begins, begins_after, goes_after}
+use Rattle.one_thread.proofs.Moves.{at_moment, begins, begins_after, goes_after, went}
 use Rattle.one_thread.proofs.running.perform.Goals as goal
 
 pub returns-in_err-deed-clause-begins : goal.returns-in_err-deed-clause-begins
@@ -41,3 +41,10 @@ pub returns-clause-falls : goal.returns-clause-falls
 returns-clause-falls g c =
     subst (λ (made : Move). EventFalls made c.args.shared.now c.perform.new.self) (sym c.performed.ensures)
     (performed_falls c.args.shared.now c.perform.new.self c.ending.result (sym c.ending.ensures) c.in_ok-deed.ensures.counted c.in_ok-deed.ensures.room)
+
+pub returns-clause-moves : goal.returns-clause-moves
+returns-clause-moves g c = λ limit m ask world none.
+    went (kind_of (g.P.Interpreter.parts c.args.program.now)) (g.P.Interpreter.held c.args.program.now) limit None None c.args.places.now c.args.shared.now
+    (at_moment (kind_of (g.P.Interpreter.parts c.args.program.now)) (g.P.Interpreter.held c.args.program.now) limit m c.args.places.now c.args.shared.now world c.requires.going)
+    c.args.place c.args.clock (request_of c.args.request) c.in_ok-deed.deed c.perform.new.self ask c.in_ok-deed.ensures.performs
+    c.apply.new.places c.at-later.result (c.at-later.ensures ∙ ap (λ n. n + 1) c.time.ensures.time) (c.in_ok-apply.ensures.applies ask.state ask.at.here)

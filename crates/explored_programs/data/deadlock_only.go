@@ -1,0 +1,8 @@
+// It deadlocks in each order.
+// Bug: deadlock
+package main
+
+func main() {
+	c := make(chan int)
+	c <- 1
+}

@@ -1,6 +1,0 @@
-use Rattle.kendo.proofs.Judging.{either}
-use Rattle.kendo_shell.proofs.Findings.{one_of}
-use Rattle.kendo.proofs.perform_rest.Goals as goal
-
-pub loop-file-preserved : goal.loop-file-preserved
-loop-file-preserved g c = either c.args.invocation.now _ _ _ (one_of _ _ _ c.first_failure-status.ensures) c.loop-file.invariant c.in_ok-next.ensures

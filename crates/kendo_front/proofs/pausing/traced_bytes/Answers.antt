@@ -1,7 +1,0 @@
-use Rattle.std.proofs.lemmas.Result.{err_from_is_err_and}
-use Rattle.kendo_front.proofs.pausing.traced_bytes.Goals as goal
-
-pub returns-in_err-_source-clause-refused : goal.returns-in_err-_source-clause-refused
-returns-in_err-_source-clause-refused g c =
-    let p = err_from_is_err_and c.from_residual.result c.from_residual.ensures.1 in
-    rw (p.1, p.2) c.in_err-_source.ensures.refused

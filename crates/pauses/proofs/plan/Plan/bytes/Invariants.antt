@@ -1,8 +1,0 @@
-use Rattle.std.proofs.Common.{◌≡◌, ◌++◌, codes, drop}
-use Rattle.std.specs.List.{flat_map}
-use Rattle.pauses.specs.Files.{pause_text}
-use Rattle.pauses.specs.Plans.{pauses_of}
-use Rattle.pauses.proofs.plan.Plan.bytes.Given as goal
-
-abbrev pub invariant-loop-pause : goal.invariant-loop-pause
-invariant-loop-pause l = l.text.items ++ flat_map pause_text (pauses_of (drop l.pause-index l.self.pauses.items)) ≡ codes "kendo pauses 1\n" ++ flat_map pause_text (pauses_of l.self.pauses.items)
