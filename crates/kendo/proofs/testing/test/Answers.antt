@@ -1,4 +1,4 @@
-use Rattle.std.proofs.Common.{subst}
+use Rattle.std.proofs.Common.{inr, subst}
 use Rattle.std.proofs.lemmas.Result.{err_from_is_err_and}
 use Rattle.kendo_shell.proofs.Findings.{limit_ended, test_lost, test_stops}
 use Rattle.kendo_test.specs.Passing.{IsRight}
@@ -13,9 +13,14 @@ returns-in_err-tested g c =
 pub returns-in_err-write : goal.returns-in_err-write
 returns-in_err-write g c =
     let p = err_from_is_err_and c.from_residual-in_err-write.result c.from_residual-in_err-write.ensures.1 in
-    rw (p.1, p.2) (test_lost c.args.limit c.args.search.tries c.args.search.states c.args.bytes.items _ c.in_err-write.ensures)
+    rw (p.1, p.2) (test_lost c.args.limit c.args.search.tries c.args.search.states c.args.bytes.items _ (inr c.in_err-write.ensures))
+
+pub returns-in_err-all_written : goal.returns-in_err-all_written
+returns-in_err-all_written g c =
+    let p = err_from_is_err_and c.from_residual-in_err-all_written.result c.from_residual-in_err-all_written.ensures.1 in
+    rw (p.1, p.2) (test_lost c.args.limit c.args.search.tries c.args.search.states c.args.bytes.items _ (inr c.in_err-all_written.ensures))
 
 pub returns : goal.returns
 returns g c =
     let made = c.in_ok-tested.ensures in
-    (limit_ended c.args.limit _ made.limit, (c.in_ok-tested.tested.verdict, subst (λ text. IsRight c.in_ok-tested.tested.verdict text c.args.limit) c.as_slice.ensures.value made.right, c.is_passed.ensures))
+    (limit_ended c.args.limit _ made.limit, (c.in_ok-tested.tested.verdict, subst (λ text. IsRight c.in_ok-tested.tested.verdict c.args.leaks text c.args.limit) c.as_slice.ensures.value made.right, c.is_passed.ensures))
