@@ -1,12 +1,12 @@
 //! Goroutines that wait for one another in a cycle.
 
+use crate::explanation::Report;
 use crate::goroutine::Goroutine;
 use crate::notes::Notes;
-use crate::scene::Report;
 use diagnostic_words::words::Words;
 use go_text::Memory;
 use std::alloc::Global;
-use word::request::Request;
+use watched_goroutine::Wish;
 
 /// The most cycles that are printed.
 const MOST_CYCLES: usize = 5;
@@ -29,8 +29,9 @@ struct Waiting {
 }
 
 /// Appends a line for each cycle of goroutines of a deadlock, five at most.
-pub(crate) fn push_cycles(said: &mut Words, report: Report<'_>, goroutines: &[Goroutine]) {
-    let Ok(waiting) = Waiting::new(report.scene.alloc, report.notes, goroutines) else {
+pub(crate) fn push_cycles(said: &mut Words, report: Report<'_, '_>) {
+    let goroutines = report.moment.goroutines.as_slice();
+    let Ok(waiting) = Waiting::new(report.scene.alloc, &report.moment.notes, goroutines) else {
         said.refuse();
         return;
     };
@@ -157,8 +158,8 @@ fn next_of(
     goroutine: &Goroutine,
 ) -> Option<usize> {
     let (channel, latest) = match &goroutine.wish {
-        Some(Request::Receive(Some(channel))) => (*channel, notes.receiver(*channel)),
-        Some(Request::Send(Some(channel), _)) => (*channel, notes.sender(*channel)),
+        Some(Wish::Receive(Some(channel))) => (*channel, notes.receiver(*channel)),
+        Some(Wish::Send(Some(channel))) => (*channel, notes.sender(*channel)),
         _ => return None,
     };
     if let Some(number) = latest {

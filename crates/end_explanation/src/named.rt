@@ -5,7 +5,7 @@ use diagnostic_scope::unit::{Found, Unit};
 use std::alloc::Global;
 use syntax::{ClauseNode, ExpressionNode, NodeId, SimpleNode, StatementNode};
 
-/// The channel that is sent to or received from at a node of a unit, if the unit names it.
+/// The channel that is sent to, received from or closed at a node of a unit, if the unit names it.
 pub(crate) fn named_at<'a>(
     alloc: Global,
     found: Found<'a>,
@@ -23,7 +23,7 @@ pub(crate) fn named_at<'a>(
     named_by(found.unit)
 }
 
-/// The channel that a unit as a whole sends to or receives from.
+/// The channel that a unit as a whole sends to, receives from or closes.
 fn named_by(unit: Unit<'_>) -> Option<&ExpressionNode> {
     match unit {
         Unit::Simple(simple) | Unit::Leaf(StatementNode::Simple(simple)) => named_by_simple(simple),
@@ -32,10 +32,11 @@ fn named_by(unit: Unit<'_>) -> Option<&ExpressionNode> {
     }
 }
 
-/// The channel that a simple statement as a whole sends to or receives from.
+/// The channel that a simple statement as a whole sends to, receives from or closes.
 fn named_by_simple(simple: &SimpleNode) -> Option<&ExpressionNode> {
     match simple {
-        SimpleNode::Send(channel, _) | SimpleNode::Receive(channel) => Some(channel),
+        SimpleNode::Send(channel, _) => Some(channel),
+        SimpleNode::Receive(channel) | SimpleNode::Close(channel) => Some(channel),
         _ => None,
     }
 }

@@ -1,45 +1,75 @@
 //! What is noted of a run while it goes on.
 
-use book::{Book, BookName};
+use crate::goroutine::Call;
 use go_text::Memory;
 use std::alloc::Global;
+use word::panic::Panic;
 use word::request::{Case, Event, EventOutcome, Reply, Request};
-
-/// An instruction: the number of its function, and its index there.
-#[derive(Clone, Copy)]
-pub(crate) struct Site {
-    pub function: usize,
-    pub index: usize,
-}
+use word::value::{Item, Word};
 
 /// A channel that was made.
 #[derive(Clone, Copy)]
 struct Channel {
     /// Where it was made.
-    made: Option<Site>,
+    made: Option<Call>,
     /// Whether it has a buffer.
     is_buffered: bool,
+    /// Whether it was sent to a goroutine.
+    is_sent: bool,
     /// The number of the goroutine that received from it last; 0 if none did.
     received: u64,
     /// The number of the goroutine that sent to it last; 0 if none did.
     sent: u64,
+    /// Who closed it; none if it is open.
+    closer: Option<Closer>,
+}
+
+/// A goroutine that closed a channel.
+#[derive(Clone, Copy)]
+pub(crate) struct Closer {
+    pub number: u64,
+    /// Where it closed the channel.
+    pub call: Option<Call>,
 }
 
 /// A goroutine that was started and has not ended.
 #[derive(Clone, Copy)]
 struct Started {
     number: u64,
-    site: Option<Site>,
+    site: Option<Call>,
+}
+
+/// A goroutine that was woken by a close.
+#[derive(Clone, Copy)]
+struct Woken {
+    number: u64,
+    /// The channel that was closed.
+    channel: u32,
+    /// The clock of the one that closed it.
+    clock: u64,
+}
+
+/// Why a run has panicked: a goroutine sent to a closed channel, or closed it.
+#[derive(Clone, Copy)]
+pub(crate) struct Misuse {
+    pub channel: u32,
+    /// The number of the clause that sent, counted from 1; 0 outside a `select`.
+    pub clause: usize,
+    /// Whether the goroutine waited to send when the channel was closed.
+    pub waited: bool,
 }
 
 /// The channels of a run, and where its goroutines were started. What is noted of a goroutine is dropped when it ends, so the notes
 /// of a long run stay small.
 #[derive(Drop)]
-pub(crate) struct Notes {
+pub struct Notes {
     /// Channel n, at index n - 1.
     channels: Vec<Channel>,
     /// In the order of their numbers.
     started: Vec<Started>,
+    /// Those that may not have had a turn since.
+    woken: Vec<Woken>,
+    misuse: Option<Misuse>,
 }
 
 /// A send or a receive that was done on a channel.
@@ -52,22 +82,36 @@ struct Transfer {
 
 impl Notes {
     /// Nothing.
-    pub(crate) fn new(alloc: Global) -> Notes {
+    pub fn new(alloc: Global) -> Notes {
         Notes {
             channels: Vec::new(alloc),
             started: Vec::new(alloc),
+            woken: Vec::new(alloc),
+            misuse: None,
         }
     }
 
     /// Where a channel was made.
-    pub(crate) fn made(&self, channel: u32) -> Option<Site> {
+    pub(crate) fn made(&self, channel: u32) -> Option<Call> {
         self.channel(channel)?.made
     }
 
     /// Where a goroutine was started.
-    pub(crate) fn started(&self, number: u64) -> Option<Site> {
+    pub(crate) fn started(&self, number: u64) -> Option<Call> {
         let index = self.index_of(number)?;
         self.started.get(index)?.site
+    }
+
+    /// The numbers of the goroutines that have not ended, if `main` has not, in their order.
+    ///
+    /// Errors: out of memory.
+    pub fn numbers(&self, alloc: Global) -> Result<Vec<u64>, Memory> {
+        let mut numbers = Vec::new(alloc);
+        numbers.push(1)?;
+        for one in self.started.iter() {
+            numbers.push(one.number)?;
+        }
+        Ok(numbers)
     }
 
     /// The goroutine that received from a channel last.
@@ -85,41 +129,57 @@ impl Notes {
         numbered(channel.sent)
     }
 
-    /// Notes an event that the book has just committed.
+    /// The goroutine that closed a channel.
+    pub(crate) fn closer(&self, channel: u32) -> Option<Closer> {
+        self.channel(channel)?.closer
+    }
+
+    /// Whether a channel was sent to a goroutine.
+    pub(crate) fn is_sent(&self, channel: u32) -> bool {
+        match self.channel(channel) {
+            Some(channel) => channel.is_sent,
+            None => false,
+        }
+    }
+
+    /// Why the run has panicked, if a goroutine sent to a closed channel, or closed it.
+    pub(crate) fn misuse(&self) -> Option<Misuse> {
+        self.misuse
+    }
+
+    /// Whether `take` keeps where an event was.
+    pub fn keeps_site(event: &Event) -> bool {
+        matches!(
+            (&event.request, &event.outcome),
+            (
+                Request::Make(_, _) | Request::Go(_, _) | Request::Close(_),
+                EventOutcome::Done(_)
+            )
+        )
+    }
+
+    /// Notes the next event of the run. `site` is where it was, if `keeps_site`.
     ///
     /// Errors: out of memory.
-    pub(crate) fn take<B: BookName>(
-        &mut self,
-        book: &Book<B>,
-        event: &Event,
-    ) -> Result<(), Memory> {
+    pub fn take(&mut self, event: &Event, site: Option<Call>) -> Result<(), Memory> {
         match (&event.request, &event.outcome) {
-            (Request::Make(size, _), EventOutcome::Done(_)) => {
-                self.channels.push(Channel {
-                    made: site_of(book, event.number),
-                    is_buffered: *size > 0,
-                    received: 0,
-                    sent: 0,
-                })?;
+            (Request::Make(size, _), EventOutcome::Done(_)) => self.make(*size, site),
+            (Request::Go(_, _), EventOutcome::Done(_)) => self.start(event, site),
+            (Request::Close(channel), EventOutcome::Done(_)) => self.close(*channel, event, site),
+            (Request::End, _) => {
+                self.end(event.number);
+                Ok(())
             }
-            (Request::Go(_, _), EventOutcome::Done(_)) => {
-                if let Some(number) = event.partners.first() {
-                    let site = site_of(book, event.number);
-                    self.started.push(Started {
-                        number: *number,
-                        site,
-                    })?;
-                }
-            }
-            (Request::End, _) => self.end(event.number),
             (request, EventOutcome::Done(reply)) => {
-                if let Some(transfer) = transfer_of(request, reply) {
-                    self.transfer(transfer, event.number, event.partners.first().copied());
-                }
+                self.transfer(request, reply, event);
+                Ok(())
             }
-            _ => {}
+            (request, EventOutcome::Panics(panic, clause)) => {
+                self.misuse = self.misuse_of(request, *panic, *clause, event.number);
+                Ok(())
+            }
+            (_, EventOutcome::Sleeps) => Ok(()),
         }
-        Ok(())
     }
 
     /// A channel.
@@ -134,6 +194,67 @@ impl Notes {
             .ok()
     }
 
+    /// A channel of this size was made.
+    fn make(&mut self, size: i64, site: Option<Call>) -> Result<(), Memory> {
+        self.channels.push(Channel {
+            made: site,
+            is_buffered: size > 0,
+            is_sent: false,
+            received: 0,
+            sent: 0,
+            closer: None,
+        })?;
+        Ok(())
+    }
+
+    /// A goroutine was started.
+    fn start(&mut self, event: &Event, site: Option<Call>) -> Result<(), Memory> {
+        if let Some(number) = event.partners.first() {
+            self.started.push(Started {
+                number: *number,
+                site,
+            })?;
+        }
+        Ok(())
+    }
+
+    /// A channel was closed, which woke the partners of the event.
+    fn close(
+        &mut self,
+        channel: Option<u32>,
+        event: &Event,
+        site: Option<Call>,
+    ) -> Result<(), Memory> {
+        let Some(channel) = channel else {
+            return Ok(());
+        };
+        if let Some(closed) = self.channel_mut(channel) {
+            closed.closer = Some(Closer {
+                number: event.number,
+                call: site,
+            });
+        }
+        self.wake(channel, event)
+    }
+
+    /// A close of a channel woke the partners of the event. Those that were woken more than a tick before have had their turn.
+    fn wake(&mut self, channel: u32, event: &Event) -> Result<(), Memory> {
+        let clock = event.clock.time();
+        if let Some(last) = self.woken.last() {
+            if last.clock.saturating_add(1) < clock {
+                self.woken.clear();
+            }
+        }
+        for number in event.partners.iter() {
+            self.woken.push(Woken {
+                number: *number,
+                channel,
+                clock,
+            })?;
+        }
+        Ok(())
+    }
+
     /// A goroutine has ended.
     fn end(&mut self, number: u64) {
         if let Some(index) = self.index_of(number) {
@@ -143,22 +264,79 @@ impl Notes {
         }
     }
 
-    /// An item went through a channel: one goroutine acted, and the other one, if any, had waited for it.
-    fn transfer(&mut self, transfer: Transfer, actor: u64, partner: Option<u64>) {
-        let Some(index) = (transfer.channel as usize).checked_sub(1) else {
+    /// A channel, to be changed.
+    fn channel_mut(&mut self, number: u32) -> Option<&mut Channel> {
+        self.channels.get_mut((number as usize).checked_sub(1)?)
+    }
+
+    /// A request was done: if an item went through a channel, one goroutine acted, and the other one, if any, had waited for it.
+    fn transfer(&mut self, request: &Request, reply: &Reply, event: &Event) {
+        let Some(transfer) = transfer_of(request, reply) else {
             return;
         };
-        let Some(channel) = self.channels.get_mut(index) else {
-            return;
-        };
-        if transfer.sends {
-            channel.sent = actor;
-            channel.received = partner.unwrap_or(channel.received);
-        } else {
-            channel.received = actor;
-            channel.sent = partner.unwrap_or(channel.sent);
+        let partner = event.partners.first().copied();
+        if let Some(channel) = self.channel_mut(transfer.channel) {
+            if transfer.sends {
+                channel.sent = event.number;
+                channel.received = partner.unwrap_or(channel.received);
+            } else {
+                channel.received = event.number;
+                channel.sent = partner.unwrap_or(channel.sent);
+            }
+        }
+        if let Some(item) = item_of(request, reply) {
+            self.send_all(item.words());
         }
     }
+
+    /// These words were sent.
+    fn send_all(&mut self, words: &[Word]) {
+        for word in words {
+            if let Word::Chan(Some(number)) = word {
+                if let Some(channel) = self.channel_mut(*number) {
+                    channel.is_sent = true;
+                }
+            }
+        }
+    }
+
+    /// The misuse of a channel that a request is which panics so in this clause.
+    fn misuse_of(
+        &self,
+        request: &Request,
+        panic: Panic,
+        clause: usize,
+        number: u64,
+    ) -> Option<Misuse> {
+        if !matches!(panic, Panic::SendOnClosed | Panic::CloseOfClosed) {
+            return None;
+        }
+        match request {
+            Request::Send(channel, _) | Request::Close(channel) => misuse_in(*channel, clause),
+            Request::Select(cases, _) => {
+                let case = cases.get(clause.checked_sub(1)?)?;
+                misuse_in(case.chan, clause)
+            }
+            Request::Panic(_) => {
+                let woken = self.woken.iter().rfind(|woken| woken.number == number)?;
+                Some(Misuse {
+                    channel: woken.channel,
+                    clause: 0,
+                    waited: true,
+                })
+            }
+            _ => None,
+        }
+    }
+}
+
+/// The misuse of a channel in a clause by a goroutine that did not wait.
+fn misuse_in(channel: Option<u32>, clause: usize) -> Option<Misuse> {
+    Some(Misuse {
+        channel: channel?,
+        clause,
+        waited: false,
+    })
 }
 
 /// A number that is not 0.
@@ -178,25 +356,25 @@ fn transfer_of(request: &Request, reply: &Reply) -> Option<Transfer> {
             sends: false,
         }),
         (Request::Select(cases, _), Reply::Clause(number, _)) => {
-            clause_of(cases.get(number.checked_sub(1)?)?)
+            let case = cases.get(number.checked_sub(1)?)?;
+            Some(Transfer {
+                channel: case.chan?,
+                sends: case.item.is_some(),
+            })
         }
         _ => None,
     }
 }
 
-/// The send or receive of a clause.
-fn clause_of(case: &Case) -> Option<Transfer> {
-    Some(Transfer {
-        channel: case.chan?,
-        sends: case.item.is_some(),
-    })
-}
-
-/// The instruction that a goroutine has just done.
-fn site_of<B: BookName>(book: &Book<B>, number: u64) -> Option<Site> {
-    let frame = book.awake(number)?.frames().last()?;
-    Some(Site {
-        function: frame.function(),
-        index: frame.place().saturating_sub(1),
-    })
+/// The item that a request sent or received.
+fn item_of<'r>(request: &'r Request, reply: &'r Reply) -> Option<&'r Item> {
+    match (request, reply) {
+        (Request::Send(_, item), _) => Some(item),
+        (_, Reply::Received(item, _) | Reply::Clause(_, Some((item, _)))) => Some(item),
+        (Request::Select(cases, _), Reply::Clause(number, None)) => {
+            let case: &Case = cases.get(number.checked_sub(1)?)?;
+            case.item.as_ref()
+        }
+        _ => None,
+    }
 }

@@ -1,22 +1,17 @@
 //! Where goroutines are, in lines.
 
 use crate::cycle::push_cycles;
+use crate::explanation::Report;
 use crate::goroutine::{Call, Goroutine};
-use crate::scene::{Report, Scene};
-use crate::wish::{push_clauses, push_wish};
+use crate::notes::Misuse;
+use crate::wish::{push_asked, push_clauses, push_in_clause, push_wish};
 use diagnostic_words::words::Words;
 use go_text::Memory;
+use inspection::Scene;
 use logical_clock::limits::MAX_GOROUTINES;
 use std::alloc::Global;
-use syntax::NodeId;
 use word::limits::{MAX_CAPACITY, MAX_CHANNELS, MAX_DEPTH};
 use word::panic::Panic;
-
-/// The most goroutines of a deadlock that are printed.
-const MOST_WAITING: usize = 50;
-
-/// The most goroutines of a run that finished that are printed.
-const MOST_UNFINISHED: usize = 20;
 
 /// The most lines for the calls of one goroutine.
 const MOST_CALLS: usize = 20;
@@ -36,134 +31,162 @@ const UNITS: [u64; 7] = [
 ];
 
 /// Appends the goroutines of a deadlock: cycles first, and then each one.
-pub(crate) fn push_deadlock(said: &mut Words, report: Report<'_>, goroutines: &[Goroutine]) {
-    push_cycles(said, report, goroutines);
-    for goroutine in goroutines.iter().take(MOST_WAITING) {
-        push_waiting(said, report, goroutine);
-    }
-    let left = goroutines.len().saturating_sub(MOST_WAITING);
+pub(crate) fn push_deadlock(said: &mut Words, report: Report<'_, '_>) {
+    push_cycles(said, report);
+    push_all_waiting(said, report);
     push_more(
         said,
-        left,
+        report.shown.left,
         " more goroutine waits\n",
         " more goroutines wait\n",
     );
 }
 
-/// Appends the goroutines that had not ended when `main` returned.
-pub(crate) fn push_unfinished(said: &mut Words, report: Report<'_>, goroutines: &[Goroutine]) {
-    let count = goroutines.iter().filter(|one| one.number > 1).count();
+/// Appends the goroutines that wait forever when `main` has returned.
+pub(crate) fn push_forever(said: &mut Words, report: Report<'_, '_>) {
+    let count = report.shown.count();
     if count == 0 {
         return;
     }
     said.number(count as i128);
     said.text(if count == 1 {
-        " goroutine had not ended\n"
+        " goroutine waits forever\n"
     } else {
-        " goroutines had not ended\n"
+        " goroutines wait forever\n"
     });
-    let others = goroutines.iter().filter(|one| one.number > 1);
-    for goroutine in others.take(MOST_UNFINISHED) {
-        if goroutine.wish.is_some() {
-            push_waiting(said, report, goroutine);
-        } else {
-            push_awake(said, report, goroutine);
-        }
-    }
-    let left = count.saturating_sub(MOST_UNFINISHED);
-    push_more(said, left, " more goroutine\n", " more goroutines\n");
+    push_all_waiting(said, report);
+    push_more(
+        said,
+        report.shown.left,
+        " more goroutine\n",
+        " more goroutines\n",
+    );
 }
 
-/// Appends the goroutine that panicked, with the cause.
-pub(crate) fn push_panic(
-    said: &mut Words,
-    report: Report<'_>,
-    goroutine: &Goroutine,
-    cause: &str,
-    panic: Panic,
-) {
+/// Appends the goroutines that are printed, all of which wait.
+fn push_all_waiting(said: &mut Words, report: Report<'_, '_>) {
+    for index in report.shown.indices.iter() {
+        if let Some(goroutine) = report.moment.goroutines.get(*index) {
+            push_waiting(said, report, goroutine);
+        }
+    }
+}
+
+/// The goroutine of an end that one goroutine brought about.
+fn acting<'a>(report: Report<'a, '_>) -> Option<&'a Goroutine> {
+    let index = report.shown.indices.first()?;
+    report.moment.goroutines.get(*index)
+}
+
+/// Appends the goroutine that panicked, with the cause; of the misuse of a closed channel also where it was closed.
+pub(crate) fn push_panic(said: &mut Words, report: Report<'_, '_>, cause: &str, panic: Panic) {
+    let Some(goroutine) = acting(report) else {
+        return;
+    };
     push_timed(said, report, " panics at clock ", goroutine);
     said.text(": ");
     said.text(cause);
     push_bound(said, panic);
+    let misuse = report.moment.notes.misuse();
+    if let Some(misuse) = misuse {
+        said.text(": ");
+        push_misused(said, report, goroutine, misuse);
+    }
     said.text("\n");
-    push_source(said, report.scene, goroutine);
-    push_calls(said, report.scene, goroutine);
+    push_place(said, report, goroutine);
+    if let Some(misuse) = misuse {
+        push_close(said, report, misuse);
+    }
+}
+
+/// Appends the channel that a goroutine sent to or closed although it was closed.
+fn push_misused(said: &mut Words, report: Report<'_, '_>, goroutine: &Goroutine, misuse: Misuse) {
+    let channel = Some(misuse.channel);
+    if misuse.clause == 0 {
+        push_asked(said, report, goroutine, channel);
+    } else {
+        push_in_clause(said, report, goroutine, misuse.clause, channel);
+    }
+}
+
+/// Appends where a channel was closed, and by whom, with the line of the source.
+fn push_close(said: &mut Words, report: Report<'_, '_>, misuse: Misuse) {
+    let Some(closer) = report.moment.notes.closer(misuse.channel) else {
+        return;
+    };
+    let Some(call) = closer.call else {
+        return;
+    };
+    said.text(if misuse.waited {
+        "closed while it waited, by goroutine "
+    } else {
+        "closed before by goroutine "
+    });
+    said.number(i128::from(closer.number));
+    said.text(" (");
+    report.scene.push_function(said, call.function);
+    said.text(") at ");
+    report.scene.push_location(said, call.node);
+    said.text("\n");
+    report.scene.push_excerpt(said, call.node);
 }
 
 /// Appends the goroutine that came to the clock limit first.
-pub(crate) fn push_exhausted(
-    said: &mut Words,
-    report: Report<'_>,
-    goroutine: &Goroutine,
-    limit: u64,
-) {
+pub(crate) fn push_exhausted(said: &mut Words, report: Report<'_, '_>, limit: u64) {
+    let Some(goroutine) = acting(report) else {
+        return;
+    };
     push_timed(said, report, " has reached clock ", goroutine);
     said.text(": logical time exhausted (the limit is ");
     push_thousands(said, limit);
     said.text("; --limit sets another one)\n");
-    push_source(said, report.scene, goroutine);
-    push_calls(said, report.scene, goroutine);
+    push_place(said, report, goroutine);
 }
 
 /// Appends a goroutine that waits, and what for.
-fn push_waiting(said: &mut Words, report: Report<'_>, goroutine: &Goroutine) {
+fn push_waiting(said: &mut Words, report: Report<'_, '_>, goroutine: &Goroutine) {
     push_timed(said, report, " waits since clock ", goroutine);
     said.text(": ");
     push_wish(said, report, goroutine);
     said.text("\n");
-    push_source(said, report.scene, goroutine);
-    push_clauses(said, report, goroutine);
-    push_calls(said, report.scene, goroutine);
+    push_place(said, report, goroutine);
 }
 
-/// Appends a goroutine that is awake. It may have run ahead of the event that ended the run, so its clock is not printed.
-fn push_awake(said: &mut Words, report: Report<'_>, goroutine: &Goroutine) {
-    push_goroutine(said, report, goroutine);
-    said.text(" still runs: ");
-    push_location(said, report.scene, goroutine);
-    said.text("\n");
-    push_source(said, report.scene, goroutine);
+/// Appends the line of the source that a goroutine is at, with marks, the clauses of the `select` that it waits at, if it does, its variables
+/// and its calls.
+fn push_place(said: &mut Words, report: Report<'_, '_>, goroutine: &Goroutine) {
+    if let Some(call) = goroutine.last() {
+        report.scene.push_excerpt(said, call.node);
+    }
+    push_clauses(said, report, goroutine);
+    said.bytes(goroutine.variables.as_slice());
     push_calls(said, report.scene, goroutine);
 }
 
 /// Appends `goroutine N (FUNCTION, started at LINE:COLUMN) DOES C: FILE:LINE:COLUMN`, where C is the goroutine's clock.
-fn push_timed(said: &mut Words, report: Report<'_>, does: &str, goroutine: &Goroutine) {
+fn push_timed(said: &mut Words, report: Report<'_, '_>, does: &str, goroutine: &Goroutine) {
     push_goroutine(said, report, goroutine);
     said.text(does);
     said.number(i128::from(goroutine.clock));
     said.text(": ");
-    push_location(said, report.scene, goroutine);
+    if let Some(call) = goroutine.last() {
+        report.scene.push_location(said, call.node);
+    }
 }
 
 /// Appends `goroutine N (FUNCTION, started at LINE:COLUMN)`.
-fn push_goroutine(said: &mut Words, report: Report<'_>, goroutine: &Goroutine) {
+fn push_goroutine(said: &mut Words, report: Report<'_, '_>, goroutine: &Goroutine) {
     said.text("goroutine ");
     said.number(i128::from(goroutine.number));
     said.text(" (");
     if let Some(call) = goroutine.last() {
         report.scene.push_function(said, call.function);
     }
-    if let Some(site) = report.notes.started(goroutine.number) {
+    if let Some(started) = report.moment.notes.started(goroutine.number) {
         said.text(", started at ");
-        let node: NodeId = report.scene.call(site).node;
-        report.scene.push_position(said, node);
+        report.scene.push_position(said, started.node);
     }
     said.text(")");
-}
-
-/// Appends `FILE:LINE:COLUMN` of the operation or the statement that a goroutine is at.
-fn push_location(said: &mut Words, scene: Scene<'_>, goroutine: &Goroutine) {
-    if let Some(call) = goroutine.last() {
-        scene.push_location(said, call.node);
-    }
-}
-
-/// Appends the line of the source that a goroutine is at, with marks.
-fn push_source(said: &mut Words, scene: Scene<'_>, goroutine: &Goroutine) {
-    if let Some(call) = goroutine.last() {
-        scene.push_line(said, call.node);
-    }
 }
 
 /// Appends which bound of a run a panic has met, if it has met one.
@@ -217,7 +240,7 @@ fn push_group(said: &mut Words, group: u64) {
 }
 
 /// Appends the calls that led a goroutine to where it is, the last one first. Calls that repeat are printed once.
-fn push_calls(said: &mut Words, scene: Scene<'_>, goroutine: &Goroutine) {
+fn push_calls(said: &mut Words, scene: Scene<'_, '_>, goroutine: &Goroutine) {
     let Ok(callers) = callers_of(scene.alloc, goroutine) else {
         said.refuse();
         return;
@@ -275,7 +298,7 @@ impl Repetition {
     }
 
     /// Appends the first calls, as many as repeat, and how many times they do.
-    fn push(self, said: &mut Words, scene: Scene<'_>, calls: &[Call]) {
+    fn push(self, said: &mut Words, scene: Scene<'_, '_>, calls: &[Call]) {
         for call in calls.iter().take(self.period) {
             push_call(said, scene, *call);
             if self.period == 1 && self.times > 1 {
@@ -313,7 +336,7 @@ fn times_of(calls: &[Call], period: usize) -> usize {
 }
 
 /// Appends the location that a function was called from.
-fn push_call(said: &mut Words, scene: Scene<'_>, call: Call) {
+fn push_call(said: &mut Words, scene: Scene<'_, '_>, call: Call) {
     said.text("  called from ");
     scene.push_function(said, call.function);
     said.text(" at ");

@@ -1,40 +1,74 @@
 //! What goroutines wait for.
 
+use crate::explanation::Report;
 use crate::goroutine::Goroutine;
 use crate::named::{clauses_of, named_at};
-use crate::scene::Report;
 use diagnostic_scope::unit::units_at;
 use diagnostic_words::words::{Words, push_expression};
-use syntax::{ClauseNode, CommNode, ExpressionNode, NodeId};
-use word::request::{Case, Request};
+use syntax::{ClauseNode, CommNode, ExpressionNode};
+use watched_goroutine::{Offer, Wish};
 
 /// Appends what a goroutine waits for; of a `select` how many clauses it has.
-pub(crate) fn push_wish(said: &mut Words, report: Report<'_>, goroutine: &Goroutine) {
+pub(crate) fn push_wish(said: &mut Words, report: Report<'_, '_>, goroutine: &Goroutine) {
     match &goroutine.wish {
-        Some(Request::Send(channel, _)) => {
+        Some(Wish::Send(channel)) => {
             said.text("sends to ");
             push_asked(said, report, goroutine, *channel);
         }
-        Some(Request::Receive(channel)) => {
+        Some(Wish::Receive(channel)) => {
             said.text("receives from ");
             push_asked(said, report, goroutine, *channel);
         }
-        Some(Request::Select(cases, _)) => {
+        Some(Wish::Select(offers)) => {
             said.text("select of ");
-            said.number(cases.len() as i128);
-            said.text(if cases.len() == 1 {
+            said.number(offers.len() as i128);
+            said.text(if offers.len() == 1 {
                 " clause"
             } else {
                 " clauses"
             });
         }
-        _ => said.text("waits"),
+        Some(Wish::Nothing) | None => said.text("waits"),
     }
 }
 
 /// Appends a line for each clause of the `select` that a goroutine waits at, if it does.
-pub(crate) fn push_clauses(said: &mut Words, report: Report<'_>, goroutine: &Goroutine) {
-    let (Some(Request::Select(cases, _)), Some(call)) = (&goroutine.wish, goroutine.last()) else {
+pub(crate) fn push_clauses(said: &mut Words, report: Report<'_, '_>, goroutine: &Goroutine) {
+    let Some(Wish::Select(offers)) = &goroutine.wish else {
+        return;
+    };
+    for (before, offer) in offers.iter().enumerate() {
+        push_offer(said, report, goroutine, *offer, before.saturating_add(1));
+    }
+}
+
+/// Appends the line of the clause of this number, counted from 1, of the `select` that a goroutine waits at.
+fn push_offer(
+    said: &mut Words,
+    report: Report<'_, '_>,
+    goroutine: &Goroutine,
+    offer: Offer,
+    number: usize,
+) {
+    said.text(if offer.sends {
+        "  sends to "
+    } else {
+        "  receives from "
+    });
+    push_in_clause(said, report, goroutine, number, offer.channel);
+    said.text("\n");
+}
+
+/// Appends the channel of the clause of this number, counted from 1, of the `select` that a goroutine is at.
+pub(crate) fn push_in_clause(
+    said: &mut Words,
+    report: Report<'_, '_>,
+    goroutine: &Goroutine,
+    number: usize,
+    channel: Option<u32>,
+) {
+    let Some(call) = goroutine.last() else {
+        push_channel(said, report, None, channel);
         return;
     };
     let found = units_at(report.scene.alloc, report.scene.tree.file(), call.node);
@@ -42,29 +76,21 @@ pub(crate) fn push_clauses(said: &mut Words, report: Report<'_>, goroutine: &Gor
         Some(unit) => clauses_of(unit.unit),
         None => &[],
     };
-    let mut left = clauses.iter().filter(|clause| clause.comm.is_some());
-    for case in cases.iter() {
-        push_clause(said, report, case, left.next());
-    }
-}
-
-/// Appends the line of a clause of a `select`.
-fn push_clause(said: &mut Words, report: Report<'_>, case: &Case, clause: Option<&ClauseNode>) {
-    said.text(if case.item.is_some() {
-        "  sends to "
-    } else {
-        "  receives from "
-    });
-    let channel = match clause {
+    let mut with_comm = clauses.iter().filter(|clause| clause.comm.is_some());
+    let name = match with_comm.nth(number.saturating_sub(1)) {
         Some(clause) => channel_of(clause),
         None => None,
     };
-    push_channel(said, report, channel, case.chan);
-    said.text("\n");
+    push_channel(said, report, name, channel);
 }
 
-/// Appends the channel that a goroutine sends to or receives from.
-fn push_asked(said: &mut Words, report: Report<'_>, goroutine: &Goroutine, channel: Option<u32>) {
+/// Appends the channel that a goroutine sends to, receives from or closes outside a `select`.
+pub(crate) fn push_asked(
+    said: &mut Words,
+    report: Report<'_, '_>,
+    goroutine: &Goroutine,
+    channel: Option<u32>,
+) {
     let Some(call) = goroutine.last() else {
         push_channel(said, report, None, channel);
         return;
@@ -80,7 +106,7 @@ fn push_asked(said: &mut Words, report: Report<'_>, goroutine: &Goroutine, chann
 /// Appends a channel: what the statement calls it, its number, and where it was made.
 fn push_channel(
     said: &mut Words,
-    report: Report<'_>,
+    report: Report<'_, '_>,
     name: Option<&ExpressionNode>,
     channel: Option<u32>,
 ) {
@@ -101,13 +127,12 @@ fn push_channel(
 }
 
 /// Appends the number of a channel, and where it was made.
-fn push_number(said: &mut Words, report: Report<'_>, number: u32) {
+fn push_number(said: &mut Words, report: Report<'_, '_>, number: u32) {
     said.text("channel ");
     said.number(i128::from(number));
-    if let Some(site) = report.notes.made(number) {
+    if let Some(made) = report.moment.notes.made(number) {
         said.text(", made at ");
-        let node: NodeId = report.scene.call(site).node;
-        report.scene.push_position(said, node);
+        report.scene.push_position(said, made.node);
     }
 }
 

@@ -25,12 +25,12 @@ pub(crate) fn push_goroutine(
     said.number(i128::from(row.number));
     said.text(" (");
     if let Some(track) = trail.tracks.last() {
-        scene.push_function(said, track.function);
+        scene.push_function(said, track.function as usize);
     }
     said.text(") clock ");
     said.number(i128::from(row.time));
     said.text(" ");
-    scene.push_location(said, trail.site());
+    scene.push_location(said, trail.site().node);
     said.text(": ");
     push_doing(said, scene, sleepers, row);
     said.text("\n");
@@ -67,10 +67,10 @@ fn push_callers(said: &mut Words, scene: Scene<'_, '_>, row: &Row<'_, '_>) {
 /// Appends where a function was called from, and the variables there.
 fn push_caller(said: &mut Words, scene: Scene<'_, '_>, frame: &Frame<'_>, track: &Track<'_>) {
     said.text("  called from ");
-    scene.push_function(said, track.function);
+    scene.push_function(said, track.function as usize);
     if let Some(site) = track.site() {
         said.text(" at ");
-        scene.push_location(said, site);
+        scene.push_location(said, site.node);
     }
     said.text("\n");
     push_variables(said, "    ", &frame.position.scope);

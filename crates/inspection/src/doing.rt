@@ -56,7 +56,7 @@ fn push_next(said: &mut Words, scene: Scene<'_, '_>, row: &Row<'_, '_>) {
         }
         None => said.text("next: "),
     }
-    scene.push_text(said, row.placed.trail.site());
+    scene.push_text(said, row.placed.trail.site().node);
 }
 
 /// Appends what a request gave.

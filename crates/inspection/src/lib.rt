@@ -7,7 +7,7 @@ mod doing;
 mod moment;
 mod rows;
 mod scene;
-mod values;
+pub mod values;
 
 pub use moment::shown_moment;
 pub use rows::{Row, paused_rows, plain_rows};

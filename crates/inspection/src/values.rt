@@ -51,7 +51,7 @@ fn push_value(said: &mut Words, variable: &Variable<'_>) {
 }
 
 /// Appends a line with the variables that a function sees, those of the outermost block first, if there are any.
-pub(crate) fn push_variables(said: &mut Words, indent: &str, scope: &Scope<'_>) {
+pub fn push_variables(said: &mut Words, indent: &str, scope: &Scope<'_>) {
     let mut is_first = true;
     for (depth, block) in scope.blocks.iter().enumerate() {
         let inner = after(scope.blocks.as_slice(), depth);

@@ -3,8 +3,7 @@
 use command_line::arguments::{Invocation, Subcommand};
 use diagnostic::{explanation, explanations};
 use go_text::Fault;
-use kendo_front::explain_end;
-use kendo_inspect::{Until, inspect_paused_bytes};
+use kendo_front::{explain_end, explain_end_by_plan};
 use kendo_shell::streams::tell;
 use kendo_shell::tracing::Refused;
 use pauses::Plan;
@@ -67,36 +66,19 @@ fn end_explained(
     end: End,
 ) -> Result<Vec<u8>, Fault> {
     let Kept { file, plan, text } = kept;
-    match invocation.subcommand {
-        Subcommand::Paused { .. } | Subcommand::Test { .. } if end == End::Finished => {
-            Ok(Vec::new(alloc))
+    match (invocation.subcommand, plan) {
+        (Subcommand::Test { .. }, _) if end == End::Finished => Ok(Vec::new(alloc)),
+        (Subcommand::Paused { limit }, Some(plan)) => {
+            explain_end_by_plan(alloc, file, text, plan, limit, end)
         }
-        Subcommand::Paused { limit } => last_moment(alloc, file, text, plan, limit),
-        Subcommand::Check
-        | Subcommand::List
-        | Subcommand::Timeline { .. }
-        | Subcommand::Inspect { .. }
-        | Subcommand::Explore { .. } => Ok(Vec::new(alloc)),
-        Subcommand::Reference { limit }
-        | Subcommand::Test { limit, .. }
-        | Subcommand::Run { limit, .. } => explain_end(alloc, file, text, limit, end),
+        (
+            Subcommand::Reference { limit }
+            | Subcommand::Test { limit, .. }
+            | Subcommand::Run { limit, .. },
+            _,
+        ) => explain_end(alloc, file, text, limit, end),
+        _ => Ok(Vec::new(alloc)),
     }
-}
-
-/// Where the goroutines are at the end of the run by a plan.
-fn last_moment(
-    alloc: Global,
-    file: &str,
-    text: Vec<u8>,
-    plan: Option<&Plan>,
-    limit: u64,
-) -> Result<Vec<u8>, Fault> {
-    let Some(plan) = plan else {
-        return Ok(Vec::new(alloc));
-    };
-    let last = Until::Event(u64::MAX);
-    let seen = inspect_paused_bytes(alloc, file, text, plan, limit, last)?;
-    Ok(seen.text)
 }
 
 /// Explains which output refused bytes, and why.

@@ -8,7 +8,7 @@ mod noting;
 mod pausing;
 
 pub use agreement::runs_agree;
-pub use explanation::explain_end;
+pub use explanation::{explain_end, explain_end_by_plan};
 pub use interpretation::reference_bytes;
 pub use noting::{paused_bytes_noting, traced_bytes_noting};
 pub use pausing::{paused_bytes, traced_bytes};

@@ -1,6 +1,8 @@
 //! What a file says of its program, and whether that is true.
 
-use crate::reading::{explained, listing, paused_picture, picture, recorded_lines};
+use crate::reading::{
+    explained, explained_by_plan, listing, paused_picture, picture, recorded_lines,
+};
 use crate::run::{Ran, check_paused, check_runs, unused_pauses};
 use go_text::Fault;
 use pauses::{Plan, PlanError};
@@ -188,8 +190,8 @@ fn check_made<R: Files + AllocGlobal>(
     same_lines(rt.alloc(), name_of(made), &wanted, &came)
 }
 
-/// What is made of a file's program: of its run, up to the limit of its row. If there is a plan, a picture is that of the run by the
-/// plan.
+/// What is made of a file's program: of its run, up to the limit of its row. If there is a plan, a picture or an explanation is that of
+/// the run by the plan.
 fn made_of<R: Files + AllocGlobal>(
     rt: &R,
     file: &RowFile<'_>,
@@ -203,6 +205,9 @@ fn made_of<R: Files + AllocGlobal>(
         }
         (Made::TraceEvents, Some(plan)) => {
             paused_picture(rt.alloc(), &text, &plan, row.limit, Format::TraceEvents)
+        }
+        (Made::Explanation, Some(plan)) => {
+            explained_by_plan(rt.alloc(), file.text_name(), &text, &plan, row.limit)
         }
         _ => made_up_to(rt.alloc(), made, file.text_name(), &text, row.limit),
     }

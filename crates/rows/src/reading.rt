@@ -3,7 +3,7 @@
 use diagnostic::explanations;
 use go_text::Fault;
 use kendo_code::{list_bytes, timeline_bytes};
-use kendo_front::{explain_end, reference_bytes};
+use kendo_front::{explain_end, explain_end_by_plan, paused_bytes, reference_bytes};
 use paused_timeline::timeline_paused;
 use pauses::Plan;
 use row_format::row_error::RowError;
@@ -57,7 +57,7 @@ pub(crate) fn paused_picture(
 }
 
 /// What `--explain` prints of a source in the file of this name, without `.go`, or of the end of its run up to this limit: nothing if it
-/// is a program that finishes and leaves no goroutines.
+/// is a program that finishes and leaves no goroutine that waits forever.
 pub(crate) fn explained(
     alloc: Global,
     name: &str,
@@ -72,6 +72,21 @@ pub(crate) fn explained(
         }
         Err(fault) => refusal_explained(alloc, path.as_str(), text, &fault),
     }
+}
+
+/// What `--explain` prints of the end of the run, by a plan and up to this limit, of a program in the file of this name, without `.go`.
+pub(crate) fn explained_by_plan(
+    alloc: Global,
+    name: &str,
+    text: &[u8],
+    plan: &Plan,
+    limit: u64,
+) -> Result<Vec<u8>, RowError> {
+    let path = format!(in alloc; "{name}.go")?;
+    let mut out = Flagged::new(Vec::new(alloc));
+    let end = paused_bytes(alloc, Vec::from_slice(alloc, text)?, plan, limit, &mut out)?;
+    let bytes = Vec::from_slice(alloc, text)?;
+    Ok(explain_end_by_plan(alloc, path.as_str(), bytes, plan, limit, end)?)
 }
 
 /// How the run of a program up to this limit ends.

@@ -14,8 +14,8 @@ use syntax::{
 
 /// What a task evaluates, in order, and the function that it calls then.
 #[derive(Drop)]
-struct Operands<'t> {
-    list: Vec<&'t ExpressionNode>,
+pub(crate) struct Operands<'t> {
+    pub list: Vec<&'t ExpressionNode>,
     called: Option<&'t Name>,
 }
 
@@ -58,7 +58,9 @@ fn called_within(stop: Stop) -> Result<Option<u32>, Memory> {
 
 impl<'t> Operands<'t> {
     /// The operands of a task.
-    fn of(alloc: Global, task: &Task<'t>) -> Result<Operands<'t>, Memory> {
+    ///
+    /// Errors: out of memory.
+    pub(crate) fn of(alloc: Global, task: &Task<'t>) -> Result<Operands<'t>, Memory> {
         let mut operands = Operands {
             list: Vec::new(alloc),
             called: None,

@@ -2,11 +2,14 @@
 #![tactic(auto)]
 
 mod callee;
+mod operation;
 mod site;
 mod start;
 mod trail;
 mod watched;
+mod wish;
 
 pub use site::Site;
 pub use trail::{Track, Trail};
-pub use watched::{Placed, Watched};
+pub use watched::{LastStep, Placed, Watched};
+pub use wish::{Offer, Wish};

@@ -95,6 +95,11 @@ impl<'t> Trail<'t> {
         self.next().unwrap_or(self.last)
     }
 
+    /// The site of the task that was done last.
+    pub fn done(&self) -> Site<'t> {
+        self.last
+    }
+
     /// The site of the next task.
     fn next(&self) -> Option<Site<'t>> {
         self.tracks.last()?.site()

@@ -6,8 +6,10 @@ ghost use Rattle.syntax.specs.Spans.{tree_of};
 ghost use Rattle.syntax.specs.View.{file_of};
 
 use crate::callee::callee;
+use crate::operation::operation_at;
 use crate::start::start_of;
 use crate::trail::{Called, Trail};
+use crate::wish::Wish;
 use checker::Typed;
 use diagnostic_scope::ends::{function_first, top_end};
 use go_text::Memory;
@@ -19,11 +21,31 @@ use syntax::{NodeId, TopNode};
 use word::request::Reply;
 use word::value::Word;
 
-/// A program that is interpreted, and the first nodes of the bodies of its functions, by their numbers.
+/// Two nodes of a function.
+#[derive(Clone, Copy)]
+struct FunctionNodes {
+    /// The first node of its body.
+    first: NodeId,
+    /// Its own node.
+    own: NodeId,
+}
+
+/// A program that is interpreted, and nodes of its functions, by their numbers.
 #[derive(Drop)]
 pub struct Watched<'t> {
     pub source: Source<'t>,
-    firsts: Vec<NodeId>,
+    functions: Vec<FunctionNodes>,
+}
+
+/// What a goroutine did last.
+#[derive(Clone, Copy, PartialEq, Eq)]
+pub enum LastStep {
+    /// A step of its own that costs no tick, or a request.
+    Free,
+    /// A step of its own that costs a tick, except a call.
+    Ticked,
+    /// A call.
+    Called,
 }
 
 /// A goroutine, with the sites of its tasks.
@@ -32,6 +54,9 @@ pub struct Placed<'t> {
     /// Its functions, the one called last at the end.
     pub frames: Vec<Frame<'t>>,
     pub trail: Trail<'t>,
+    /// What it waits for, if it fell asleep at its last request. A clause of a `select` that a plan tries counts.
+    pub wish: Wish,
+    pub last_step: LastStep,
 }
 
 impl<'t> Watched<'t> {
@@ -42,18 +67,62 @@ impl<'t> Watched<'t> {
         ensures { IfOk result (λ watched. file_of watched.source.program.file.now ≡ tree_of (tree_in typed.now)) }
     {
         let program = program_of(alloc, typed)?;
-        let firsts = firsts_of(alloc, program.file.tops.as_slice())?;
+        let functions = functions_of(alloc, program.file.tops.as_slice())?;
         Ok(Watched {
             source: Source { program },
-            firsts,
+            functions,
         })
+    }
+
+    /// The own node of the operation or the statement that the function at this index of a goroutine's functions is at; of a function
+    /// that has nothing left to do, its own node.
+    ///
+    /// Errors: out of memory.
+    pub fn node(&self, alloc: Global, placed: &Placed<'t>, index: usize) -> Result<NodeId, Memory> {
+        let (Some(frame), Some(track)) = (placed.frames.get(index), placed.trail.tracks.get(index))
+        else {
+            return Ok(0);
+        };
+        match track.site() {
+            Some(site) => {
+                let given = frame.given.as_slice();
+                operation_at(alloc, &self.source.program.table, frame, site, given)
+            }
+            None => Ok(self.own(track.function)),
+        }
+    }
+
+    /// The own node of the operation or the statement that made a goroutine's last request, which has just been done.
+    ///
+    /// Errors: out of memory.
+    pub fn asking_node(&self, alloc: Global, placed: &Placed<'t>) -> Result<NodeId, Memory> {
+        let site = placed.trail.site();
+        let Some(frame) = placed.frames.last() else {
+            return Ok(site.node);
+        };
+        let given = match frame.given.as_slice().split_last() {
+            Some((_, before)) => before,
+            None => &[],
+        };
+        operation_at(alloc, &self.source.program.table, frame, site, given)
+    }
+
+    /// The own node of the function of this number.
+    fn own(&self, function: u32) -> NodeId {
+        match self.functions.get(function as usize) {
+            Some(nodes) => nodes.own,
+            None => 0,
+        }
     }
 
     /// A call of the function of this number.
     fn call(&self, function: u32) -> Called {
         Called {
             function,
-            first: self.firsts.get(function as usize).copied().unwrap_or(0),
+            first: match self.functions.get(function as usize) {
+                Some(nodes) => nodes.first,
+                None => 0,
+            },
         }
     }
 
@@ -98,17 +167,30 @@ impl<'t> Watched<'t> {
     }
 }
 
-/// The first nodes of the bodies of the functions among these declarations.
-fn firsts_of(alloc: Global, tops: &[TopNode]) -> Result<Vec<NodeId>, Memory> {
-    let mut firsts = Vec::new(alloc);
-    let mut end = 0;
+/// The nodes of the functions among these declarations.
+fn functions_of(alloc: Global, tops: &[TopNode]) -> Result<Vec<FunctionNodes>, Memory> {
+    let mut functions = Vec::new(alloc);
+    let mut first = 0;
     for top in tops {
+        let end = top_end(alloc, first, top);
         if let TopNode::Function(function) = top {
-            firsts.push(function_first(end, function))?;
+            functions.push(FunctionNodes {
+                first: function_first(first, function),
+                own: end.saturating_sub(1),
+            })?;
         }
-        end = top_end(alloc, end, top);
+        first = end;
     }
-    Ok(firsts)
+    Ok(functions)
+}
+
+/// What a goroutine did that made this step; `calls` says whether another function runs now.
+fn last_step(step: &Step, calls: bool) -> LastStep {
+    match step {
+        Step::Ticks if calls => LastStep::Called,
+        Step::Ticks => LastStep::Ticked,
+        Step::Slides | Step::Asks(_) => LastStep::Free,
+    }
 }
 
 impl<'t> Interpreter for Watched<'t> {
@@ -131,9 +213,14 @@ impl<'t> Interpreter for Watched<'t> {
 
     fn step(&self, alloc: Global, state: &mut Self::State) -> Result<Step, Memory> {
         let start = self.start(alloc, state)?;
+        let depth = state.frames.len();
         let step = self.source.step(alloc, &mut state.frames)?;
-        if let Step::Slides | Step::Ticks = &step {
-            self.follow(alloc, state.frames.as_slice(), &mut state.trail, start)?;
+        state.last_step = last_step(&step, state.frames.len() > depth);
+        match &step {
+            Step::Slides | Step::Ticks => {
+                self.follow(alloc, state.frames.as_slice(), &mut state.trail, start)?;
+            }
+            Step::Asks(request) => state.wish = Wish::of(alloc, request)?,
         }
         Ok(step)
     }
@@ -150,7 +237,12 @@ impl<'t> Interpreter for Watched<'t> {
     ) -> Result<Self::State, Memory> {
         let frames = self.source.begin(alloc, function, arguments)?;
         let trail = Trail::new(alloc, frames.as_slice(), self.call(function))?;
-        Ok(Placed { frames, trail })
+        Ok(Placed {
+            frames,
+            trail,
+            wish: Wish::Nothing,
+            last_step: LastStep::Free,
+        })
     }
 
     fn main(&self) -> u32 {
