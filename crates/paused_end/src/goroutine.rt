@@ -64,10 +64,11 @@ impl<'s, 't> Seen<'s, 't> {
     /// The functions of a goroutine, the one called last at the end. A call that came to the clock limit is not made.
     fn frames(self, number: u64, placed: &'s Placed<'t>) -> &'s [Frame<'t>] {
         let frames = placed.frames.as_slice();
-        match (self.last_step(number, placed), frames.split_last()) {
-            (LastStep::Called, Some((_, callers))) => callers,
-            _ => frames,
-        }
+        let count = match self.last_step(number, placed) {
+            LastStep::Called => frames.len().saturating_sub(1),
+            LastStep::Free | LastStep::Ticked => frames.len(),
+        };
+        frames.get(..count).unwrap_or(frames)
     }
 
     /// A goroutine that has not ended.
