@@ -33,8 +33,9 @@ struct Search<'a, 'g, 't> {
     scope: &'a Scope<'t>,
     /// What calls and requests gave, except to the operations that were passed.
     given: &'g [Given],
-    /// The operations that were not passed.
     operations: &'a [Operation<'t>],
+    /// How many of the operations were passed.
+    passed: usize,
     /// Whether what is passed is not evaluated, after an `&&` or an `||`.
     skips: bool,
     /// The own node of the operation that stops the walk, once that was passed.
@@ -71,6 +72,7 @@ pub(crate) fn operation_at<'t>(
         scope: &top.position.scope,
         given,
         operations: operations.list.as_slice(),
+        passed: 0,
         skips: false,
         found: None,
         is_cut: false,
@@ -200,11 +202,11 @@ impl<'a, 'g, 't> Search<'a, 'g, 't> {
         let Some(kind) = kind_of(expression) else {
             return;
         };
-        let Some((operation, rest)) = self.operations.split_first() else {
+        let Some(operation) = self.operations.get(self.passed) else {
             return;
         };
         let node = operation.node;
-        self.operations = rest;
+        self.passed = self.passed.saturating_add(1);
         if self.skips || self.found.is_some() {
             return;
         }
