@@ -3,6 +3,7 @@
 use command_line::arguments::{Invocation, Subcommand};
 use diagnostic::{explanation, explanations};
 use go_text::Fault;
+use kendo_explore::{Explored, PlanFile};
 use kendo_front::{explain_end, explain_end_by_plan};
 use kendo_shell::streams::tell;
 use kendo_shell::tracing::Refused;
@@ -55,6 +56,80 @@ pub(crate) fn explain(
     };
     if let Ok(explained) = explained {
         tell(rt, explained.as_slice());
+    }
+}
+
+/// Explains on standard error, if the program was kept, how its orders end that an exploration up to a clock limit shows: the ordinary
+/// one if it ends in an error or leaves goroutines that count, and those by plans.
+pub(crate) fn explain_explored(
+    rt: &HostRuntime,
+    alloc: Global,
+    kept: Option<&Kept<'_>>,
+    limit: u64,
+    explored: &Explored,
+) {
+    if let (Some(kept), Some(ran)) = (kept, &explored.ordinary) {
+        if ran.leaks || matches!(ran.end, End::Deadlock | End::Panicked(_)) {
+            tell_below(
+                rt,
+                alloc,
+                "as kendo run",
+                kept.explained(alloc, limit, ran.end),
+            );
+        }
+    }
+    explain_plans(rt, alloc, kept, limit, explored.plans.as_slice());
+}
+
+/// Explains on standard error, if the program was kept, how its runs by these plans up to a clock limit end, each below the plan's name.
+pub(crate) fn explain_plans(
+    rt: &HostRuntime,
+    alloc: Global,
+    kept: Option<&Kept<'_>>,
+    limit: u64,
+    plans: &[PlanFile],
+) {
+    let Some(kept) = kept else {
+        return;
+    };
+    for one in plans {
+        tell_below(
+            rt,
+            alloc,
+            one.name.as_str(),
+            kept.explained_by(alloc, limit, one),
+        );
+    }
+}
+
+/// Writes an explanation to standard error below a title, unless it is empty.
+fn tell_below(rt: &HostRuntime, alloc: Global, title: &str, explained: Result<Vec<u8>, Fault>) {
+    let Ok(explained) = explained else {
+        return;
+    };
+    if explained.is_empty() {
+        return;
+    }
+    if let Ok(line) = format!(in alloc; "{title}:\n") {
+        tell(rt, line.as_bytes());
+        tell(rt, explained.as_slice());
+    }
+}
+
+impl Kept<'_> {
+    /// Explains an end of the run without pauses.
+    fn explained(&self, alloc: Global, limit: u64, end: End) -> Result<Vec<u8>, Fault> {
+        let text = Vec::from_slice(alloc, self.text.as_slice())?;
+        explain_end(alloc, self.file, text, limit, end)
+    }
+
+    /// Explains the end of the run by a plan.
+    fn explained_by(&self, alloc: Global, limit: u64, one: &PlanFile) -> Result<Vec<u8>, Fault> {
+        let Ok(plan) = Plan::read(alloc, one.bytes.as_slice()) else {
+            return Err(Fault::Memory);
+        };
+        let text = Vec::from_slice(alloc, self.text.as_slice())?;
+        explain_end_by_plan(alloc, self.file, text, &plan, limit, one.end)
     }
 }
 

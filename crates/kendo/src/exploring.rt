@@ -4,7 +4,7 @@ ghost use Rattle.std.specs.Prelude.{◌≡◌, ◌⊎◌, IfErr, IfOk};
 ghost use Rattle.command_line.specs.declared.arguments.Subcommand.TheVariants as subcommands;
 ghost use Rattle.kendo.specs.Verdicts.{Explores, IsJudged, Judges, exploration_status, explored_status, scope_of};
 
-use crate::explaining::{explain, kept_program};
+use crate::explaining::{Kept, explain, explain_explored, kept_program};
 use crate::plan_files::check_folder;
 use crate::progress::Follower;
 use command_line::arguments::{Invocation, Subcommand};
@@ -85,7 +85,7 @@ fn explore(
         invocation,
         file,
     };
-    let found = find(task, invocation, bytes, &mut outputs);
+    let found = find(task, invocation, bytes, kept.as_ref(), &mut outputs);
     let status = report(rt, alloc, found, invocation.whole)?;
     if let Err(fault) = found {
         explain(rt, alloc, invocation, kept, Err(fault), outputs.refused());
@@ -119,11 +119,12 @@ fn status_of(verdict: Verdict, whole: bool) -> u8
     }
 }
 
-/// What the command finds in the program if it explores it.
+/// What the command finds in the program if it explores it. `kept` is a copy of the program if the command explains.
 fn find(
     task: Task<'_, '_, '_>,
     invocation: &Invocation<'_, '_>,
     bytes: Vec<u8>,
+    kept: Option<&Kept<'_>>,
     outputs: &mut Outputs,
 ) -> Result<Verdict, Fault>
     ensures { Explores invocation.now.subcommand (scope_of invocation.now) bytes.items result }
@@ -140,7 +141,7 @@ fn find(
                 limit,
                 scope: scope_of(invocation),
             };
-            task.explore(bytes, options, outputs)
+            task.explore(bytes, options, kept, outputs)
         }
         _ => Err(Fault::Memory),
     }
@@ -163,6 +164,7 @@ impl Task<'_, '_, '_> {
         self,
         bytes: Vec<u8>,
         options: Options,
+        kept: Option<&Kept<'_>>,
         outputs: &mut Outputs,
     ) -> Result<Verdict, Fault>
         ensures { Explores (subcommands.Explore options.limit options.tries options.states) options.scope bytes.items result }
@@ -172,6 +174,7 @@ impl Task<'_, '_, '_> {
         follower.clear();
         write(&explored, outputs)?;
         follower.all_written()?;
+        explain_explored(self.rt, self.alloc, kept, options.limit, &explored);
         Ok(explored.verdict)
     }
 }

@@ -5,7 +5,7 @@ ghost use Rattle.command_line.specs.declared.arguments.Subcommand.TheVariants as
 ghost use Rattle.kendo.specs.Verdicts.{IsJudged, Judges, JudgesAll, Tests, passes, test_status, tested_status};
 ghost use Rattle.kendo_shell.specs.Answers.{IsOfOne};
 
-use crate::explaining::{explain, kept_program};
+use crate::explaining::{explain, explain_plans, kept_program};
 use crate::exploring::{Task, has_folder};
 use crate::progress::Follower;
 use command_line::arguments::{Invocation, Subcommand};
@@ -231,7 +231,7 @@ fn test(
     follower.clear();
     write(&tested, outputs)?;
     follower.all_written()?;
-    explain_test(task, bytes.as_slice(), &tested);
+    explain_test(task, bytes.as_slice(), limit, &tested);
     Ok(is_passed(&tested.verdict))
 }
 
@@ -252,12 +252,19 @@ fn write(tested: &Tested, outputs: &mut Outputs) -> Result<(), Fault>
     }
 }
 
-/// Explains on standard error, if the command explains, why the program is refused, or how its run ended that is not as expected.
-fn explain_test(task: Task<'_, '_, '_>, bytes: &[u8], tested: &Tested) {
+/// Explains on standard error, if the command explains, why the program is refused, how its run ended that is not as expected, or how
+/// it ends by plans.
+fn explain_test(task: Task<'_, '_, '_>, bytes: &[u8], limit: u64, tested: &Tested) {
     if is_passed(&tested.verdict) || matches!(tested.outcome, Err(Fault::Write)) {
         return;
     }
-    let (alloc, invocation) = (task.alloc, task.invocation);
-    let kept = kept_program(alloc, invocation, task.file, None, bytes);
-    explain(task.rt, alloc, invocation, kept, tested.outcome, None);
+    let Task {
+        rt,
+        alloc,
+        invocation,
+        file,
+    } = task;
+    let kept = kept_program(alloc, invocation, file, None, bytes);
+    explain_plans(rt, alloc, kept.as_ref(), limit, tested.plans.as_slice());
+    explain(rt, alloc, invocation, kept, tested.outcome, None);
 }
