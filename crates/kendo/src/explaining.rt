@@ -59,49 +59,6 @@ pub(crate) fn explain(
     }
 }
 
-/// Explains on standard error, if the program was kept, how its orders end that an exploration up to a clock limit shows: the ordinary
-/// one if it ends in an error or leaves goroutines that count, and those by plans.
-pub(crate) fn explain_explored(
-    rt: &HostRuntime,
-    alloc: Global,
-    kept: Option<&Kept<'_>>,
-    limit: u64,
-    explored: &Explored,
-) {
-    if let (Some(kept), Some(ran)) = (kept, &explored.ordinary) {
-        if ran.leaks || matches!(ran.end, End::Deadlock | End::Panicked(_)) {
-            tell_below(
-                rt,
-                alloc,
-                "as kendo run",
-                kept.explained(alloc, limit, ran.end),
-            );
-        }
-    }
-    explain_plans(rt, alloc, kept, limit, explored.plans.as_slice());
-}
-
-/// Explains on standard error, if the program was kept, how its runs by these plans up to a clock limit end, each below the plan's name.
-pub(crate) fn explain_plans(
-    rt: &HostRuntime,
-    alloc: Global,
-    kept: Option<&Kept<'_>>,
-    limit: u64,
-    plans: &[PlanFile],
-) {
-    let Some(kept) = kept else {
-        return;
-    };
-    for one in plans {
-        tell_below(
-            rt,
-            alloc,
-            one.name.as_str(),
-            kept.explained_by(alloc, limit, one),
-        );
-    }
-}
-
 /// Writes an explanation to standard error below a title, unless it is empty.
 fn tell_below(rt: &HostRuntime, alloc: Global, title: &str, explained: Result<Vec<u8>, Fault>) {
     let Ok(explained) = explained else {
@@ -117,6 +74,42 @@ fn tell_below(rt: &HostRuntime, alloc: Global, title: &str, explained: Result<Ve
 }
 
 impl Kept<'_> {
+    /// Explains on standard error how the orders end that an exploration up to a clock limit shows: the ordinary one if it ends in an
+    /// error or leaves goroutines that count, and those by plans.
+    pub(crate) fn explain_explored(
+        &self,
+        rt: &HostRuntime,
+        alloc: Global,
+        limit: u64,
+        explored: &Explored,
+    ) {
+        if let Some(ran) = &explored.ordinary {
+            if ran.leaks || matches!(ran.end, End::Deadlock | End::Panicked(_)) {
+                tell_below(
+                    rt,
+                    alloc,
+                    "as kendo run",
+                    self.explained(alloc, limit, ran.end),
+                );
+            }
+        }
+        self.explain_plans(rt, alloc, limit, explored.plans.as_slice());
+    }
+
+    /// Explains on standard error how the runs by these plans up to a clock limit end, each below the plan's name.
+    pub(crate) fn explain_plans(
+        &self,
+        rt: &HostRuntime,
+        alloc: Global,
+        limit: u64,
+        plans: &[PlanFile],
+    ) {
+        for one in plans {
+            let explained = self.explained_by(alloc, limit, one);
+            tell_below(rt, alloc, one.name.as_str(), explained);
+        }
+    }
+
     /// Explains an end of the run without pauses.
     fn explained(&self, alloc: Global, limit: u64, end: End) -> Result<Vec<u8>, Fault> {
         let text = Vec::from_slice(alloc, self.text.as_slice())?;

@@ -4,7 +4,7 @@ ghost use Rattle.std.specs.Prelude.{◌≡◌, ◌⊎◌, IfErr, IfOk};
 ghost use Rattle.command_line.specs.declared.arguments.Subcommand.TheVariants as subcommands;
 ghost use Rattle.kendo.specs.Verdicts.{Explores, IsJudged, Judges, exploration_status, explored_status, scope_of};
 
-use crate::explaining::{Kept, explain, explain_explored, kept_program};
+use crate::explaining::{Kept, explain, kept_program};
 use crate::plan_files::check_folder;
 use crate::progress::Follower;
 use command_line::arguments::{Invocation, Subcommand};
@@ -174,7 +174,9 @@ impl Task<'_, '_, '_> {
         follower.clear();
         write(&explored, outputs)?;
         follower.all_written()?;
-        explain_explored(self.rt, self.alloc, kept, options.limit, &explored);
+        if let Some(kept) = kept {
+            kept.explain_explored(self.rt, self.alloc, options.limit, &explored);
+        }
         Ok(explored.verdict)
     }
 }

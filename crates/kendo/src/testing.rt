@@ -5,7 +5,7 @@ ghost use Rattle.command_line.specs.declared.arguments.Subcommand.TheVariants as
 ghost use Rattle.kendo.specs.Verdicts.{IsJudged, Judges, JudgesAll, Tests, passes, test_status, tested_status};
 ghost use Rattle.kendo_shell.specs.Answers.{IsOfOne};
 
-use crate::explaining::{explain, explain_plans, kept_program};
+use crate::explaining::{explain, kept_program};
 use crate::exploring::{Task, has_folder};
 use crate::progress::Follower;
 use command_line::arguments::{Invocation, Subcommand};
@@ -265,6 +265,8 @@ fn explain_test(task: Task<'_, '_, '_>, bytes: &[u8], limit: u64, tested: &Teste
         file,
     } = task;
     let kept = kept_program(alloc, invocation, file, None, bytes);
-    explain_plans(rt, alloc, kept.as_ref(), limit, tested.plans.as_slice());
+    if let Some(kept) = &kept {
+        kept.explain_plans(rt, alloc, limit, tested.plans.as_slice());
+    }
     explain(rt, alloc, invocation, kept, tested.outcome, None);
 }
