@@ -1,5 +1,5 @@
 use Rattle.kendo.proofs.Judging.{of_some}
 use Rattle.kendo.proofs.exploring.explore_file.Goals as goal
 
-pub returns-in-Some : goal.returns-in-Some
-returns-in-Some c = of_some c.args.invocation.now c.in-Some.bytes.items c.explore.result c.explore.ensures
+pub returns : goal.returns
+returns c = of_some c.args.invocation.now c.in-Some.bytes.items c.explore.result c.explore.ensures
