@@ -252,3 +252,21 @@ judged_status words status obeys = obeyed {Reports = JudgesAll} words status by 
     by invocation (inl is) = inr (inl is)
     by invocation (inr (inl all)) = of_all_status (Judges invocation) _ status (λ one judges. told_status invocation.subcommand one (tells invocation one judges)) all
     by invocation (inr (inr lost)) = lost_status invocation.subcommand status lost
+
+-- that of a command line whose command was performed
+pub started : {E : Type 0} (words : List Text) (result : Result ℕ E) → IfOk result (λ status. Obeys JudgesAll words status) → IfOk result IsStatus
+started words (Ok status) obeys = judged_status words status obeys
+started words (Err e) obeys = obeys
+
+-- ---- whether a command explains
+
+-- it counts for no exit status
+pub explained_or_not : (invocation environment : Invocation) (explains : Bool) (status : ℕ) → environment ≡ record invocation { explains = explains }
+    → JudgesAll environment status → JudgesAll invocation status
+explained_or_not invocation environment explains status is judges = subst (λ (i : Invocation). JudgesAll i status) is judges
+
+pub tested_explained : {E : Type 0} (invocation environment : Invocation) (explains : Bool) (usage : ℕ) (result : Result ℕ E) → environment ≡ record invocation { explains = explains }
+    → IfOk result (λ status. (status ≡ usage) ⊎ JudgesAll environment status) → IfOk result (λ status. (status ≡ usage) ⊎ JudgesAll invocation status)
+tested_explained invocation environment explains usage (Ok status) is (inl judges) = inl judges
+tested_explained invocation environment explains usage (Ok status) is (inr judges) = inr (explained_or_not invocation environment explains status is judges)
+tested_explained invocation environment explains usage (Err e) is judges = judges

@@ -46,7 +46,6 @@ fn main(rt: HostRuntime) -> ExitCode {
 }
 
 /// Reads the command line and does what it asks, down to the exit status. `threads` permits a run to start workers and wait for them.
-#[tactic(auto, using(crate::proofs::Judging::judged_status))]
 fn start(rt: &HostRuntime, threads: &(impl Threads + Wait + Sync)) -> Result<u8, Memory>
     ensures { IfOk result IsStatus }
 {
