@@ -9,7 +9,7 @@ _kendo() {
     fi
     case $previous in
         --workers | --limit | --from | --last | --event | --at | --tries | --states | --seconds) return ;;
-        --trace | --out | --pauses | --against)
+        --trace | --values | --out | --pauses | --against)
             mapfile -t COMPREPLY < <(compgen -f -- "$current")
             return
             ;;
@@ -19,14 +19,14 @@ _kendo() {
             mapfile -t COMPREPLY < <(compgen -W 'check list reference timeline explore test inspect run' -- "$current")
             return
             ;;
-        check) options='--explain' ;;
+        check) options='--json --explain' ;;
         list) options='--explain' ;;
         reference) options='--limit --pauses --explain' ;;
         timeline) options='--limit --from --last --pauses --out --explain' ;;
-        explore) options='--limit --tries --states --seconds --ends --ordered --unordered --leaks --whole --out --explain' ;;
-        test) options='--limit --orders --tries --states --seconds --leaks --out --explain' ;;
+        explore) options='--limit --tries --states --seconds --ends --ordered --unordered --leaks --whole --out --json --explain' ;;
+        test) options='--limit --orders --tries --states --seconds --leaks --out --update --json --explain' ;;
         inspect) options='--event --at --limit --pauses --explain' ;;
-        run) options='--workers --limit --trace --pauses --against --strict --explain' ;;
+        run) options='--workers --limit --trace --values --pauses --against --strict --explain' ;;
     esac
     case $current in
         -*) mapfile -t COMPREPLY < <(compgen -W "$options --help" -- "$current") ;;

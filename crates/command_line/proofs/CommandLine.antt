@@ -47,13 +47,15 @@ pub asked : (found : Option (Text × List Row)) (name : Text) (rows : List Row) 
     → IsNumberThere (one_of (codes "event") rows) invocation.event → IsNumberThere (one_of (codes "at") rows) invocation.at
     → IsNumberThere (one_of (codes "seconds") rows) invocation.seconds
     → option_map (λ path. path.now) invocation.trace ≡ first_of (codes "trace") rows
+    → option_map (λ path. path.now) invocation.values ≡ first_of (codes "values") rows
     → option_map (λ path. path.now) invocation.pauses ≡ first_of (codes "pauses") rows
     → option_map (λ path. path.now) invocation.against ≡ first_of (codes "against") rows → IsSet (codes "strict") rows invocation.strict
     → option_map (λ path. path.now) invocation.out ≡ first_of (codes "out") rows
     → IsSet (codes "ends") rows invocation.ends → IsSet (codes "unordered") rows invocation.unordered → IsSet (codes "ordered") rows invocation.ordered → IsSet (codes "leaks") rows invocation.leaks
-    → IsSet (codes "whole") rows invocation.whole → IsSet (codes "orders") rows invocation.orders → IsSet (codes "explain") rows invocation.explains → IsAsked found (Some invocation)
-asked found name rows invocation is does file files from last event clock seconds trace pauses against strict out ends unordered ordered leaks whole orders explains =
-    subst (λ x. IsAsked x (Some invocation)) (sym is) (does, sym file, sym files, from, last, event, clock, seconds, sym trace, sym pauses, sym against, strict, sym out, ends, unordered, ordered, leaks, whole, orders, explains)
+    → IsSet (codes "whole") rows invocation.whole → IsSet (codes "orders") rows invocation.orders
+    → IsSet (codes "update") rows invocation.update → IsSet (codes "json") rows invocation.json → IsSet (codes "explain") rows invocation.explains → IsAsked found (Some invocation)
+asked found name rows invocation is does file files from last event clock seconds trace values pauses against strict out ends unordered ordered leaks whole orders update json explains =
+    subst (λ x. IsAsked x (Some invocation)) (sym is) (does, sym file, sym files, from, last, event, clock, seconds, sym trace, sym values, sym pauses, sym against, strict, sym out, ends, unordered, ordered, leaks, whole, orders, update, json, explains)
 
 -- without a file it requests nothing
 pub not_asked : (found : Option (Text × List Row)) (name : Text) (rows : List Row) → found ≡ Some (name, rows)

@@ -56,9 +56,13 @@ flag name = record (new_rule name) { long = Some name; action = Some SetTrue }
 abbrev pub explain : Rule
 explain = flag (codes "explain")
 
--- kendo check FILE.. [--explain]
+-- whether what is found is reported as JSON
+abbrev pub json : Rule
+json = flag (codes "json")
+
+-- kendo check FILE.. [--json] [--explain]
 abbrev pub check : App
-check = with_rule (with_rule (new_app (codes "check")) files) explain
+check = with_rule (with_rule (with_rule (new_app (codes "check")) files) json) explain
 
 -- kendo list FILE [--explain]
 abbrev pub list : App
@@ -87,11 +91,15 @@ plain_reference = with_rule (with_rule (with_rule (new_app (codes "reference")) 
 abbrev pub reference : App
 reference = with_rule plain_reference explain
 
--- kendo run FILE [--workers N] [--limit L] [--trace TRACE]
-abbrev pub traced_run : App
-traced_run = with_rule (with_rule (with_rule (with_rule (new_app (codes "run")) file) workers) limit) trace
+-- which file the values of the trace go to
+abbrev pub values : Rule
+values = record (new_rule (codes "values")) { long = Some (codes "values"); value_names = 1 }
 
--- kendo run FILE [--workers N] [--limit L] [--trace TRACE] [--pauses PLAN]
+-- kendo run FILE [--workers N] [--limit L] [--trace TRACE] [--values VALUES]
+abbrev pub traced_run : App
+traced_run = with_rule (with_rule (with_rule (with_rule (with_rule (new_app (codes "run")) file) workers) limit) trace) values
+
+-- kendo run FILE [--workers N] [--limit L] [--trace TRACE] [--values VALUES] [--pauses PLAN]
 abbrev pub plain_run : App
 plain_run = with_rule traced_run pauses
 
@@ -99,7 +107,7 @@ plain_run = with_rule traced_run pauses
 abbrev pub against : Rule
 against = record (new_rule (codes "against")) { long = Some (codes "against"); value_names = 1 }
 
--- kendo run FILE [--workers N] [--limit L] [--trace TRACE] [--pauses PLAN] [--against TRACE] [--strict] [--explain]
+-- kendo run FILE [--workers N] [--limit L] [--trace TRACE] [--values VALUES] [--pauses PLAN] [--against TRACE] [--strict] [--explain]
 abbrev pub run : App
 run = with_rule (with_rule (with_rule plain_run against) (flag (codes "strict"))) explain
 
@@ -137,9 +145,9 @@ long_explore =
 abbrev pub lined_explore : App
 lined_explore = with_rule (with_rule (with_rule long_explore (flag (codes "ends"))) (flag (codes "ordered"))) (flag (codes "unordered"))
 
--- kendo explore FILE [--limit L] [--tries N] [--states N] [--seconds N] [--ends] [--ordered] [--unordered] [--leaks] [--whole] [--out DIR] [--explain]
+-- kendo explore FILE [--limit L] [--tries N] [--states N] [--seconds N] [--ends] [--ordered] [--unordered] [--leaks] [--whole] [--out DIR] [--json] [--explain]
 abbrev pub explore : App
-explore = with_rule (with_rule (with_rule (with_rule lined_explore (flag (codes "leaks"))) (flag (codes "whole"))) out) explain
+explore = with_rule (with_rule (with_rule (with_rule (with_rule lined_explore (flag (codes "leaks"))) (flag (codes "whole"))) out) json) explain
 
 -- kendo test FILE.. [--limit L] [--orders] [--tries N] [--states N]
 abbrev pub long_test : App
@@ -147,9 +155,13 @@ long_test =
     with_rule (with_rule (with_rule (with_rule (with_rule (new_app (codes "test")) files) limit) (flag (codes "orders"))) (number (codes "tries") (codes "200")))
     (number (codes "states") (codes "1000000"))
 
--- kendo test FILE.. [--limit L] [--orders] [--tries N] [--states N] [--seconds N] [--leaks] [--out DIR] [--explain]
+-- kendo test FILE.. [--limit L] [--orders] [--tries N] [--states N] [--seconds N] [--leaks] [--out DIR]
+abbrev pub searched_test : App
+searched_test = with_rule (with_rule (with_rule long_test seconds) (flag (codes "leaks"))) out
+
+-- kendo test FILE.. [--limit L] [--orders] [--tries N] [--states N] [--seconds N] [--leaks] [--out DIR] [--update] [--json] [--explain]
 abbrev pub test : App
-test = with_rule (with_rule (with_rule (with_rule long_test seconds) (flag (codes "leaks"))) out) explain
+test = with_rule (with_rule (with_rule searched_test (flag (codes "update"))) json) explain
 
 -- the event after which a run is shown, and the clock
 abbrev pub event : Rule
@@ -199,6 +211,7 @@ rule_for arguments.Files = files
 rule_for arguments.Workers = workers
 rule_for arguments.Limit = limit
 rule_for arguments.Trace = trace
+rule_for arguments.Values = values
 rule_for arguments.Pauses = pauses
 rule_for arguments.Against = against
 rule_for arguments.Strict = flag (codes "strict")
@@ -217,6 +230,8 @@ rule_for arguments.Ordered = flag (codes "ordered")
 rule_for arguments.Leaks = flag (codes "leaks")
 rule_for arguments.Whole = flag (codes "whole")
 rule_for arguments.Orders = flag (codes "orders")
+rule_for arguments.Update = flag (codes "update")
+rule_for arguments.Json = json
 rule_for arguments.Explain = explain
 
 -- a command that takes these arguments too, one after the other
@@ -271,7 +286,7 @@ IsNumberThere text None = (n : ℕ) → IsNumber text n → ⊥
 abbrev pub IsSet : (name : Text) → List Row → Bool → Type 0
 IsSet name rows set = IsTrue set ↔ (first_of name rows ≡ Some (codes "true"))
 
--- Like `Does`, but with the source files, the files of the trace, of the plan, of the trace that a run is compared with and of the picture, the events of the picture, the moment that is shown, the seconds of a search, what counts in an exploration, whether other orders are tested, and whether errors and ends are explained
+-- Like `Does`, but with the source files, the files of the trace, of its values, of the plan, of the trace that a run is compared with and of the picture, the events of the picture, the moment that is shown, the seconds of a search, what counts in an exploration, whether other orders are tested, whether comments are rewritten, whether JSON is reported, and whether errors and ends are explained
 abbrev pub Asks : Text × List Row → Invocation → Type 0
 Asks (name, rows) invocation =
     Does name rows invocation.subcommand × (first_of (codes "FILE") rows ≡ Some invocation.file.now)
@@ -282,6 +297,7 @@ Asks (name, rows) invocation =
     × IsNumberThere (one_of (codes "at") rows) invocation.at
     × IsNumberThere (one_of (codes "seconds") rows) invocation.seconds
     × (first_of (codes "trace") rows ≡ option_map (λ path. path.now) invocation.trace)
+    × (first_of (codes "values") rows ≡ option_map (λ path. path.now) invocation.values)
     × (first_of (codes "pauses") rows ≡ option_map (λ path. path.now) invocation.pauses)
     × (first_of (codes "against") rows ≡ option_map (λ path. path.now) invocation.against)
     × IsSet (codes "strict") rows invocation.strict
@@ -292,6 +308,8 @@ Asks (name, rows) invocation =
     × IsSet (codes "leaks") rows invocation.leaks
     × IsSet (codes "whole") rows invocation.whole
     × IsSet (codes "orders") rows invocation.orders
+    × IsSet (codes "update") rows invocation.update
+    × IsSet (codes "json") rows invocation.json
     × IsSet (codes "explain") rows invocation.explains
 
 -- what the command does, or none if it does nothing

@@ -38,6 +38,8 @@ pub struct Invocation<'m, 'a> {
     pub files: &'m [&'a str],
     /// The path of the trace file, as it was typed.
     pub trace: Option<&'a str>,
+    /// The path of the file that the values of a trace go to, as it was typed.
+    pub values: Option<&'a str>,
     /// The path of the file with the plan of pauses, as it was typed.
     pub pauses: Option<&'a str>,
     /// The path of the file with the trace that a run is compared with, as it was typed.
@@ -68,6 +70,10 @@ pub struct Invocation<'m, 'a> {
     pub whole: bool,
     /// Whether a test searches other orders.
     pub orders: bool,
+    /// Whether the comments of tests are rewritten to what the programs print.
+    pub update: bool,
+    /// Whether what is found is reported as JSON, an object a line.
+    pub json: bool,
     /// Whether errors in the program and the end of its run are explained.
     pub explains: bool,
     /// What is done with the program.
@@ -141,6 +147,8 @@ enum Argument {
     Limit,
     /// The file that the trace of a run goes to.
     Trace,
+    /// The file that the values of a trace go to.
+    Values,
     /// The file with the plan of pauses by which a program is run.
     Pauses,
     /// The file with the trace that a run is compared with.
@@ -177,6 +185,10 @@ enum Argument {
     Whole,
     /// Whether a test searches other orders.
     Orders,
+    /// Whether the comments of tests are rewritten.
+    Update,
+    /// Whether what is found is reported as JSON.
+    Json,
     /// Whether errors and ends are explained.
     Explain,
 }
@@ -199,7 +211,7 @@ const TEXT_COMMANDS: [TextCommand; 8] = [
     TextCommand {
         name: "check",
         about: "Checks programs for errors",
-        arguments: &[Argument::Files, Argument::Explain],
+        arguments: &[Argument::Files, Argument::Json, Argument::Explain],
         example: "Example:\n  kendo check *.go",
     },
     TextCommand {
@@ -248,6 +260,7 @@ const TEXT_COMMANDS: [TextCommand; 8] = [
             Argument::Leaks,
             Argument::Whole,
             Argument::Folder,
+            Argument::Json,
             Argument::Explain,
         ],
         example: "Example:\n  kendo explore account.go --seconds 10",
@@ -264,6 +277,8 @@ const TEXT_COMMANDS: [TextCommand; 8] = [
             Argument::Seconds,
             Argument::Leaks,
             Argument::Folder,
+            Argument::Update,
+            Argument::Json,
             Argument::Explain,
         ],
         example: "Example:\n  kendo test --orders *.go",
@@ -289,6 +304,7 @@ const TEXT_COMMANDS: [TextCommand; 8] = [
             Argument::Workers,
             Argument::Limit,
             Argument::Trace,
+            Argument::Values,
             Argument::Pauses,
             Argument::Against,
             Argument::Strict,
@@ -385,6 +401,12 @@ fn argument_of<'a>(alloc: Global, argument: Argument) -> Arg<'a>
             "Writes each event with its logical time to this file",
         )
         .value_name("TRACE"),
+        Argument::Values => option_argument(
+            alloc,
+            "values",
+            "Writes to this file what each event of the trace sends, receives or prints",
+        )
+        .value_name("VALUES"),
         Argument::Pauses => option_argument(
             alloc,
             "pauses",
@@ -482,6 +504,16 @@ fn argument_of<'a>(alloc: Global, argument: Argument) -> Arg<'a>
             alloc,
             "orders",
             "Searches other orders too: a test passes only if all that were searched do",
+        ),
+        Argument::Update => flag_argument(
+            alloc,
+            "update",
+            "Rewrites each output comment to what the program prints",
+        ),
+        Argument::Json => flag_argument(
+            alloc,
+            "json",
+            "Reports what is found as JSON, an object a line",
         ),
         Argument::Explain => flag_argument(
             alloc,
@@ -614,6 +646,7 @@ pub fn invocation_of<'m, 'a>(matches: &'m ArgMatches<'a>) -> Option<Invocation<'
         return None;
     };
     let trace = matches.get_str("trace");
+    let values = matches.get_str("values");
     let pauses = matches.get_str("pauses");
     let against = matches.get_str("against");
     let strict = is_set(matches, "strict");
@@ -629,12 +662,15 @@ pub fn invocation_of<'m, 'a>(matches: &'m ArgMatches<'a>) -> Option<Invocation<'
     let leaks = is_set(matches, "leaks");
     let whole = is_set(matches, "whole");
     let orders = is_set(matches, "orders");
+    let update = is_set(matches, "update");
+    let json = is_set(matches, "json");
     let explains = is_set(matches, "explain");
     let files = matches.get_strs("FILE")?;
     Some(Invocation {
         file: matches.get_str("FILE")?,
         files,
         trace,
+        values,
         pauses,
         against,
         strict,
@@ -650,6 +686,8 @@ pub fn invocation_of<'m, 'a>(matches: &'m ArgMatches<'a>) -> Option<Invocation<'
         leaks,
         whole,
         orders,
+        update,
+        json,
         explains,
         subcommand,
     })

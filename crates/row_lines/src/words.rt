@@ -53,6 +53,7 @@ fn told(alloc: Global, asked: &Invocation<'_, '_>) -> Result<String, AllocError>
         file,
         files,
         trace,
+        values,
         pauses,
         against,
         strict,
@@ -68,6 +69,8 @@ fn told(alloc: Global, asked: &Invocation<'_, '_>) -> Result<String, AllocError>
         leaks,
         whole,
         orders,
+        update,
+        json,
         explains,
         subcommand,
     } = *asked;
@@ -79,17 +82,21 @@ fn told(alloc: Global, asked: &Invocation<'_, '_>) -> Result<String, AllocError>
     }
     let events = events(alloc, from, last)?;
     let moment = moment(alloc, event, at)?;
+    let values = valued(alloc, values)?;
     let plan = plan(alloc, pauses)?;
     let compared = compared(alloc, against, strict)?;
     let time = time(alloc, seconds)?;
-    let scope = scope(alloc, [ends, unordered, ordered, leaks, whole, orders])?;
+    let scope = scope(
+        alloc,
+        [ends, unordered, ordered, leaks, whole, orders, update, json],
+    )?;
     format!(in alloc;
-        "file {file:?} {more}trace {trace:?} {plan}{compared}out {out:?} {events}{moment}{time}{scope}explains {explains}: {done}"
+        "file {file:?} {more}trace {trace:?} {values}{plan}{compared}out {out:?} {events}{moment}{time}{scope}explains {explains}: {done}"
     )
 }
 
-/// What counts in an exploration, and whether other orders are tested, if anything is chosen.
-fn scope(alloc: Global, chosen: [bool; 6]) -> Result<String, AllocError> {
+/// What counts in an exploration, what a test does, and how they report it, if anything is chosen.
+fn scope(alloc: Global, chosen: [bool; 8]) -> Result<String, AllocError> {
     let mut text = String::new(alloc);
     let names = [
         "ends ",
@@ -98,6 +105,8 @@ fn scope(alloc: Global, chosen: [bool; 6]) -> Result<String, AllocError> {
         "leaks ",
         "whole ",
         "orders ",
+        "update ",
+        "json ",
     ];
     for (name, is_chosen) in names.iter().zip(chosen.iter()) {
         if *is_chosen {
@@ -105,6 +114,14 @@ fn scope(alloc: Global, chosen: [bool; 6]) -> Result<String, AllocError> {
         }
     }
     Ok(text)
+}
+
+/// The file of the trace's values, if one is named.
+fn valued(alloc: Global, values: Option<&str>) -> Result<String, AllocError> {
+    match values {
+        None => Ok(String::new(alloc)),
+        Some(path) => format!(in alloc; "values {path:?} "),
+    }
 }
 
 /// The file of the plan, if one is named.

@@ -22,7 +22,8 @@ returns c =
     (ap (option_map (λ s. map (λ v. v.now) s.now)) (sym (c.in_ok-files.was)) ∙ c.get_strs.ensures ∙ raw_values-rows (found_of c.in-Some.matches.now) (codes "FILE"))
     c.option_number-from.ensures c.option_number-last.ensures c.option_number-event.ensures c.option_number-at.ensures c.option_number-seconds.ensures
     (c.get_str-trace.ensures ∙ first_value-rows (found_of c.in-Some.matches.now) (codes "trace"))
+    (c.get_str-values.ensures ∙ first_value-rows (found_of c.in-Some.matches.now) (codes "values"))
     (c.get_str-pauses.ensures ∙ first_value-rows (found_of c.in-Some.matches.now) (codes "pauses"))
     (c.get_str-against.ensures ∙ first_value-rows (found_of c.in-Some.matches.now) (codes "against")) c.is_set-strict.ensures
     (c.get_str-out.ensures ∙ first_value-rows (found_of c.in-Some.matches.now) (codes "out"))
-    c.is_set-ends.ensures c.is_set-unordered.ensures c.is_set-ordered.ensures c.is_set-leaks.ensures c.is_set-whole.ensures c.is_set-orders.ensures c.is_set-explains.ensures
+    c.is_set-ends.ensures c.is_set-unordered.ensures c.is_set-ordered.ensures c.is_set-leaks.ensures c.is_set-whole.ensures c.is_set-orders.ensures c.is_set-update.ensures c.is_set-json.ensures c.is_set-explains.ensures
