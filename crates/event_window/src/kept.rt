@@ -6,7 +6,7 @@ ghost use Rattle.event_window.specs.Windows.{Moves};
 use go_text::Memory;
 use std::alloc::Global;
 use std::collections::VecDeque;
-use timeline::{Lanes, Recording, Site};
+use timeline::{Lanes, Notes, Recording, Site};
 use word::end::End;
 use word::request::Event;
 
@@ -95,7 +95,7 @@ impl Kept {
         }
     }
 
-    /// The recording of these events, of a program whose functions have these names. No lines are known.
+    /// The recording of these events, of a program whose functions have these names. Nothing else is known of it.
     pub fn recording(self, alloc: Global, functions: Vec<String>) -> Recording
         ensures { (result.before ≡ self.before) × (result.events.items ≡ self.events.items) × (result.end ≡ self.end) }
     {
@@ -112,7 +112,7 @@ impl Kept {
             past,
             events,
             sites,
-            lines: Vec::new(alloc),
+            notes: Notes::none(alloc),
             end,
         }
     }

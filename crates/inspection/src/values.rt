@@ -1,7 +1,13 @@
 //! Values, and the variables that hold them.
 
+use crate::rows::Row;
+use crate::scene::Scene;
+use channel_names::form_of;
 use diagnostic_words::words::Words;
+use go_text::Memory;
 use reference_scope::scope::{Block, Scope, Variable};
+use syntax::TypeNode;
+use timeline::ItemForm;
 use type_table::value_type::ValueType;
 use word::value::Word;
 
@@ -40,6 +46,39 @@ pub(crate) fn push_item(said: &mut Words, words: &[Word]) {
         [word] => push_word(said, *word),
         _ => push_struct(said, words),
     }
+}
+
+/// How Go writes the items of a channel, if a variable of one of these goroutines holds it.
+///
+/// Errors: out of memory.
+pub(crate) fn form_in(
+    scene: Scene<'_, '_>,
+    rows: &[Row<'_, '_>],
+    channel: Option<u32>,
+) -> Result<Option<ItemForm>, Memory> {
+    let held = rows.iter().find_map(|row| element_in(row, Word::Chan(channel)));
+    match (channel, held) {
+        (Some(_), Some(element)) => {
+            form_of(scene.alloc, scene.tree.file().tops.as_slice(), element)
+        }
+        _ => Ok(None),
+    }
+}
+
+/// The type of the items of a channel that a variable of a goroutine holds.
+fn element_in<'t>(row: &Row<'_, 't>, channel: Word) -> Option<&'t TypeNode> {
+    for frame in row.placed.frames.iter() {
+        for block in frame.position.scope.blocks.iter() {
+            for variable in block.variables.iter() {
+                if let ValueType::Channel(_, element) = variable.kind {
+                    if variable.words.first() == Some(&channel) {
+                        return Some(element);
+                    }
+                }
+            }
+        }
+    }
+    None
 }
 
 /// Appends the value of a variable.

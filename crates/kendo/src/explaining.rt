@@ -161,6 +161,10 @@ fn refusal_explained(
             let path = invocation.trace.or(invocation.out).unwrap_or("");
             format!(in alloc; "{path}: {reason}\n")
         }
+        Refused::Values(reason) => {
+            let path = invocation.values.unwrap_or("");
+            format!(in alloc; "{path}: {reason}\n")
+        }
     };
     match line {
         Ok(line) => Ok(line.into_bytes()),

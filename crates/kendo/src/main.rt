@@ -13,6 +13,7 @@ mod pictures;
 mod plan_files;
 mod plans;
 mod progress;
+mod running;
 mod testing;
 
 use command_line::arguments::{Invocation, Subcommand, command, invocation_of};
@@ -21,17 +22,17 @@ use explaining::{explain, kept_program};
 use exploring::explore_file;
 use go_text::{Fault, Memory};
 use inspecting::{inspect, moment_conflict};
-use kendo_base::run_text;
 use kendo_code::list_bytes;
 use kendo_front::{paused_bytes_noting, reference_bytes, traced_bytes_noting};
 use kendo_shell::USAGE;
 use kendo_shell::checking::check;
-use kendo_shell::files::opened;
+use kendo_shell::files::{opened, values_file};
 use kendo_shell::streams::{Stream, exit, tell, told};
 use kendo_shell::tracing::{Outputs, Trace};
 use kendo_shell::words::{first_failure, name_of, show, with_environment, words_in};
-use pictures::picture;
+use pictures::draw_file;
 use plans::{GivenPlan, plan_of};
+use running::{run_valued, write};
 use std::alloc::Global;
 use std::fs::File;
 use std::io::Stdout;
@@ -107,6 +108,9 @@ fn conflict(invocation: &Invocation<'_, '_>) -> Option<&'static [u8]> {
     if invocation.against.is_some() && invocation.trace.is_some() {
         return Some(b"kendo: --against and --trace can't be used together\n");
     }
+    if invocation.values.is_some() && invocation.trace.is_none() {
+        return Some(b"kendo: --values needs --trace\n");
+    }
     if invocation.strict && invocation.against.is_none() {
         return Some(b"kendo: --strict needs --against\n");
     }
@@ -166,7 +170,7 @@ fn perform_on(
     }
 }
 
-/// Like `perform`, for a file that is neither explored nor compared with a trace.
+/// Like `perform`, for a file that is neither explored nor compared with a trace. A picture is drawn apart.
 fn answer_file(
     rt: &HostRuntime,
     threads: &(impl Threads + Wait + Sync),
@@ -178,10 +182,18 @@ fn answer_file(
     requires { invocation.now.against ≡ None }
     ensures { IfOk result (IsOfOne (Judges invocation.now)) }
 {
-    match opened(rt, alloc, invocation, file, name_of(invocation, file))? {
-        Some((bytes, trace)) => answer(rt, threads, alloc, invocation, plan, file, bytes, trace),
-        None => Ok(USAGE),
+    if let Subcommand::Timeline { limit } = invocation.subcommand {
+        return draw_file(rt, alloc, invocation, plan, limit, file);
     }
+    let Some((bytes, trace)) = opened(rt, alloc, invocation, file, name_of(invocation, file))?
+    else {
+        return Ok(USAGE);
+    };
+    let Some(values) = values_file(rt, alloc, invocation, file)? else {
+        return Ok(USAGE);
+    };
+    let outputs = Outputs::new(rt, trace).with_values(values);
+    answer(rt, threads, alloc, invocation, plan, file, bytes, outputs)
 }
 
 /// Does with a program what the command says, and reports the outcome. If the command explains, an explanation follows: line and
@@ -195,14 +207,13 @@ fn answer(
     plan: &GivenPlan<'_>,
     file: &str,
     bytes: Vec<u8>,
-    trace: Trace,
+    mut outputs: Outputs,
 ) -> Result<u8, Memory>
     requires { invocation.now.against ≡ None }
     ensures { IfOk result (IsJudged invocation.now bytes.items) }
 {
     plan.compare_source(rt, alloc, file, bytes.as_slice())?;
     let kept = kept_program(alloc, invocation, file, Some(&plan.plan), bytes.as_slice());
-    let mut outputs = Outputs::new(rt, trace);
     let outcome = find(threads, alloc, invocation, plan, bytes, &mut outputs);
     let status = told(rt, alloc, name_of(invocation, file), &outcome)?;
     plan.report_unused(rt, alloc, invocation, &outcome)?;
@@ -210,7 +221,7 @@ fn answer(
     Ok(status)
 }
 
-/// What the command finds in the program, which it checks, lists, interprets, draws or runs.
+/// What the command finds in the program, which it checks, lists, interprets, inspects or runs.
 fn find(
     threads: &(impl Threads + Wait + Sync),
     alloc: Global,
@@ -226,12 +237,13 @@ fn find(
         Subcommand::Check => check(alloc, bytes),
         Subcommand::List => list(alloc, bytes, outputs),
         Subcommand::Reference { limit } => interpret(alloc, bytes, limit, outputs),
-        Subcommand::Paused { limit } => pause(alloc, bytes, given, limit, outputs),
-        Subcommand::Timeline { limit } => picture(alloc, bytes, plan, limit, invocation, outputs),
-        Subcommand::Explore { .. } | Subcommand::Test { .. } => Err(Fault::Memory),
+        Subcommand::Paused { limit } => pause(alloc, bytes, given, limit, invocation, outputs),
+        Subcommand::Timeline { .. } | Subcommand::Explore { .. } | Subcommand::Test { .. } => {
+            Err(Fault::Memory)
+        }
         Subcommand::Inspect { limit } => inspect(alloc, bytes, plan, limit, invocation, outputs),
         Subcommand::Run { workers, limit } => {
-            run_text(threads, alloc, bytes, workers, limit, outputs)
+            run_valued(threads, alloc, bytes, workers, limit, invocation, outputs)
         }
     }
 }
@@ -252,8 +264,29 @@ fn interpret(alloc: Global, bytes: Vec<u8>, limit: u64, outputs: &mut Outputs) -
     Ok(end)
 }
 
-/// Interprets the source of the program by the plan. It prints to standard output, and its trace goes to its file, if it has one.
+/// Interprets the source of the program by the plan. It prints to standard output, and its trace goes to its file, if it has one. If the
+/// command names a file for the values, they are written after the run.
 fn pause(
+    alloc: Global,
+    bytes: Vec<u8>,
+    plan: &GivenPlan<'_>,
+    limit: u64,
+    invocation: &Invocation<'_, '_>,
+    outputs: &mut Outputs,
+) -> Result<End, Fault>
+    ensures { Finds (Subcommand.Paused limit) bytes.items result }
+{
+    if invocation.values.is_none() {
+        return pause_plainly(alloc, bytes, plan, limit, outputs);
+    }
+    let text = bytes.clone()?;
+    let end = pause_plainly(alloc, bytes, plan, limit, outputs)?;
+    write(alloc, text, &plan.plan, limit, &mut outputs.values)?;
+    Ok(end)
+}
+
+/// Like `pause`, without values.
+fn pause_plainly(
     alloc: Global,
     bytes: Vec<u8>,
     plan: &GivenPlan<'_>,
@@ -262,15 +295,15 @@ fn pause(
 ) -> Result<End, Fault>
     ensures { Finds (Subcommand.Paused limit) bytes.items result }
 {
-    let Outputs { standard, file } = outputs;
-    if let Trace::Kept(trace) = file {
-        return pause_traced(alloc, bytes, plan, limit, standard, trace);
+    if let Trace::Kept(trace) = &mut outputs.file {
+        return pause_traced(alloc, bytes, plan, limit, &mut outputs.standard, trace);
     }
-    let end = paused_bytes_noting(alloc, bytes, &plan.plan, &plan.uses, limit, standard)?;
+    let out = &mut outputs.standard;
+    let end = paused_bytes_noting(alloc, bytes, &plan.plan, &plan.uses, limit, out)?;
     Ok(end)
 }
 
-/// Like `pause`, with this file for the trace.
+/// Like `pause_plainly`, with this file for the trace.
 fn pause_traced(
     alloc: Global,
     bytes: Vec<u8>,

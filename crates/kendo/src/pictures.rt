@@ -1,15 +1,22 @@
 //! Pictures of runs.
 
-ghost use Rattle.std.specs.Prelude.{◌≡◌, ◌⊎◌, ◌↔◌, IfErr, IfOk, IsErrOf};
+ghost use Rattle.std.specs.Prelude.{◌≡◌, ◌⊎◌, ◌↔◌, IfErr, IfOk, IfSome, IsErrOf, None};
 ghost use Rattle.command_line.specs.declared.arguments.Subcommand.TheVariants as subcommands;
+ghost use Rattle.kendo.specs.Verdicts.{Judges};
 ghost use Rattle.kendo_reading.specs.Reading.{HasNoReading, IsRefusal, IsWhy, Reads};
-ghost use Rattle.kendo_shell.specs.Answers.{Finds};
+ghost use Rattle.kendo_shell.specs.Answers.{Finds, IsOfOne};
 ghost use Rattle.syntax.specs.Tree.{File};
 ghost use Rattle.whole_run.specs.Runs.{IsLimit};
 
+use crate::explaining::{explain, kept_program};
+use crate::exploring::Task;
+use crate::plans::GivenPlan;
 use command_line::arguments::Invocation;
-use go_text::Fault;
+use go_text::{Fault, Memory};
 use kendo_code::timeline_window;
+use kendo_shell::USAGE;
+use kendo_shell::files::{SourceFile, output_file, source_file};
+use kendo_shell::streams::{tell, told};
 use kendo_shell::tracing::{Outputs, Trace};
 use paused_timeline::timeline_paused;
 use pauses::Plan;
@@ -18,21 +25,94 @@ use timeline::{Format, Recording, Window};
 use word::end::End;
 use word::{Write, write_all};
 
-/// Writes a picture of the run of the program, by the plan if one is named, to its file, or to standard output if it has none.
-pub(crate) fn picture(
+/// Writes a picture of the run of the program of a file, by the plan if one is named, to the file that the command names, or to standard
+/// output if it names none. A picture of no events, since the run has fewer, is refused.
+pub(crate) fn draw_file(
+    rt: &HostRuntime,
     alloc: Global,
-    bytes: Vec<u8>,
+    invocation: &Invocation<'_, '_>,
+    plan: &GivenPlan<'_>,
+    limit: u64,
+    file: &str,
+) -> Result<u8, Memory>
+    requires against { invocation.now.against ≡ None }
+    requires draws { invocation.now.subcommand ≡ subcommands.Timeline limit }
+    ensures { IfOk result (IsOfOne (Judges invocation.now)) }
+{
+    let Some(source) = source_file(rt, alloc, invocation, file, None)? else {
+        return Ok(USAGE);
+    };
+    plan.compare_source(rt, alloc, file, source.bytes.as_slice())?;
+    let kept = kept_program(alloc, invocation, file, Some(&plan.plan), source.bytes.as_slice());
+    let mut outputs = Outputs::new(rt, Trace::Dropped);
+    let task = Task {
+        rt,
+        alloc,
+        invocation,
+        file,
+    };
+    let Some(outcome) = draw(task, &source, &plan.plan, limit, &mut outputs)? else {
+        return Ok(USAGE);
+    };
+    let status = told(rt, alloc, None, &outcome)?;
+    plan.report_unused(rt, alloc, invocation, &outcome)?;
+    explain(rt, alloc, invocation, kept, outcome, outputs.refused());
+    Ok(status)
+}
+
+/// What the command finds in the program, of whose run it writes a picture. `None` if no picture can be written: standard error
+/// says why.
+fn draw(
+    task: Task<'_, '_, '_>,
+    source: &SourceFile,
     plan: &Plan,
     limit: u64,
-    invocation: &Invocation<'_, '_>,
     outputs: &mut Outputs,
-) -> Result<End, Fault>
-    ensures { Finds (subcommands.Timeline limit) bytes.items result }
+) -> Result<Option<Result<End, Fault>>, Memory>
+    ensures { IfOk result (λ drawn. IfSome drawn (Finds (subcommands.Timeline limit) source.now.bytes.items)) }
 {
+    let Task {
+        rt,
+        alloc,
+        invocation,
+        file: _,
+    } = task;
+    let bytes = source.bytes.clone()?;
     let format = Format::of(invocation.out);
-    let recording = recorded(alloc, bytes, plan, limit, invocation, format.most_events())?;
-    show(alloc, &recording, format, outputs)?;
-    Ok(End::Finished)
+    let recording = match recorded(alloc, bytes, plan, limit, invocation, format.most_events()) {
+        Ok(recording) => recording,
+        Err(fault) => return Ok(Some(Err(fault))),
+    };
+    if let Some(line) = refusal(alloc, invocation, &recording)? {
+        tell(rt, line.as_bytes());
+        return Ok(None);
+    }
+    let Some(file) = output_file(rt, alloc, invocation, source, None)? else {
+        return Ok(None);
+    };
+    outputs.file = file;
+    match show(alloc, &recording, format, outputs) {
+        Ok(()) => Ok(Some(Ok(End::Finished))),
+        Err(fault) => Ok(Some(Err(fault))),
+    }
+}
+
+/// The line on standard error if the picture would show no events, since the run has fewer than the command names.
+fn refusal(
+    alloc: Global,
+    invocation: &Invocation<'_, '_>,
+    recording: &Recording,
+) -> Result<Option<String>, Memory> {
+    let Some(from) = invocation.from else {
+        return Ok(None);
+    };
+    if !recording.events.is_empty() || from <= 1 {
+        return Ok(None);
+    }
+    let count = recording.before;
+    let unit = if count == 1 { "event" } else { "events" };
+    let line = format!(in alloc; "kendo: --from {from}: the run has {count} {unit}\n")?;
+    Ok(Some(line))
 }
 
 /// The events that the picture shows, at most `most`: of a run by a plan, if one is named.

@@ -43,7 +43,11 @@ pub fn run_text(
     ensures write { IsErrOf result Fault.Write → (has_refused outputs.new.standard ≡ true) ⊎ (has_lost outputs.new.file ≡ true) }
 {
     let started = started_of(leave, workers);
-    let Outputs { standard, file } = outputs;
+    let Outputs {
+        standard,
+        file,
+        values: _,
+    } = outputs;
     let end = run_bytes(leave, alloc, bytes, limit, started, &Open, standard, file)?;
     Ok(end)
 }

@@ -1,11 +1,12 @@
-//! The lines of a source file from which the instructions of its code come.
+//! Where in a source file the instructions of its code come from.
 
 use bytecode::Code;
-use codegen::Marks;
+use channel_names::mention_at;
 use go_text::{Memory, Source};
 use statement_map::{NodeLines, StatementMap};
 use std::alloc::Global;
 use syntax::Tree;
+use timeline::{Mention, Recording};
 
 /// For each function of the code, the line of each instruction, counted from 1: that on which the operation or the statement
 /// that it comes from begins.
@@ -16,9 +17,8 @@ pub(crate) fn lines_of(
     source: &Source,
     tree: &Tree,
     code: &Code,
-    marks: &Marks,
+    map: &StatementMap,
 ) -> Result<Vec<Vec<u32>>, Memory> {
-    let map = StatementMap::new(alloc, tree, code, marks)?;
     let text = NodeLines::new(alloc, source, tree)?;
     let mut lines = Vec::new(alloc);
     for (number, function) in code.functions().iter().enumerate() {
@@ -29,4 +29,22 @@ pub(crate) fn lines_of(
         lines.push(here)?;
     }
     Ok(lines)
+}
+
+/// What the program calls the channels of a recording of its run.
+///
+/// Errors: out of memory.
+pub(crate) fn mentions_of(
+    alloc: Global,
+    tree: &Tree,
+    map: &StatementMap,
+    recording: &Recording,
+) -> Result<Vec<Mention>, Memory> {
+    let sites = recording.channel_sites(alloc)?;
+    let mut mentions = Vec::new(alloc);
+    for site in sites.iter() {
+        let node = map.node(site.function, site.index).unwrap_or(0);
+        mentions.push(mention_at(alloc, tree.file(), node, *site)?)?;
+    }
+    Ok(mentions)
 }

@@ -11,15 +11,16 @@ ghost use Rattle.word.specs.Views.{event_of};
 ghost use Rattle.checker.specs.Trees.{tree_in};
 ghost use Rattle.syntax.specs.Spans.{tree_of};
 
-use crate::lines::lines_of;
+use crate::lines::{lines_of, mentions_of};
 use checker::Typed;
 use codegen::compile_marked;
 use go_text::{Fault, Source};
 use kendo_reading::read;
 use recorder::record;
+use statement_map::StatementMap;
 use std::alloc::Global;
 use std::sync::Arc;
-use timeline::{Recording, Window};
+use timeline::{Notes, Recording, Window};
 use verifier::verify;
 
 /// Runs the program that a source file is, up to the clock limit (1 to 2^62 steps) on this thread, and keeps its first events, at
@@ -90,9 +91,15 @@ fn recorded(
     ensures only { IfErr result (λ fault. fault ≡ Fault.Memory) }
 {
     let (code, marks) = compile_marked(alloc, typed)?;
-    let lines = lines_of(alloc, source, typed.tree(), &code, &marks)?;
+    let map = StatementMap::new(alloc, typed.tree(), &code, &marks)?;
+    let lines = lines_of(alloc, source, typed.tree(), &code, &map)?;
     let verified = verify(alloc, code)?;
     let program = Arc::new(alloc, verified)?;
     let recording = record(alloc, program, limit, window, most)?;
-    Ok(recording.with_lines(lines))
+    let mentions = mentions_of(alloc, typed.tree(), &map, &recording)?;
+    Ok(recording.with_notes(Notes {
+        lines,
+        mentions,
+        pauses: Vec::new(alloc),
+    }))
 }

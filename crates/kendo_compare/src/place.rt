@@ -14,6 +14,8 @@ pub(crate) struct Place {
     pub function: Option<String>,
     /// The line, counted from 1.
     pub line: Option<u32>,
+    /// What the event is, as `sends 3 on orders`.
+    pub event: Option<String>,
 }
 
 impl Place {
@@ -22,26 +24,35 @@ impl Place {
     /// Errors: out of memory.
     pub(crate) fn of(alloc: Global, program: &Program<'_>, event: u64) -> Result<Place, Memory> {
         match event_of(alloc, program, Window::From(event)) {
-            Ok(recording) => Place::in_recording(&recording),
+            Ok(recording) => Place::in_recording(alloc, &recording),
             Err(Fault::Memory) => Err(Memory),
             Err(_) => Ok(Place::unknown()),
         }
     }
 
     /// The location of the only event of a recording.
-    fn in_recording(recording: &Recording) -> Result<Place, Memory> {
+    fn in_recording(alloc: Global, recording: &Recording) -> Result<Place, Memory> {
+        let event = recording.event_words(alloc, 0)?;
         let Some(Some(site)) = recording.sites.first().copied() else {
-            return Ok(Place::unknown());
+            return Ok(Place {
+                function: None,
+                line: None,
+                event,
+            });
         };
         let function = match recording.functions.get(site.function) {
             Some(name) => Some(name.clone()?),
             None => None,
         };
-        let line = match recording.lines.get(site.function) {
+        let line = match recording.notes.lines.get(site.function) {
             Some(lines) => lines.get(site.index).copied(),
             None => None,
         };
-        Ok(Place { function, line })
+        Ok(Place {
+            function,
+            line,
+            event,
+        })
     }
 
     /// A location of which nothing is known.
@@ -49,6 +60,7 @@ impl Place {
         Place {
             function: None,
             line: None,
+            event: None,
         }
     }
 }

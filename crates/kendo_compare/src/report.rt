@@ -2,7 +2,7 @@
 
 use crate::lines::{Program, Recorded};
 use crate::place::Place;
-use diagnostic_words::excerpt::push_excerpt;
+use diagnostic_words::excerpt::{push_excerpt, push_shown};
 use diagnostic_words::words::Words;
 use go_text::{Memory, Span};
 use std::alloc::Global;
@@ -67,6 +67,7 @@ impl Report<'_> {
                 said.text(": ");
                 self.push_source(said, &place);
                 push_text(said, request_at(self.run, event));
+                push_words(said, &place);
             }
             None => push_missing(said, difference.number),
         }
@@ -97,6 +98,7 @@ impl Report<'_> {
             Some(line) => {
                 self.push_source(said, &place);
                 said.text(line);
+                push_words(said, &place);
             }
             None => said.text("the run has no more events"),
         }
@@ -171,6 +173,15 @@ fn push_function(said: &mut Words, place: &Place) {
     if let Some(function) = &place.function {
         said.text(" (");
         said.text(function.as_str());
+        said.text(")");
+    }
+}
+
+/// Appends what an event is in words, in parentheses, if that is known.
+fn push_words(said: &mut Words, place: &Place) {
+    if let Some(event) = &place.event {
+        said.text(" (");
+        push_shown(said, event.as_str());
         said.text(")");
     }
 }

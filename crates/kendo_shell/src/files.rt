@@ -35,6 +35,20 @@ impl Identity {
     }
 }
 
+/// A source file that was read.
+pub struct SourceFile {
+    /// Its bytes, at most one more than a program may have.
+    pub bytes: Vec<u8>,
+    identity: Option<Identity>,
+}
+
+impl Drop for SourceFile {
+    fn drop(self) {
+        let SourceFile { bytes, identity: _ } = self;
+        drop(bytes);
+    }
+}
+
 /// The bytes of the source file `source`, and the file of its trace or its picture, which is created once the source was read,
 /// before anything is judged. `None` if one of them can't be used: standard error says which, and, if the command explains,
 /// why. The line begins with `name` if there is one.
@@ -49,24 +63,110 @@ pub fn opened(
 ) -> Result<Option<(Vec<u8>, Trace)>, Memory>
     ensures { IfOk result (λ found. IfSome found (λ opened. has_file opened.1 ≡ is_named invocation.now.trace invocation.now.out)) }
 {
-    let (bytes, identity) = match read(rt, alloc, source) {
-        Ok(read) => read,
+    let Some(source) = source_file(rt, alloc, invocation, source, name)? else {
+        return Ok(None);
+    };
+    match output_file(rt, alloc, invocation, &source, name)? {
+        Some(trace) => {
+            let SourceFile { bytes, identity: _ } = source;
+            Ok(Some((bytes, trace)))
+        }
+        None => Ok(None),
+    }
+}
+
+/// The source file at the path `source`. `None` if it can't be read: standard error says so, as for `opened`.
+///
+/// Errors: `Memory`.
+pub fn source_file(
+    rt: &HostRuntime,
+    alloc: Global,
+    invocation: &Invocation<'_, '_>,
+    source: &str,
+    name: Option<&str>,
+) -> Result<Option<SourceFile>, Memory> {
+    match read(rt, alloc, source) {
+        Ok((bytes, identity)) => Ok(Some(SourceFile { bytes, identity })),
         Err(error) => {
             let unusable = Unusable::new("read", source, Reason::of(&error));
             unusable.report(rt, alloc, name, invocation.explains)?;
-            return Ok(None);
+            Ok(None)
         }
-    };
+    }
+}
+
+/// The file of the trace or the picture of a source file, which is created, if one is named. `None` if it can't be used: standard error
+/// says so, as for `opened`.
+///
+/// Errors: `Memory`.
+pub fn output_file(
+    rt: &HostRuntime,
+    alloc: Global,
+    invocation: &Invocation<'_, '_>,
+    source: &SourceFile,
+    name: Option<&str>,
+) -> Result<Option<Trace>, Memory>
+    ensures { IfOk result (λ found. IfSome found (λ trace. has_file trace ≡ is_named invocation.now.trace invocation.now.out)) }
+{
     let Some(path) = invocation.trace.or(invocation.out) else {
-        return Ok(Some((bytes, Trace::Dropped)));
+        return Ok(Some(Trace::Dropped));
     };
-    match create(rt, path, identity) {
-        Ok(trace) => Ok(Some((bytes, trace))),
+    match create(rt, path, source.identity) {
+        Ok(trace) => Ok(Some(trace)),
         Err(reason) => {
             let unusable = Unusable::new("create", path, reason);
             unusable.report(rt, alloc, name, invocation.explains)?;
             Ok(None)
         }
+    }
+}
+
+/// The file of the values of a trace, which is created, if one is named. `None` if it can't be used, or is the source file, the file of
+/// the trace or that of the plan: standard error says so, as for `opened`.
+///
+/// Errors: `Memory`.
+pub fn values_file(
+    rt: &HostRuntime,
+    alloc: Global,
+    invocation: &Invocation<'_, '_>,
+    source: &str,
+) -> Result<Option<Trace>, Memory> {
+    let Some(path) = invocation.values else {
+        return Ok(Some(Trace::Dropped));
+    };
+    let others = [Some(source), invocation.trace, invocation.pauses];
+    match create_apart(rt, path, &others) {
+        Ok(trace) => Ok(Some(trace)),
+        Err(reason) => {
+            let unusable = Unusable::new("create", path, reason);
+            unusable.report(rt, alloc, None, invocation.explains)?;
+            Ok(None)
+        }
+    }
+}
+
+/// Like `create`, of a file that is none of those at the other paths.
+fn create_apart(rt: &HostRuntime, path: &str, others: &[Option<&str>]) -> Result<Trace, Reason> {
+    for other in others.iter().flatten() {
+        if let (Some(here), Some(there)) = (identity_at(rt, path), identity_at(rt, other)) {
+            if here == there {
+                return Err(Reason::IsNamedTwice);
+            }
+        }
+    }
+    create(rt, path, None)
+}
+
+/// Which file is at a path; `None` if there is none.
+fn identity_at(rt: &HostRuntime, path: &str) -> Option<Identity> {
+    let path = if path == STANDARD_INPUT {
+        "/dev/stdin"
+    } else {
+        path
+    };
+    match fs::metadata(rt, path) {
+        Ok(metadata) => Identity::of(&metadata),
+        Err(_) => None,
     }
 }
 

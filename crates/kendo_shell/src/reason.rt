@@ -26,6 +26,8 @@ pub enum Reason {
     TookNothing,
     /// It is the source file, which would be overwritten.
     IsSource,
+    /// It is another file that the command names.
+    IsNamedTwice,
     /// It is longer than a source file may be.
     TooLong,
     /// Another error of the system.
@@ -64,6 +66,7 @@ impl fmt::Display for Reason {
             Reason::ClosedPipe => "the pipe is closed: nobody reads it any more",
             Reason::TookNothing => "no byte was taken",
             Reason::IsSource => "is the source file, which would be overwritten",
+            Reason::IsNamedTwice => "is named twice, and would be overwritten",
             Reason::TooLong => "is longer than 1,048,576 bytes",
             Reason::Other => "input or output error",
         })

@@ -59,6 +59,8 @@ pub struct Outputs {
     pub standard: Stream<Stdout>,
     /// The file of the trace or the picture.
     pub file: Trace,
+    /// The file of the values of the trace.
+    pub values: Trace,
 }
 
 /// An output that refused bytes, and why.
@@ -68,6 +70,8 @@ pub enum Refused {
     Standard(Reason),
     /// The file of the trace or the picture.
     File(Reason),
+    /// The file of the values.
+    Values(Reason),
 }
 
 impl Outputs {
@@ -76,6 +80,16 @@ impl Outputs {
         Outputs {
             standard: Stream::new(rt.stdout()),
             file,
+            values: Trace::Dropped,
+        }
+    }
+
+    /// These outputs, with this file for the values.
+    pub fn with_values(self, values: Trace) -> Outputs {
+        Outputs {
+            standard: self.standard,
+            file: self.file,
+            values,
         }
     }
 
@@ -83,7 +97,10 @@ impl Outputs {
     pub fn refused(&self) -> Option<Refused> {
         match self.standard.refusal() {
             Some(reason) => Some(Refused::Standard(reason)),
-            None => self.file.refusal().map(Refused::File),
+            None => match self.file.refusal() {
+                Some(reason) => Some(Refused::File(reason)),
+                None => self.values.refusal().map(Refused::Values),
+            },
         }
     }
 }

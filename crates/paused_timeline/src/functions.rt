@@ -50,6 +50,12 @@ impl Functions {
         })
     }
 
+    /// The node of a function at an index.
+    pub(crate) fn node(&self, site: Site) -> Option<NodeId> {
+        let first = self.all.get(site.function)?.first;
+        first.checked_add(u32::try_from(site.index).ok()?)
+    }
+
     /// The lines of the nodes of each function, from those of all nodes.
     ///
     /// Errors: out of memory.

@@ -7,19 +7,18 @@ ghost use Rattle.one_thread.specs.Histories.{HasHad, IsReady};
 ghost use Rattle.word.specs.Related.{kind_of};
 ghost use Rattle.word.specs.Views.{event_of};
 
-use crate::functions::Functions;
-use crate::sited::{Sited, site_of};
+use crate::sited::{Noting, Sited};
 use event_window::{Kept, Latest};
 use go_text::Memory;
 use one_thread::{Interpreter, OpenRun, next_event};
 use std::alloc::Global;
 use timeline::Window;
 
-/// The events of a window of a run that has had none, and its end if it has no more after them. The program has these functions.
+/// The events of a window of a run that has had none, and its end if it has no more after them. What else a picture shows is noted.
 pub(crate) fn keep<P: Interpreter>(
     alloc: Global,
     program: &P,
-    functions: &Functions,
+    noting: &mut Noting<'_>,
     run: &mut OpenRun<P::State>,
     window: Window,
     most: usize,
@@ -35,14 +34,14 @@ where
     ensures cut { IfOk result (λ kept. IfNone kept.end (most ≤ length kept.events.items)) }
 {
     match window {
-        Window::First => keep_from(alloc, program, functions, run, 0, most),
+        Window::First => keep_from(alloc, program, noting, run, 0, most),
         Window::From(number) => {
             let skip = number.saturating_sub(1);
-            keep_from(alloc, program, functions, run, skip, most)
+            keep_from(alloc, program, noting, run, skip, most)
         }
         Window::Last(number) => {
             let most = most.min(number as usize);
-            keep_last(alloc, program, functions, run, most)
+            keep_last(alloc, program, noting, run, most)
         }
     }
 }
@@ -51,7 +50,7 @@ where
 fn keep_from<P: Interpreter>(
     alloc: Global,
     program: &P,
-    functions: &Functions,
+    noting: &mut Noting<'_>,
     run: &mut OpenRun<P::State>,
     skip: u64,
     most: usize,
@@ -74,7 +73,7 @@ where
         let Some(event) = next_event(alloc, program, run)? else {
             return Ok(kept.ended(run.ending()));
         };
-        let site = site_of(functions, run, &event);
+        let site = noting.take(run, &event)?;
         kept.take(event, site, skip)?;
     }
     Err(Memory)
@@ -84,7 +83,7 @@ where
 fn keep_last<P: Interpreter>(
     alloc: Global,
     program: &P,
-    functions: &Functions,
+    noting: &mut Noting<'_>,
     run: &mut OpenRun<P::State>,
     most: usize,
 ) -> Result<Kept, Memory>
@@ -103,7 +102,7 @@ where
         let Some(event) = next_event(alloc, program, run)? else {
             return Ok(latest.ended(run.ending()));
         };
-        let site = site_of(functions, run, &event);
+        let site = noting.take(run, &event)?;
         latest.push(event, site, most)?;
     }
     Err(Memory)

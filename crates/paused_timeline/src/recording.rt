@@ -14,6 +14,8 @@ ghost use Rattle.word.specs.Views.{event_of};
 
 use crate::functions::Functions;
 use crate::keeping::keep;
+use crate::sited::Noting;
+use channel_names::mention_at;
 use checker::Typed;
 use go_text::{Fault, Memory, Source};
 use kendo_reading::read;
@@ -23,7 +25,7 @@ use pauses::Plan;
 use statement_map::NodeLines;
 use std::alloc::Global;
 use syntax::{TopNode, Tree};
-use timeline::{Recording, Window};
+use timeline::{Mention, Notes, Recording, Window};
 use watched_goroutine::Watched;
 
 /// Interprets the program that a source file is, up to the clock limit (1 to 2^62 steps); each goroutine keeps to the plan. It keeps
@@ -80,8 +82,33 @@ fn recorded(
     let program = Watched::new(alloc, typed)?;
     let paused = Paused { program, plan };
     let mut run = open_run(alloc, &paused, limit)?;
-    let kept = keep(alloc, &paused, &functions, &mut run, window, most)?;
-    Ok(kept.recording(alloc, names(alloc, tree)?).with_lines(lines))
+    let mut noting = Noting::new(alloc, &functions);
+    noting.note(&run, 1, 0)?;
+    let kept = keep(alloc, &paused, &mut noting, &mut run, window, most)?;
+    let recording = kept.recording(alloc, names(alloc, tree)?);
+    let mentions = mentions_of(alloc, tree, &functions, &recording)?;
+    let pauses = noting.into_pauses();
+    Ok(recording.with_notes(Notes {
+        lines,
+        mentions,
+        pauses,
+    }))
+}
+
+/// What the program calls the channels of a recording of its run.
+fn mentions_of(
+    alloc: Global,
+    tree: &Tree,
+    functions: &Functions,
+    recording: &Recording,
+) -> Result<Vec<Mention>, Memory> {
+    let sites = recording.channel_sites(alloc)?;
+    let mut mentions = Vec::new(alloc);
+    for site in sites.iter() {
+        let node = functions.node(*site).unwrap_or(0);
+        mentions.push(mention_at(alloc, tree.file(), node, *site)?)?;
+    }
+    Ok(mentions)
 }
 
 /// The names of the functions, each at its number.

@@ -1,19 +1,22 @@
 //! The picture of a run as an SVG: a lane for each goroutine, and logical time to the right.
 
 use crate::arrows::push_arrows;
-use crate::label::{count_label, end_label, event_label};
-use crate::lane_drawing::{push_lanes, push_names, waits_label};
+use crate::key::{Key, ROW};
+use crate::label::{Labels, count_label, end_label};
+use crate::lane_drawing::{push_lanes, push_names};
 use crate::lanes::Lanes;
 use crate::marks::{HEAD, LEGEND, mark_of};
+use crate::names::Names;
+use crate::pauses::push_pauses;
 use crate::recording::{Recording, push_line_number};
-use crate::scale::Scale;
+use crate::scale::{Scale, Stop};
 use crate::writing::push_escaped;
 use go_text::Memory;
 use std::alloc::{AllocError, Global};
 use word::end::End;
 use word::request::Event;
 
-/// The height of a lane, and where the middle of the first one lies, in pixels.
+/// The height of a lane, and where the middle of the first one lies if there is no key, in pixels.
 const LANE: u64 = 26;
 
 const TOP: u64 = 120;
@@ -28,6 +31,12 @@ const WAITS: u64 = 460;
 
 /// How wide a letter of that is reckoned, in pixels.
 const LETTER: u64 = 7;
+
+/// How wide the legend is, in pixels.
+const LEGEND_WIDTH: u64 = 780;
+
+/// The pixels of an axis that a break takes.
+const BREAK: u64 = 10;
 
 /// The pixels between two numbers of an axis.
 const TICKS: u64 = 70;
@@ -46,10 +55,25 @@ struct Axis {
 /// The parts that a drawing is made of.
 #[derive(Drop)]
 pub(crate) struct Drawing<'a> {
-    pub alloc: Global,
-    pub recording: &'a Recording,
+    pub labels: Labels<'a>,
     pub lanes: &'a Lanes,
     pub scale: &'a Scale,
+    pub key: &'a Key,
+}
+
+impl Drawing<'_> {
+    /// The height at which the lane of this index lies, in pixels.
+    pub(crate) fn height(&self, row: usize) -> u64 {
+        (row as u64)
+            .saturating_mul(LANE)
+            .saturating_add(TOP)
+            .saturating_add(self.key.rows.saturating_mul(ROW))
+    }
+
+    /// The height under the last lane, in pixels.
+    fn lowest(&self) -> u64 {
+        self.height(self.lanes.lanes.len())
+    }
 }
 
 /// The picture of a run, as an SVG.
@@ -60,11 +84,18 @@ pub(crate) struct Drawing<'a> {
 pub(crate) fn draw(alloc: Global, recording: &Recording) -> Result<String, Memory> {
     let lanes = Lanes::of(alloc, recording)?;
     let scale = Scale::of(alloc, recording, LEFT)?;
-    let drawing = Drawing {
+    let names = Names::of(alloc, recording, &lanes)?;
+    let labels = Labels {
         alloc,
         recording,
+        names: &names,
+    };
+    let key = Key::of(labels, &lanes, scale.right().max(LEGEND_WIDTH))?;
+    let drawing = Drawing {
+        labels,
         lanes: &lanes,
         scale: &scale,
+        key: &key,
     };
     let mut text = String::new(alloc);
     push_all(&mut text, &drawing)?;
@@ -74,14 +105,15 @@ pub(crate) fn draw(alloc: Global, recording: &Recording) -> Result<String, Memor
 /// The lanes with what happens in them, the axes, and what is around them.
 fn push_all(text: &mut String, drawing: &Drawing) -> Result<(), AllocError> {
     push_head(text, drawing)?;
-    push_axis(text, height(0).saturating_sub(20), true, drawing.scale)?;
+    push_axis(text, drawing.height(0).saturating_sub(20), true, drawing.scale)?;
     push_lanes(text, drawing)?;
+    push_pauses(text, drawing)?;
+    push_names(text, drawing)?;
     push_arrows(text, drawing)?;
     push_events(text, drawing)?;
-    push_names(text, drawing)?;
     push_axis(
         text,
-        lowest(drawing).saturating_sub(4),
+        drawing.lowest().saturating_sub(4),
         false,
         drawing.scale,
     )?;
@@ -89,39 +121,31 @@ fn push_all(text: &mut String, drawing: &Drawing) -> Result<(), AllocError> {
     text.push_str("</svg>\n")
 }
 
-/// The height at which the lane of this index lies, in pixels.
-pub(crate) fn height(row: usize) -> u64 {
-    (row as u64).saturating_mul(LANE).saturating_add(TOP)
-}
-
-/// The height under the last lane, in pixels.
-fn lowest(drawing: &Drawing) -> u64 {
-    height(drawing.lanes.lanes.len())
-}
-
 /// All that comes before the lanes: what the picture shows, and what its marks mean.
 fn push_head(text: &mut String, drawing: &Drawing) -> Result<(), AllocError> {
-    let width = drawing.scale.right().saturating_add(margin(drawing)?);
-    let tall = lowest(drawing).saturating_add(40);
+    let right = drawing.scale.right().saturating_add(margin(drawing)?);
+    let width = right.max(LEGEND_WIDTH);
+    let tall = drawing.lowest().saturating_add(40);
     write!(
         text,
         "<svg xmlns=\"http://www.w3.org/2000/svg\" width=\"{width}\" height=\"{tall}\" viewBox=\"0 0 {width} {tall}\">\n"
     )?;
     text.push_str(HEAD)?;
     push_caption(text, drawing)?;
-    text.push_str(LEGEND)
+    text.push_str(LEGEND)?;
+    drawing.key.push(text)
 }
 
 /// The pixels right of the lanes, enough for what the goroutines of a deadlock wait for.
 fn margin(drawing: &Drawing) -> Result<u64, AllocError> {
     let mut margin = MARGIN;
-    if !matches!(drawing.recording.end, Some(End::Deadlock)) {
+    if !matches!(drawing.labels.recording.end, Some(End::Deadlock)) {
         return Ok(margin);
     }
     for lane in drawing.lanes.lanes.iter() {
         if let Some(asleep) = &lane.asleep {
-            let waits = waits_label(drawing, asleep)?;
-            let letters = (waits.len() as u64).saturating_add(2);
+            let waits = drawing.labels.wait(asleep)?;
+            let letters = (waits.chars().count() as u64).saturating_add(2);
             margin = margin.max(letters.saturating_mul(LETTER));
         }
     }
@@ -130,8 +154,11 @@ fn margin(drawing: &Drawing) -> Result<u64, AllocError> {
 
 /// Which events are shown, and how the run ended.
 fn push_caption(text: &mut String, drawing: &Drawing) -> Result<(), AllocError> {
-    let count = count_label(drawing.alloc, drawing.recording)?;
-    let ends = end_label(drawing.alloc, drawing.recording.end)?;
+    let Labels {
+        alloc, recording, ..
+    } = drawing.labels;
+    let count = count_label(alloc, recording)?;
+    let ends = end_label(alloc, recording.end)?;
     write!(
         text,
         "<text class=\"caption\" x=\"12\" y=\"28\">{count}, {ends}</text>\n"
@@ -154,9 +181,9 @@ pub(crate) fn push_line(
 
 /// The marks of all events.
 fn push_events(text: &mut String, drawing: &Drawing) -> Result<(), AllocError> {
-    for (index, event) in drawing.recording.events.iter().enumerate() {
+    for (index, event) in drawing.labels.recording.events.iter().enumerate() {
         if let Some(row) = drawing.lanes.row(event.number) {
-            push_mark(text, drawing, event, height(row))?;
+            push_mark(text, drawing, event, drawing.height(row))?;
             push_title(text, drawing, index, event)?;
         }
     }
@@ -184,14 +211,15 @@ fn push_title(
     event: &Event,
 ) -> Result<(), AllocError> {
     let (clock, goroutine) = (event.clock.time(), event.number);
-    let number = drawing.recording.event_number(index);
+    let recording = drawing.labels.recording;
+    let number = recording.event_number(index);
     write!(
         text,
         "<title>event {number}, clock {clock}: goroutine {goroutine} "
     )?;
-    let label = event_label(drawing.alloc, drawing.recording, event)?;
+    let label = drawing.labels.event(event)?;
     push_escaped(text, label.as_str())?;
-    push_line_number(text, drawing.recording.event_line(index))?;
+    push_line_number(text, recording.event_line(index))?;
     text.push_str("</title></path>\n")
 }
 
@@ -217,7 +245,27 @@ fn push_axis(text: &mut String, y: u64, is_above: bool, scale: &Scale) -> Result
         }
     };
     push_tick(text, scale.origin, LEFT, axis)?;
-    push_ticks(text, axis, scale)
+    push_ticks(text, axis, scale)?;
+    for stop in scale.stops.iter() {
+        push_break(text, *stop, y, scale)?;
+    }
+    Ok(())
+}
+
+/// The break of an axis at this height before a stop, if the time before it was cut and there is space for a break.
+fn push_break(text: &mut String, stop: Stop, y: u64, scale: &Scale) -> Result<(), AllocError> {
+    let half = scale.half_of_cut();
+    let Some(ticks) = stop.cut else {
+        return Ok(());
+    };
+    if half < BREAK {
+        return Ok(());
+    }
+    let (x, top) = (scale.place(stop.clock).saturating_sub(half), y.saturating_sub(4));
+    write!(
+        text,
+        "<path class=\"break\" d=\"M{x} {top}m-4 8l4 -8m0 8l4 -8\"><title>{ticks} ticks, cut short</title></path>\n"
+    )
 }
 
 /// The clocks of events on an axis, of those that lie too near to each other the first.
@@ -245,12 +293,15 @@ fn push_tick(text: &mut String, clock: u64, x: u64, axis: Axis) -> Result<(), Al
 /// The edges at which the run was cut, and what is not shown there.
 fn push_edges(text: &mut String, drawing: &Drawing) -> Result<(), AllocError> {
     let right = drawing.scale.right();
-    let before = drawing.recording.before;
+    let Labels {
+        alloc, recording, ..
+    } = drawing.labels;
+    let before = recording.before;
     if before > 0 {
-        let note = format!(in drawing.alloc; "{before} events before")?;
+        let note = format!(in alloc; "{before} events before")?;
         push_edge(text, drawing, LEFT, "start", note.as_str())?;
     }
-    match drawing.recording.end {
+    match recording.end {
         None => push_edge(text, drawing, right, "end", "cut here: the run goes on"),
         Some(_) => Ok(()),
     }
@@ -264,7 +315,7 @@ fn push_edge(
     anchor: &str,
     note: &str,
 ) -> Result<(), AllocError> {
-    let (top, bottom) = (height(0).saturating_sub(36), lowest(drawing));
+    let (top, bottom) = (drawing.height(0).saturating_sub(36), drawing.lowest());
     let base = top.saturating_sub(4);
     push_line(text, "cut", (x, top), (x, bottom))?;
     write!(

@@ -1,7 +1,9 @@
 //! What an event is, in words.
 
-use crate::moves::channel_of;
-use crate::recording::Recording;
+use crate::moves::{Transfer, channel_of, transfer_of};
+use crate::names::Names;
+use crate::recording::{Recording, push_line_number};
+use crate::lanes::Asleep;
 use crate::waits::{clause_of, label_of};
 use std::alloc::{AllocError, Global};
 use std::str;
@@ -16,55 +18,161 @@ const SHOWN: usize = 80;
 /// How many clauses of a select are shown at most.
 const CLAUSES: usize = 4;
 
-/// What an event is, as `sends to channel 3, wakes goroutine 2`, and `, sleeps` if its goroutine fell asleep.
-pub(crate) fn event_label(
-    alloc: Global,
-    recording: &Recording,
-    event: &Event,
-) -> Result<String, AllocError> {
-    let mut label = String::new(alloc);
-    push_request(&mut label, recording, event)?;
-    match &event.outcome {
-        EventOutcome::Done(reply) => push_reply(&mut label, event, reply)?,
-        EventOutcome::Sleeps => label.push_str(", sleeps")?,
-        EventOutcome::Panics(cause, _) => {
-            let why = panic_label(*cause);
-            write!(label, ", panics: {why}")?;
-        }
-    }
-    Ok(label)
+/// What the words of a picture are made from.
+#[derive(Clone, Copy)]
+pub(crate) struct Labels<'a> {
+    pub alloc: Global,
+    pub recording: &'a Recording,
+    pub names: &'a Names<'a>,
 }
 
-/// The request of an event's actor.
-fn push_request(
-    label: &mut String,
-    recording: &Recording,
-    event: &Event,
-) -> Result<(), AllocError> {
-    match &event.request {
-        Request::Make(size, _) => push_made(label, *size, event),
-        Request::Go(function, _) => push_started(label, recording.function(*function), event),
-        Request::Send(channel, _) => push_on(label, "sends to", *channel),
-        Request::Receive(channel) => push_on(label, "receives from", *channel),
-        Request::Close(channel) => push_on(label, "closes", *channel),
-        Request::Select(cases, _) => push_select(label, cases.as_slice(), event),
-        Request::Len(channel) => push_on(label, "reads len of", *channel),
-        Request::Cap(channel) => push_on(label, "reads cap of", *channel),
-        Request::Print(bytes) => push_print(label, bytes.as_slice()),
-        Request::End => label.push_str("ends"),
-        Request::Exit => label.push_str("ends the program"),
-        Request::Panic(_) => label.push_str("computes"),
-        Request::Exhausted => label.push_str("reaches the limit of logical time"),
-    }
-}
-
-/// A channel is made: its number, and its size.
-fn push_made(label: &mut String, size: i64, event: &Event) -> Result<(), AllocError> {
-    match &event.outcome {
-        EventOutcome::Done(Reply::Word(Word::Chan(Some(number)))) => {
-            write!(label, "makes channel {number} of size {size}")
+impl Labels<'_> {
+    /// What an event is, as `sends 3 on orders, wakes goroutine 2`, and `, sleeps` if its goroutine fell asleep.
+    pub(crate) fn event(self, event: &Event) -> Result<String, AllocError> {
+        let mut label = String::new(self.alloc);
+        self.push_request(&mut label, event)?;
+        match &event.outcome {
+            EventOutcome::Done(reply) => push_reply(&mut label, event, reply)?,
+            EventOutcome::Sleeps => label.push_str(", sleeps")?,
+            EventOutcome::Panics(cause, _) => {
+                let why = panic_label(*cause);
+                write!(label, ", panics: {why}")?;
+            }
         }
-        _ => write!(label, "makes a channel of size {size}"),
+        Ok(label)
+    }
+
+    /// What a goroutine waits for, and on which line, as `waits to receive from orders at line 7`.
+    pub(crate) fn wait(self, asleep: &Asleep) -> Result<String, AllocError> {
+        let mut waits = asleep.wait.label(self.alloc, self.names)?;
+        push_line_number(&mut waits, self.recording.line(asleep.site))?;
+        Ok(waits)
+    }
+
+    /// The item that an event moves, as `3 on orders`; just `item on orders` if it moves none.
+    pub(crate) fn item_on(self, event: usize, channel: u32) -> Result<String, AllocError> {
+        let mut label = String::new(self.alloc);
+        let event = self.recording.events.get(event);
+        match event.and_then(transfer_of) {
+            Some(transfer) => self.push_item(&mut label, transfer)?,
+            None => label.push_str("item")?,
+        }
+        label.push_str(" on ")?;
+        self.names.push_channel(&mut label, Some(channel))?;
+        Ok(label)
+    }
+
+    /// The item that an event sends or receives.
+    pub(crate) fn push_item(
+        self,
+        label: &mut String,
+        transfer: Transfer<'_>,
+    ) -> Result<(), AllocError> {
+        self.names.push_item(label, transfer.channel, transfer.item)
+    }
+
+    /// The request of an event's actor.
+    fn push_request(self, label: &mut String, event: &Event) -> Result<(), AllocError> {
+        match &event.request {
+            Request::Make(size, _) => self.push_made(label, *size, event),
+            Request::Go(function, _) => {
+                push_started(label, self.recording.function(*function), event)
+            }
+            Request::Send(channel, _) => self.push_transfer(label, event, "sends on ", *channel),
+            Request::Receive(channel) => {
+                self.push_transfer(label, event, "receives from ", *channel)
+            }
+            Request::Close(channel) => self.push_on(label, "closes ", *channel),
+            Request::Select(cases, _) => self.push_select(label, cases.as_slice(), event),
+            Request::Len(channel) => self.push_on(label, "reads len of ", *channel),
+            Request::Cap(channel) => self.push_on(label, "reads cap of ", *channel),
+            Request::Print(bytes) => push_print(label, bytes.as_slice()),
+            Request::End => label.push_str("ends"),
+            Request::Exit => label.push_str("ends the program"),
+            Request::Panic(_) => label.push_str("computes"),
+            Request::Exhausted => label.push_str("reaches the limit of logical time"),
+        }
+    }
+
+    /// A channel is made: its number, what it is called, and its size.
+    fn push_made(self, label: &mut String, size: i64, event: &Event) -> Result<(), AllocError> {
+        match &event.outcome {
+            EventOutcome::Done(Reply::Word(Word::Chan(Some(number)))) => {
+                write!(label, "makes channel {number}")?;
+                if let Some(name) = self.names.name(*number) {
+                    write!(label, ", {name},")?;
+                }
+                write!(label, " of size {size}")
+            }
+            _ => write!(label, "makes a channel of size {size}"),
+        }
+    }
+
+    /// What is done with a channel.
+    fn push_on(
+        self,
+        label: &mut String,
+        what: &str,
+        channel: Option<u32>,
+    ) -> Result<(), AllocError> {
+        label.push_str(what)?;
+        self.names.push_channel(label, channel)
+    }
+
+    /// A send or a receive, with its item; `what` is done with the channel if there is none.
+    fn push_transfer(
+        self,
+        label: &mut String,
+        event: &Event,
+        what: &str,
+        channel: Option<u32>,
+    ) -> Result<(), AllocError> {
+        let Some(transfer) = transfer_of(event) else {
+            return self.push_on(label, what, channel);
+        };
+        label.push_str(if transfer.sends {
+            "sends "
+        } else {
+            "receives "
+        })?;
+        self.push_item(label, transfer)?;
+        label.push_str(if transfer.sends { " on " } else { " from " })?;
+        self.names.push_channel(label, transfer.channel)
+    }
+
+    /// A select: the clause that it did with its channel, or what it waits for.
+    fn push_select(
+        self,
+        label: &mut String,
+        cases: &[Case],
+        event: &Event,
+    ) -> Result<(), AllocError> {
+        let count = cases.len();
+        match &event.outcome {
+            EventOutcome::Done(Reply::Clause(number, _)) => {
+                write!(label, "selects clause {number} of {count}: ")?;
+                self.push_transfer(label, event, "receives from ", channel_of(cases, *number))
+            }
+            EventOutcome::Done(_) => label.push_str("selects the default"),
+            _ => {
+                write!(label, "selects among {count} clauses")?;
+                self.push_clauses(label, cases)
+            }
+        }
+    }
+
+    /// The clauses of a select, the first ones if there are many.
+    fn push_clauses(self, label: &mut String, cases: &[Case]) -> Result<(), AllocError> {
+        for (index, case) in cases.iter().take(CLAUSES).enumerate() {
+            let before = if index == 0 { ": " } else { " or " };
+            label.push_str(before)?;
+            let clause = clause_of(case);
+            self.push_on(label, label_of(clause), clause.channel)?;
+        }
+        if cases.len() > CLAUSES {
+            label.push_str(" or ..")?;
+        }
+        Ok(())
     }
 }
 
@@ -74,48 +182,6 @@ fn push_started(label: &mut String, function: &str, event: &Event) -> Result<(),
         Some(number) => write!(label, "starts goroutine {number} ({function})"),
         None => write!(label, "starts a goroutine ({function})"),
     }
-}
-
-/// What is done with a channel.
-fn push_on(label: &mut String, what: &str, channel: Option<u32>) -> Result<(), AllocError> {
-    match channel {
-        Some(number) => write!(label, "{what} channel {number}"),
-        None => write!(label, "{what} a nil channel"),
-    }
-}
-
-/// A select: the clause that it did with its channel, or what it waits for.
-fn push_select(label: &mut String, cases: &[Case], event: &Event) -> Result<(), AllocError> {
-    let count = cases.len();
-    match &event.outcome {
-        EventOutcome::Done(Reply::Clause(number, received)) => {
-            let what = match received {
-                Some(_) => "receives from",
-                None => "sends to",
-            };
-            write!(label, "selects clause {number} of {count}: ")?;
-            push_on(label, what, channel_of(cases, *number))
-        }
-        EventOutcome::Done(_) => label.push_str("selects the default"),
-        _ => {
-            write!(label, "selects among {count} clauses")?;
-            push_clauses(label, cases)
-        }
-    }
-}
-
-/// The clauses of a select, the first ones if there are many.
-fn push_clauses(label: &mut String, cases: &[Case]) -> Result<(), AllocError> {
-    for (index, case) in cases.iter().take(CLAUSES).enumerate() {
-        let before = if index == 0 { ": " } else { " or " };
-        label.push_str(before)?;
-        let clause = clause_of(case);
-        push_on(label, label_of(clause), clause.channel)?;
-    }
-    if cases.len() > CLAUSES {
-        label.push_str(" or ..")?;
-    }
-    Ok(())
 }
 
 /// What a print writes, or how much if it is long.

@@ -1,24 +1,27 @@
 //! The lanes of a drawing.
 
-use crate::drawing::{Drawing, LEFT, height, push_line};
+use crate::drawing::{Drawing, LEFT, push_line};
 use crate::lanes::{Asleep, Lane, Sleep};
-use crate::recording::push_line_number;
-use crate::scale::{GUTTER, Scale};
+use crate::scale::Scale;
+use crate::writing::push_escaped;
 use std::alloc::AllocError;
 use word::end::End;
 
-/// How many letters of a name are shown at most: left of the lanes, and in a gutter.
+/// How many letters of a name are shown at most.
 const NAME: usize = 18;
 
-const SHORT: usize = 14;
+/// How wide a screen is, after which the names of the lanes stand there again, in pixels.
+const SCREEN: u64 = 1_200;
 
 /// All lanes.
 pub(crate) fn push_lanes(text: &mut String, drawing: &Drawing) -> Result<(), AllocError> {
     let right = drawing.scale.right();
     for (row, lane) in drawing.lanes.lanes.iter().enumerate() {
-        let y = height(row);
+        let y = drawing.height(row);
         push_line(text, "rail", (LEFT, y), (right, y))?;
-        push_name(text, drawing, lane, (12, y), NAME)?;
+        let base = y.saturating_add(4);
+        write!(text, "<text x=\"12\" y=\"{base}\">")?;
+        push_name(text, drawing, lane)?;
         for sleep in lane.sleeps.iter() {
             push_sleep(text, *sleep, y, drawing.scale)?;
         }
@@ -27,19 +30,13 @@ pub(crate) fn push_lanes(text: &mut String, drawing: &Drawing) -> Result<(), All
     Ok(())
 }
 
-/// The number of a lane's goroutine, and its function, from `x` on in the middle of the lane.
-fn push_name(
-    text: &mut String,
-    drawing: &Drawing,
-    lane: &Lane,
-    (x, y): (u64, u64),
-    most: usize,
-) -> Result<(), AllocError> {
-    let (number, base) = (lane.number, y.saturating_add(4));
-    let name = drawing.recording.first_function(lane.function);
-    write!(text, "<text x=\"{x}\" y=\"{base}\">{number} ")?;
+/// The number of a lane's goroutine and its function, and the end of the text.
+fn push_name(text: &mut String, drawing: &Drawing, lane: &Lane) -> Result<(), AllocError> {
+    let number = lane.number;
+    let name = drawing.labels.recording.first_function(lane.function);
+    write!(text, "{number} ")?;
     for (index, letter) in name.chars().enumerate() {
-        if index == most {
+        if index == NAME {
             text.push_str("..")?;
             break;
         }
@@ -91,7 +88,7 @@ fn push_life(text: &mut String, drawing: &Drawing, lane: &Lane, y: u64) -> Resul
             (end, y.saturating_add(8)),
         );
     }
-    if drawing.recording.panics(lane.number) {
+    if drawing.labels.recording.panics(lane.number) {
         return Ok(());
     }
     push_line(text, "on", (end, y), (scale.right(), y))
@@ -105,58 +102,32 @@ fn push_asleep(
     y: u64,
 ) -> Result<(), AllocError> {
     let (since, right) = (drawing.scale.place(asleep.since), drawing.scale.right());
-    if !matches!(drawing.recording.end, Some(End::Deadlock)) {
+    if !matches!(drawing.labels.recording.end, Some(End::Deadlock)) {
         return push_span(text, "sleep", (since, right), y);
     }
     push_span(text, "stuck", (since, right), y)?;
     push_line(text, "tail", (since, y), (right, y))?;
     let (x, base) = (right.saturating_add(8), y.saturating_add(4));
-    let waits = waits_label(drawing, asleep)?;
-    write!(
-        text,
-        "<text class=\"waits\" x=\"{x}\" y=\"{base}\">{waits}</text>\n"
-    )
+    let waits = drawing.labels.wait(asleep)?;
+    write!(text, "<text class=\"waits\" x=\"{x}\" y=\"{base}\">")?;
+    push_escaped(text, waits.as_str())?;
+    text.push_str("</text>\n")
 }
 
-/// What a goroutine waits for, and on which line, as `waits to receive from channel 3 at line 7`.
-pub(crate) fn waits_label(drawing: &Drawing, asleep: &Asleep) -> Result<String, AllocError> {
-    let mut waits = asleep.wait.label(drawing.alloc)?;
-    push_line_number(&mut waits, drawing.recording.line(asleep.site))?;
-    Ok(waits)
-}
-
-/// The names of the lanes once more in each gutter, of those goroutines that are there.
+/// The names of the lanes once more after each screen, above the lines of those goroutines that are there.
 pub(crate) fn push_names(text: &mut String, drawing: &Drawing) -> Result<(), AllocError> {
-    for number in 0..drawing.scale.gutters() {
-        let x = drawing.scale.gutter(number.saturating_add(1));
-        push_gutter(text, drawing, x)?;
-    }
-    Ok(())
-}
-
-/// The names in the gutter that begins at `x`.
-fn push_gutter(text: &mut String, drawing: &Drawing, x: u64) -> Result<(), AllocError> {
     let scale = drawing.scale;
-    for (row, lane) in drawing.lanes.lanes.iter().enumerate() {
-        let (begins, ends) = (scale.place(lane.from), scale.place(lane.to));
-        if begins <= x && (ends > x || !lane.ended) {
-            push_repeated(text, drawing, lane, (x, height(row)))?;
+    let screens = scale.right().saturating_sub(LEFT) / SCREEN;
+    for number in 0..screens {
+        let x = number.saturating_add(1).saturating_mul(SCREEN).saturating_add(LEFT);
+        for (row, lane) in drawing.lanes.lanes.iter().enumerate() {
+            let (begins, ends) = (scale.place(lane.from), scale.place(lane.to));
+            if begins <= x && (ends > x || !lane.ended) {
+                let base = drawing.height(row).saturating_sub(4);
+                write!(text, "<text class=\"again\" x=\"{x}\" y=\"{base}\">")?;
+                push_name(text, drawing, lane)?;
+            }
         }
     }
     Ok(())
-}
-
-/// A name in a gutter, on a white ground.
-fn push_repeated(
-    text: &mut String,
-    drawing: &Drawing,
-    lane: &Lane,
-    (x, y): (u64, u64),
-) -> Result<(), AllocError> {
-    let (from, to) = (
-        x.saturating_add(8),
-        x.saturating_add(GUTTER).saturating_sub(8),
-    );
-    push_span(text, "ground", (from, to), y)?;
-    push_name(text, drawing, lane, (from.saturating_add(4), y), SHORT)
 }

@@ -1,6 +1,6 @@
 //! A run as lanes, one for each goroutine, with what happens in them.
 
-use crate::moves::{Items, Move, Sent, move_of};
+use crate::moves::{ChannelSites, Items, Move, Sent, move_of};
 use crate::recording::{Recording, Site};
 use crate::waits::{Wait, wait_of};
 use go_text::Memory;
@@ -104,6 +104,8 @@ pub(crate) struct Arrow {
     /// The number of the goroutine that it reaches, and the clock there.
     pub to: u64,
     pub reaches: u64,
+    /// The index of the event at which it reaches it.
+    pub event: usize,
 }
 
 /// A run as lanes and arrows, up to some event.
@@ -117,6 +119,8 @@ pub struct Lanes {
     pub(crate) last: u64,
     /// Whether sleeps, arrows and lanes that have ended are kept.
     draws: bool,
+    /// How many events were taken since then.
+    taken: usize,
     items: Items,
 }
 
@@ -140,6 +144,7 @@ impl Lanes {
             arrows: Vec::new(alloc),
             last: 0,
             draws: false,
+            taken: 0,
             items: Items::new(alloc),
         }
     }
@@ -171,6 +176,11 @@ impl Lanes {
         lanes.binary_search_by_key(&number, |lane| lane.number).ok()
     }
 
+    /// Where the channels were made and used first: channel n at index n - 1.
+    pub(crate) fn channel_sites(&self) -> &[ChannelSites] {
+        self.items.sites()
+    }
+
     /// A goroutine begins.
     fn begin(&mut self, number: u64, function: Option<u32>, clock: u64) -> Result<(), Memory> {
         self.lanes
@@ -191,11 +201,25 @@ impl Lanes {
         };
         let later = here.at.saturating_add(1);
         self.last = self.last.max(later);
+        self.items.note_use(&event.request, site);
         self.move_actor(event, site, later)?;
+        self.move_items(event, site, here, later)?;
+        self.taken = self.taken.saturating_add(1);
+        Ok(())
+    }
+
+    /// What an event does to the items on their way, and to the goroutines that it wakes or starts.
+    fn move_items(
+        &mut self,
+        event: &Event,
+        site: Option<Site>,
+        here: Sent,
+        later: u64,
+    ) -> Result<(), Memory> {
         let partners = event.partners.as_slice();
         match move_of(event) {
             Move::Nothing => Ok(()),
-            Move::Channel => self.items.add_channel(),
+            Move::Channel => self.items.add_channel(site),
             Move::Start(function) => self.start(here, function, partners, later),
             Move::Close => self.tell_closed(here, partners, later),
             Move::Send(channel) => self.send(here, channel, partners, later),
@@ -309,6 +333,7 @@ impl Lanes {
                 leaves: from.at,
                 to,
                 reaches,
+                event: self.taken,
             })?;
         }
         Ok(())

@@ -1,9 +1,11 @@
 //! What an event moves from one goroutine to another.
 
+use crate::recording::Site;
 use go_text::Memory;
 use std::alloc::Global;
 use std::collections::VecDeque;
 use word::request::{Case, Event, EventOutcome, Reply, Request};
+use word::value::Item;
 
 /// What an event moves. A channel is named by its number, counted from 1.
 #[derive(Clone, Copy)]
@@ -68,6 +70,57 @@ pub(crate) fn channel_of(cases: &[Case], number: usize) -> Option<u32> {
     }
 }
 
+/// An item that a goroutine sends to a channel, or receives from it.
+#[derive(Clone, Copy)]
+pub struct Transfer<'a> {
+    /// The channel by its number, counted from 1; `None` is `nil`.
+    pub channel: Option<u32>,
+    pub item: &'a Item,
+    /// Whether it sends; else it receives.
+    pub sends: bool,
+}
+
+/// The item that an event sends or receives, or would send. A channel that is closed and empty gives none.
+pub fn transfer_of(event: &Event) -> Option<Transfer<'_>> {
+    match (&event.request, &event.outcome) {
+        (Request::Send(channel, item), _) => Some(Transfer {
+            channel: *channel,
+            item,
+            sends: true,
+        }),
+        (Request::Receive(channel), EventOutcome::Done(Reply::Received(item, true))) => {
+            Some(Transfer {
+                channel: *channel,
+                item,
+                sends: false,
+            })
+        }
+        (Request::Select(cases, _), EventOutcome::Done(Reply::Clause(number, received))) => {
+            clause_transfer(cases.as_slice(), *number, received.as_ref())
+        }
+        _ => None,
+    }
+}
+
+/// The item that a select sends or receives in the clause of this number, counted from 1.
+fn clause_transfer<'a>(
+    cases: &'a [Case],
+    number: usize,
+    received: Option<&'a (Item, bool)>,
+) -> Option<Transfer<'a>> {
+    let case = cases.get(number.checked_sub(1)?)?;
+    let (item, sends) = match received {
+        Some((item, true)) => (item, false),
+        Some((_, false)) => return None,
+        None => (case.item.as_ref()?, true),
+    };
+    Some(Transfer {
+        channel: case.chan,
+        item,
+        sends,
+    })
+}
+
 /// An item on its way: the goroutine that sent it, and the clock there.
 #[derive(Clone, Copy)]
 pub(crate) struct Sent {
@@ -75,11 +128,20 @@ pub(crate) struct Sent {
     pub at: u64,
 }
 
+/// The instructions at which a channel was made, and at which it was used first, if they are known.
+#[derive(Clone, Copy)]
+pub(crate) struct ChannelSites {
+    pub made: Option<Site>,
+    pub used: Option<Site>,
+}
+
 /// The items on their way, of each channel the first one sent first: they come out in that order.
 #[derive(Drop)]
 pub(crate) struct Items {
     alloc: Global,
     channels: Vec<VecDeque<Sent>>,
+    /// Channel n, at index n - 1.
+    sites: Vec<ChannelSites>,
 }
 
 impl Items {
@@ -88,6 +150,7 @@ impl Items {
         Items {
             alloc,
             channels: Vec::new(alloc),
+            sites: Vec::new(alloc),
         }
     }
 
@@ -97,13 +160,37 @@ impl Items {
         for items in self.channels.iter() {
             copy.channels.push(moved(self.alloc, items, clock)?)?;
         }
+        for sites in self.sites.iter() {
+            copy.sites.push(*sites)?;
+        }
         Ok(copy)
     }
 
-    /// There is one more channel, with nothing in it.
-    pub(crate) fn add_channel(&mut self) -> Result<(), Memory> {
+    /// There is one more channel, with nothing in it, that this instruction made.
+    pub(crate) fn add_channel(&mut self, made: Option<Site>) -> Result<(), Memory> {
         self.channels.push(VecDeque::new(self.alloc))?;
+        self.sites.push(ChannelSites { made, used: None })?;
         Ok(())
+    }
+
+    /// Where the channels were made and used first: channel n at index n - 1.
+    pub(crate) fn sites(&self) -> &[ChannelSites] {
+        self.sites.as_slice()
+    }
+
+    /// This instruction makes a request to a channel.
+    pub(crate) fn note_use(&mut self, request: &Request, site: Option<Site>) {
+        let channel = match request {
+            Request::Send(channel, _) | Request::Receive(channel) | Request::Close(channel) => {
+                *channel
+            }
+            _ => None,
+        };
+        if let Some(sites) = self.sites.get_mut(index_of(channel)) {
+            if sites.used.is_none() {
+                sites.used = site;
+            }
+        }
     }
 
     /// An item goes into a channel.

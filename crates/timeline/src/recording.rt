@@ -2,16 +2,76 @@
 
 ghost use Rattle.std.specs.Prelude.{◌≡◌};
 
+use crate::label::Labels;
 use crate::lanes::Lanes;
-use std::alloc::AllocError;
+use crate::names::{Mention, Names};
+use go_text::Memory;
+use std::alloc::{AllocError, Global};
 use word::end::End;
 use word::request::Event;
+
+/// At how many instructions the channels of a recording are looked up at most.
+const MOST_SITES: usize = 500;
 
 /// An instruction of a program: the number of its function, and its index there.
 #[derive(Clone, Copy)]
 pub struct Site {
     pub function: usize,
     pub index: usize,
+}
+
+impl Site {
+    /// A number that grows from each instruction of a program to the next one.
+    pub(crate) fn key(self) -> u64 {
+        (self.function as u64)
+            .saturating_mul(1 << 32)
+            .saturating_add(self.index as u64)
+    }
+}
+
+/// A goroutine waits before a request, since the plan of its run says so.
+#[derive(Clone, Copy)]
+pub struct Pause {
+    /// The number of the goroutine.
+    pub goroutine: u64,
+    /// The clock at which the pause begins.
+    pub from: u64,
+    pub ticks: u64,
+}
+
+/// What is known of a recorded run, except for its events.
+pub struct Notes {
+    /// For each function, the lines of the source file, counted from 1, from which its instructions come; none if they are not
+    /// known.
+    pub lines: Vec<Vec<u32>>,
+    /// What the program says where it makes or uses channels, in the order of the instructions.
+    pub mentions: Vec<Mention>,
+    /// The pauses of a run by a plan.
+    pub pauses: Vec<Pause>,
+}
+
+impl Notes {
+    /// Nothing is known.
+    pub fn none(alloc: Global) -> Notes {
+        Notes {
+            lines: Vec::new(alloc),
+            mentions: Vec::new(alloc),
+            pauses: Vec::new(alloc),
+        }
+    }
+}
+
+impl Drop for Notes {
+    fn drop(self) {
+        let Notes {
+            lines,
+            mentions,
+            pauses,
+        } = self;
+        drop(lines);
+        drop(mentions);
+        drop(pauses);
+    }
 }
 
 /// Events of a run that follow each other, and what there was before them.
@@ -26,9 +86,7 @@ pub struct Recording {
     pub events: Vec<Event>,
     /// For each event, the instruction that made its request, if it is known.
     pub sites: Vec<Option<Site>>,
-    /// For each function, the lines of the source file, counted from 1, from which its instructions come; none if they are not
-    /// known.
-    pub lines: Vec<Vec<u32>>,
+    pub notes: Notes,
     /// How the run ended, if it had no more events; none if it goes on.
     pub end: Option<End>,
 }
@@ -41,20 +99,20 @@ impl Drop for Recording {
             past,
             events,
             sites,
-            lines,
+            notes,
             end: _,
         } = self;
         drop(functions);
         drop(past);
         drop(events);
         drop(sites);
-        drop(lines);
+        drop(notes);
     }
 }
 
 impl Recording {
-    /// This recording, of a program whose instructions come from `lines`.
-    pub fn with_lines(self, lines: Vec<Vec<u32>>) -> Recording
+    /// This recording, with these notes in place of its own.
+    pub fn with_notes(self, notes: Notes) -> Recording
         ensures { (result.before ≡ self.before) × (result.events.items ≡ self.events.items) × (result.end ≡ self.end) }
     {
         let Recording {
@@ -63,18 +121,55 @@ impl Recording {
             past,
             events,
             sites,
-            lines: unknown,
+            notes: others,
             end,
         } = self;
-        drop(unknown);
+        drop(others);
         Recording {
             functions,
             before,
             past,
             events,
             sites,
-            lines,
+            notes,
             end,
+        }
+    }
+
+    /// The instructions at which the channels of the recording are made, and at which they are used first, in their order and each
+    /// once. Of very many instructions some are left out.
+    ///
+    /// Errors: out of memory.
+    pub fn channel_sites(&self, alloc: Global) -> Result<Vec<Site>, Memory> {
+        let lanes = Lanes::of(alloc, self)?;
+        let mut sites: Vec<Site> = Vec::new(alloc);
+        for channel in lanes.channel_sites() {
+            for site in [channel.made, channel.used].iter().flatten() {
+                let key = site.key();
+                if sites.len() < MOST_SITES {
+                    if let Err(index) = sites.binary_search_by_key(&key, |one| one.key()) {
+                        sites.insert(index.min(sites.len()), *site)?;
+                    }
+                }
+            }
+        }
+        Ok(sites)
+    }
+
+    /// The event at this index in words, as `sends 3 on orders`; `None` if there is none.
+    ///
+    /// Errors: out of memory.
+    pub fn event_words(&self, alloc: Global, index: usize) -> Result<Option<String>, Memory> {
+        let lanes = Lanes::of(alloc, self)?;
+        let names = Names::of(alloc, self, &lanes)?;
+        let labels = Labels {
+            alloc,
+            recording: self,
+            names: &names,
+        };
+        match self.events.get(index) {
+            Some(event) => Ok(Some(labels.event(event)?)),
+            None => Ok(None),
         }
     }
 
@@ -97,7 +192,8 @@ impl Recording {
     /// The line of the source file from which an instruction comes, if it is known.
     pub(crate) fn line(&self, site: Option<Site>) -> Option<u32> {
         let site = site?;
-        self.lines.get(site.function)?.get(site.index).copied()
+        let lines = self.notes.lines.get(site.function)?;
+        lines.get(site.index).copied()
     }
 
     /// The line of the source file at which the event at this index happened, if it is known.

@@ -16,17 +16,13 @@ const LONGEST: [u64; 4] = [8, 4, 2, 1];
 /// How many units are drawn at least.
 const LEAST: u64 = 44;
 
-/// How wide a screen is, after which a gutter comes for the names of the lanes, in pixels.
-const SCREEN: u64 = 1_200;
-
-/// How wide a gutter is, in pixels.
-pub(crate) const GUTTER: u64 = 110;
-
 /// A clock at which something happens, and how many units lie before it.
 #[derive(Clone, Copy)]
 pub(crate) struct Stop {
     pub clock: u64,
     pub units: u64,
+    /// How many ticks passed since the stop before, if their length was cut.
+    pub cut: Option<u64>,
 }
 
 /// Logical time in pixels: in proportion, but that long times without an event are cut short.
@@ -68,14 +64,17 @@ impl Scale {
         let mut last = Stop {
             clock: origin,
             units: 0,
+            cut: None,
         };
         let mut stops = Vec::new(alloc);
         for event in recording.events.iter() {
             let clock = event.clock.time();
             if clock > last.clock {
+                let ticks = clock.saturating_sub(last.clock);
                 last = Stop {
                     clock,
                     units: units_at(last, clock, longest),
+                    cut: (ticks > longest).then_some(ticks),
                 };
                 stops.push(last)?;
             }
@@ -104,27 +103,19 @@ impl Scale {
             None => Stop {
                 clock: self.origin,
                 units: 0,
+                cut: None,
             },
         }
     }
 
-    /// How far from the left this many pixels of lanes end, with the gutters between them.
+    /// How far from the left this many pixels of lanes end.
     fn column(&self, pixels: u64) -> u64 {
-        let gutters = (pixels / SCREEN).saturating_mul(GUTTER);
-        self.left.saturating_add(pixels).saturating_add(gutters)
+        self.left.saturating_add(pixels)
     }
 
-    /// How many gutters there are.
-    pub(crate) fn gutters(&self) -> u64 {
-        self.pixels(self.units) / SCREEN
-    }
-
-    /// How far the gutter of this number, counted from 1, begins from the left, in pixels.
-    pub(crate) fn gutter(&self, number: u64) -> u64 {
-        let before = number.saturating_sub(1).saturating_mul(GUTTER);
-        self.left
-            .saturating_add(number.saturating_mul(SCREEN))
-            .saturating_add(before)
+    /// Half of the pixels that a stretch whose length was cut takes.
+    pub(crate) fn half_of_cut(&self) -> u64 {
+        self.pixels(self.longest) / 2
     }
 
     /// How wide this many units are, in pixels.

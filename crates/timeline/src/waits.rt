@@ -1,5 +1,6 @@
 //! What a goroutine waits for.
 
+use crate::names::Names;
 use go_text::Memory;
 use std::alloc::{AllocError, Global};
 use word::request::{Case, Request};
@@ -33,12 +34,12 @@ impl Wait {
         })
     }
 
-    /// What it waits for in words, as `waits to receive from channel 3`.
-    pub(crate) fn label(&self, alloc: Global) -> Result<String, AllocError> {
+    /// What it waits for in words, as `waits to receive from orders`.
+    pub(crate) fn label(&self, alloc: Global, names: &Names<'_>) -> Result<String, AllocError> {
         let mut label = String::from_str(alloc, "waits ")?;
         match self {
-            Wait::One(clause) => push_clause(&mut label, *clause)?,
-            Wait::Select(clauses) => push_select(&mut label, clauses.as_slice())?,
+            Wait::One(clause) => push_clause(&mut label, names, *clause)?,
+            Wait::Select(clauses) => push_select(&mut label, names, clauses.as_slice())?,
         }
         Ok(label)
     }
@@ -80,13 +81,17 @@ pub(crate) fn clause_of(case: &Case) -> Clause {
 /// What a clause does to its channel.
 pub(crate) fn label_of(clause: Clause) -> &'static str {
     if clause.sends {
-        return "sends to";
+        return "sends on ";
     }
-    "receives from"
+    "receives from "
 }
 
-/// The clauses of a select, as `to receive from channel 3 or to send to channel 4`.
-fn push_select(label: &mut String, clauses: &[Clause]) -> Result<(), AllocError> {
+/// The clauses of a select, as `to receive from orders or to send on quit`.
+fn push_select(
+    label: &mut String,
+    names: &Names<'_>,
+    clauses: &[Clause],
+) -> Result<(), AllocError> {
     let count = clauses.len();
     if count == 0 {
         return label.push_str("in a select without clauses");
@@ -98,20 +103,17 @@ fn push_select(label: &mut String, clauses: &[Clause]) -> Result<(), AllocError>
         if index > 0 {
             label.push_str(" or ")?;
         }
-        push_clause(label, *clause)?;
+        push_clause(label, names, *clause)?;
     }
     Ok(())
 }
 
-/// A clause, as `to receive from channel 3`.
-fn push_clause(label: &mut String, clause: Clause) -> Result<(), AllocError> {
-    let what = if clause.sends {
-        "to send to"
+/// A clause, as `to receive from orders`.
+fn push_clause(label: &mut String, names: &Names<'_>, clause: Clause) -> Result<(), AllocError> {
+    label.push_str(if clause.sends {
+        "to send on "
     } else {
-        "to receive from"
-    };
-    match clause.channel {
-        Some(number) => write!(label, "{what} channel {number}"),
-        None => write!(label, "{what} a nil channel"),
-    }
+        "to receive from "
+    })?;
+    names.push_channel(label, clause.channel)
 }

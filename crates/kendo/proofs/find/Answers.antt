@@ -12,9 +12,6 @@ returns-in-List g c = subst (λ (s : Subcommand). FindsPlainly s c.args.bytes.it
 pub returns-in-Reference : goal.returns-in-Reference
 returns-in-Reference g c = subst (λ (s : Subcommand). FindsPlainly s c.args.bytes.items c.interpret.result) (sym c.in-Reference.is) c.interpret.ensures
 
-pub returns-in-Timeline : goal.returns-in-Timeline
-returns-in-Timeline g c = subst (λ (s : Subcommand). FindsPlainly s c.args.bytes.items c.picture.result) (sym c.in-Timeline.is) c.picture.ensures
-
 pub returns-in-Inspect : goal.returns-in-Inspect
 returns-in-Inspect g c = subst (λ (s : Subcommand). FindsPlainly s c.args.bytes.items c.inspect.result) (sym c.in-Inspect.is) c.inspect.ensures
 
@@ -22,4 +19,4 @@ pub returns-in-Paused : goal.returns-in-Paused
 returns-in-Paused g c = subst (λ (s : Subcommand). FindsPlainly s c.args.bytes.items c.pause.result) (sym c.in-Paused.is) c.pause.ensures
 
 pub returns-in-Run : goal.returns-in-Run
-returns-in-Run g c = subst (λ (s : Subcommand). FindsPlainly s c.args.bytes.items c.run_text.result) (sym c.in-Run.is) c.run_text.ensures.found
+returns-in-Run g c = subst (λ (s : Subcommand). FindsPlainly s c.args.bytes.items c.run_valued.result) (sym c.in-Run.is) c.run_valued.ensures

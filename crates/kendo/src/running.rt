@@ -1,0 +1,60 @@
+//! Runs, and the values of their events.
+
+ghost use Rattle.std.specs.Prelude.{◌≡◌, ◌⊎◌, IfErr};
+ghost use Rattle.command_line.specs.declared.arguments.Subcommand.TheVariants as subcommands;
+ghost use Rattle.kendo_shell.specs.Answers.{Finds};
+
+use command_line::arguments::Invocation;
+use go_text::Fault;
+use kendo_base::run_text;
+use kendo_shell::tracing::{Outputs, Trace};
+use pauses::Plan;
+use run_values::write_values;
+use std::alloc::Global;
+use std::sync::Wait;
+use std::thread::Threads;
+use word::end::End;
+
+/// Runs the program, like `run_text`. If the command names a file for the values, they are written after the run.
+pub(crate) fn run_valued(
+    threads: &(impl Threads + Wait + Sync),
+    alloc: Global,
+    bytes: Vec<u8>,
+    workers: u64,
+    limit: u64,
+    invocation: &Invocation<'_, '_>,
+    outputs: &mut Outputs,
+) -> Result<End, Fault>
+    ensures { Finds (subcommands.Run workers limit) bytes.items result }
+{
+    if invocation.values.is_none() {
+        return run_text(threads, alloc, bytes, workers, limit, outputs);
+    }
+    let text = bytes.clone()?;
+    let end = run_text(threads, alloc, bytes, workers, limit, outputs)?;
+    let plan = Plan {
+        pauses: Vec::new(alloc),
+    };
+    write(alloc, text, &plan, limit, &mut outputs.values)?;
+    Ok(end)
+}
+
+/// Writes what the events of a program's run by a plan send, receive and print, if there is a file for it. The program was run before,
+/// so it has a reading, and its limit is within its bounds.
+///
+/// Errors: `Memory`; `Write`.
+pub(crate) fn write(
+    alloc: Global,
+    bytes: Vec<u8>,
+    plan: &Plan,
+    limit: u64,
+    values: &mut Trace,
+) -> Result<(), Fault>
+    ensures { IfErr result (λ fault. (fault ≡ Fault.Memory) ⊎ (fault ≡ Fault.Write)) }
+{
+    match write_values(alloc, bytes, plan, limit, values) {
+        Ok(()) => Ok(()),
+        Err(Fault::Write) => Err(Fault::Write),
+        Err(_) => Err(Fault::Memory),
+    }
+}

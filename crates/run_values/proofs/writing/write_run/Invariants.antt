@@ -1,0 +1,12 @@
+use Rattle.std.proofs.Common.{◌≡◌}
+use Rattle.word.specs.Related.{kind_of}
+use Rattle.one_thread.specs.Histories.{IsReady}
+use Rattle.run_values.proofs.Lines.{HasLined}
+use Rattle.run_values.proofs.writing.write_run.Given as goal
+
+abbrev pub invariant-loop : goal.invariant-loop
+invariant-loop g l = record {
+  ready : IsReady l.run;
+  limit : l.run.limit ≡ l.limit;
+  written : HasLined (kind_of (g.P.Interpreter.parts l.program)) (g.P.Interpreter.held l.program) l.run (g.W.Write.contents l.initial.values) (g.W.Write.contents l.values);
+}
