@@ -47,11 +47,7 @@ pub fn mention_at(
 /// How Go writes the items of the channels that are made at a node; `None` if none are.
 ///
 /// Errors: out of memory.
-pub fn form_at(
-    alloc: Global,
-    file: &FileNode,
-    node: NodeId,
-) -> Result<Option<ItemForm>, Memory> {
+pub fn form_at(alloc: Global, file: &FileNode, node: NodeId) -> Result<Option<ItemForm>, Memory> {
     let walk = units_at(alloc, file, node);
     let Some(found) = walk.found.first().copied() else {
         return Ok(None);
@@ -75,11 +71,7 @@ fn text_of(said: Words) -> Result<Option<String>, Memory> {
 }
 
 /// How Go writes the items of channels of this type.
-fn items_of(
-    alloc: Global,
-    file: &FileNode,
-    made: &TypeNode,
-) -> Result<Option<ItemForm>, Memory> {
+fn items_of(alloc: Global, file: &FileNode, made: &TypeNode) -> Result<Option<ItemForm>, Memory> {
     match made {
         TypeNode::Channel(_, element) => form_of(alloc, file.tops.as_slice(), element),
         _ => Ok(None),
@@ -94,9 +86,10 @@ fn push_operand(said: &mut Words, unit: Unit<'_>) {
         _ => return,
     };
     match simple {
-        SimpleNode::Send(channel, _) | SimpleNode::Receive(channel) | SimpleNode::Close(channel) => {
-            push_expression(said, channel);
-        }
+        SimpleNode::Send(channel, _) | SimpleNode::Receive(channel) | SimpleNode::Close(channel) =>
+            {
+                push_expression(said, channel);
+            }
         _ => {}
     }
 }
@@ -106,7 +99,11 @@ fn push_target(said: &mut Words, alloc: Global, unit: Unit<'_>, operation: usize
     match unit {
         Unit::Simple(simple) | Unit::Leaf(StatementNode::Simple(simple)) => match simple {
             SimpleNode::Define(names, right) => {
-                push_name(said, names.as_slice(), value_of(alloc, right.as_slice(), operation));
+                push_name(
+                    said,
+                    names.as_slice(),
+                    value_of(alloc, right.as_slice(), operation),
+                );
             }
             SimpleNode::Assign(places, right) => {
                 let value = value_of(alloc, right.as_slice(), operation);
@@ -119,7 +116,11 @@ fn push_target(said: &mut Words, alloc: Global, unit: Unit<'_>, operation: usize
         Unit::Leaf(
             StatementNode::Typed(names, _, Some(right)) | StatementNode::Untyped(names, right),
         ) => {
-            push_name(said, names.as_slice(), value_of(alloc, right.as_slice(), operation));
+            push_name(
+                said,
+                names.as_slice(),
+                value_of(alloc, right.as_slice(), operation),
+            );
         }
         _ => {}
     }

@@ -56,7 +56,9 @@ pub(crate) fn form_in(
     rows: &[Row<'_, '_>],
     channel: Option<u32>,
 ) -> Result<Option<ItemForm>, Memory> {
-    let held = rows.iter().find_map(|row| element_in(row, Word::Chan(channel)));
+    let held = rows
+        .iter()
+        .find_map(|row| element_in(row, Word::Chan(channel)));
     match (channel, held) {
         (Some(_), Some(element)) => {
             form_of(scene.alloc, scene.tree.file().tops.as_slice(), element)

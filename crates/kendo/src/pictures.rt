@@ -43,7 +43,13 @@ pub(crate) fn draw_file(
         return Ok(USAGE);
     };
     plan.compare_source(rt, alloc, file, source.bytes.as_slice())?;
-    let kept = kept_program(alloc, invocation, file, Some(&plan.plan), source.bytes.as_slice());
+    let kept = kept_program(
+        alloc,
+        invocation,
+        file,
+        Some(&plan.plan),
+        source.bytes.as_slice(),
+    );
     let mut outputs = Outputs::new(rt, Trace::Dropped);
     let task = Task {
         rt,

@@ -17,13 +17,12 @@ use Rattle.word.specs.Worlds.{end_of, moment}
 
 -- one line more
 one_more : (bytes line : List ℕ) (count : ℕ) → AreLines bytes count → IsLine line → AreLines (bytes ++ line) (count + 1)
-one_more bytes line count (lines, counts, are, joined) is =
-    (
-      lines ++ line ∷ [],
-      length-append lines (line ∷ []) ∙ ap (λ (n : ℕ). n + 1) counts,
-      All-push IsLine lines line are is,
-      ap (λ (bs : List ℕ). bs ++ line) joined ∙ sym (flat_map-append (λ (l : List ℕ). l) lines (line ∷ []) ∙ ap (λ (l : List ℕ). flat_map (λ (l : List ℕ). l) lines ++ l) (append-nil line)),
-    )
+one_more bytes line count (lines, counts, are, joined) is = (
+  lines ++ line ∷ [],
+  length-append lines (line ∷ []) ∙ ap (λ (n : ℕ). n + 1) counts,
+  All-push IsLine lines line are is,
+  ap (λ (bs : List ℕ). bs ++ line) joined ∙ sym (flat_map-append (λ (l : List ℕ). l) lines (line ∷ []) ∙ ap (λ (l : List ℕ). flat_map (λ (l : List ℕ). l) lines ++ l) (append-nil line)),
+)
 
 module _ {S : Type 0} (K : GoroutineKind) (held : S → K.State) where
   -- of a run that had these events, a line for each was written after what was known

@@ -40,11 +40,10 @@ impl<'t> Forms<'t> {
     ///
     /// Errors: out of memory.
     pub(crate) fn take(&mut self, event: &Event, node: NodeId) -> Result<(), Memory> {
-        if let (
-            Request::Make(_, _),
-            EventOutcome::Done(Reply::Word(Word::Chan(Some(_)))),
-        ) = (&event.request, &event.outcome)
-        {
+        if let (Request::Make(_, _), EventOutcome::Done(Reply::Word(Word::Chan(Some(_))))) = (
+            &event.request,
+            &event.outcome,
+        ) {
             let maker = self.maker(node)?;
             self.channels.push(maker)?;
         }

@@ -10,7 +10,12 @@ pub(crate) fn push_arrows(text: &mut String, drawing: &Drawing) -> Result<(), Al
     let lanes = drawing.lanes;
     for arrow in lanes.arrows.iter() {
         if let (Some(from), Some(to)) = (lanes.row(arrow.from), lanes.row(arrow.to)) {
-            push_arrow(text, drawing, *arrow, (drawing.height(from), drawing.height(to)))?;
+            push_arrow(
+                text,
+                drawing,
+                *arrow,
+                (drawing.height(from), drawing.height(to)),
+            )?;
         }
     }
     Ok(())

@@ -105,7 +105,12 @@ pub(crate) fn draw(alloc: Global, recording: &Recording) -> Result<String, Memor
 /// The lanes with what happens in them, the axes, and what is around them.
 fn push_all(text: &mut String, drawing: &Drawing) -> Result<(), AllocError> {
     push_head(text, drawing)?;
-    push_axis(text, drawing.height(0).saturating_sub(20), true, drawing.scale)?;
+    push_axis(
+        text,
+        drawing.height(0).saturating_sub(20),
+        true,
+        drawing.scale,
+    )?;
     push_lanes(text, drawing)?;
     push_pauses(text, drawing)?;
     push_names(text, drawing)?;
@@ -155,7 +160,9 @@ fn margin(drawing: &Drawing) -> Result<u64, AllocError> {
 /// Which events are shown, and how the run ended.
 fn push_caption(text: &mut String, drawing: &Drawing) -> Result<(), AllocError> {
     let Labels {
-        alloc, recording, ..
+        alloc,
+        recording,
+        ..
     } = drawing.labels;
     let count = count_label(alloc, recording)?;
     let ends = end_label(alloc, recording.end)?;
@@ -261,7 +268,10 @@ fn push_break(text: &mut String, stop: Stop, y: u64, scale: &Scale) -> Result<()
     if half < BREAK {
         return Ok(());
     }
-    let (x, top) = (scale.place(stop.clock).saturating_sub(half), y.saturating_sub(4));
+    let (x, top) = (
+        scale.place(stop.clock).saturating_sub(half),
+        y.saturating_sub(4),
+    );
     write!(
         text,
         "<path class=\"break\" d=\"M{x} {top}m-4 8l4 -8m0 8l4 -8\"><title>{ticks} ticks, cut short</title></path>\n"
@@ -294,7 +304,9 @@ fn push_tick(text: &mut String, clock: u64, x: u64, axis: Axis) -> Result<(), Al
 fn push_edges(text: &mut String, drawing: &Drawing) -> Result<(), AllocError> {
     let right = drawing.scale.right();
     let Labels {
-        alloc, recording, ..
+        alloc,
+        recording,
+        ..
     } = drawing.labels;
     let before = recording.before;
     if before > 0 {

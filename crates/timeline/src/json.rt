@@ -214,7 +214,9 @@ fn push_flow_end(
 /// How the run ended, and the name of the whole, which comes last.
 fn push_end(text: &mut String, labels: Labels<'_>, last: u64) -> Result<(), AllocError> {
     let Labels {
-        alloc, recording, ..
+        alloc,
+        recording,
+        ..
     } = labels;
     let ends = end_label(alloc, recording.end)?;
     let count = count_label(alloc, recording)?;

@@ -103,7 +103,9 @@ impl Key {
             y = y.saturating_add(ROW);
         }
         self.rows = y.saturating_sub(FIRST) / ROW + 1;
-        self.entries.push(Entry { x, y, ..entry }).map_err(AllocError::from)
+        self.entries
+            .push(Entry { x, y, ..entry })
+            .map_err(AllocError::from)
     }
 
     /// The index of the color of a channel, if an item of it is drawn.

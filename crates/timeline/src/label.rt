@@ -1,9 +1,9 @@
 //! What an event is, in words.
 
+use crate::lanes::Asleep;
 use crate::moves::{Transfer, channel_of, transfer_of};
 use crate::names::Names;
 use crate::recording::{Recording, push_line_number};
-use crate::lanes::Asleep;
 use crate::waits::{clause_of, label_of};
 use std::alloc::{AllocError, Global};
 use std::str;

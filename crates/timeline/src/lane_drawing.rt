@@ -119,7 +119,10 @@ pub(crate) fn push_names(text: &mut String, drawing: &Drawing) -> Result<(), All
     let scale = drawing.scale;
     let screens = scale.right().saturating_sub(LEFT) / SCREEN;
     for number in 0..screens {
-        let x = number.saturating_add(1).saturating_mul(SCREEN).saturating_add(LEFT);
+        let x = number
+            .saturating_add(1)
+            .saturating_mul(SCREEN)
+            .saturating_add(LEFT);
         for (row, lane) in drawing.lanes.lanes.iter().enumerate() {
             let (begins, ends) = (scale.place(lane.from), scale.place(lane.to));
             if begins <= x && (ends > x || !lane.ended) {

@@ -106,7 +106,9 @@ impl<'a> Names<'a> {
         let made = self.mention_at(made);
         let name = match made {
             Some(index) if self.name_of(index).is_some() => made,
-            _ => self.mention_at(used).filter(|index| self.name_of(*index).is_some()),
+            _ => self
+                .mention_at(used)
+                .filter(|index| self.name_of(*index).is_some()),
         };
         Known { name, form: made }
     }
