@@ -28,20 +28,35 @@ pub fn mention_at(
     let Some(found) = walk.found.first().copied() else {
         return Ok(mention);
     };
-    let operations = Operations::of(alloc, found);
     let mut said = Words::new(alloc);
-    let index = operations.list.iter().position(|one| one.node == node);
-    let operation = index.and_then(|index| operations.list.get(index));
-    match (operation.map(|one| one.expression), index) {
-        (Some(ExpressionNode::Make(made) | ExpressionNode::MakeSized(made, _)), Some(index)) => {
-            push_target(&mut said, alloc, found.unit, index);
-            mention.form = items_of(alloc, file, made)?;
-        }
-        (Some(ExpressionNode::Receive(channel)), _) => push_expression(&mut said, channel),
-        _ => push_operand(&mut said, found.unit),
-    }
+    mention.form = push_used(&mut said, alloc, file, found, node)?;
     mention.name = text_of(said)?;
     Ok(mention)
+}
+
+/// Appends what the program calls the channel that a unit uses at a node. If it makes it there, returns how Go writes its items.
+fn push_used(
+    said: &mut Words,
+    alloc: Global,
+    file: &FileNode,
+    found: Found<'_>,
+    node: NodeId,
+) -> Result<Option<ItemForm>, Memory> {
+    let operations = Operations::of(alloc, found);
+    for (index, operation) in operations.list.iter().enumerate() {
+        if operation.node == node {
+            if let Some(made) = made_type(operation.expression) {
+                push_target(said, alloc, found.unit, index);
+                return items_of(alloc, file, made);
+            }
+            if let ExpressionNode::Receive(channel) = operation.expression {
+                push_expression(said, channel);
+                return Ok(None);
+            }
+        }
+    }
+    push_operand(said, found.unit);
+    Ok(None)
 }
 
 /// How Go writes the items of the channels that are made at a node; `None` if none are.
@@ -53,12 +68,22 @@ pub fn form_at(alloc: Global, file: &FileNode, node: NodeId) -> Result<Option<It
         return Ok(None);
     };
     let operations = Operations::of(alloc, found);
-    let operation = operations.list.iter().find(|one| one.node == node);
-    match operation.map(|one| one.expression) {
-        Some(ExpressionNode::Make(made) | ExpressionNode::MakeSized(made, _)) => {
-            items_of(alloc, file, made)
+    for operation in operations.list.iter() {
+        if operation.node == node {
+            return match made_type(operation.expression) {
+                Some(made) => items_of(alloc, file, made),
+                None => Ok(None),
+            };
         }
-        _ => Ok(None),
+    }
+    Ok(None)
+}
+
+/// The type of the value that an expression makes; `None` if it makes none.
+fn made_type(expression: &ExpressionNode) -> Option<&TypeNode> {
+    match expression {
+        ExpressionNode::Make(made) | ExpressionNode::MakeSized(made, _) => Some(made),
+        _ => None,
     }
 }
 
@@ -153,7 +178,6 @@ fn value_of(alloc: Global, values: &[ExpressionNode], operation: usize) -> Optio
 fn is_made(value: &ExpressionNode) -> bool {
     match value {
         ExpressionNode::Parenthesized(inner) => is_made(inner),
-        ExpressionNode::Make(_) | ExpressionNode::MakeSized(_, _) => true,
-        _ => false,
+        _ => made_type(value).is_some(),
     }
 }
