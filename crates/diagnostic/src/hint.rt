@@ -8,12 +8,10 @@ use go_text::{Fault, Place, Rule};
 use std::alloc::Global;
 use typing_rules::violation::Violation;
 
-/// Appends `hint: ` and what to write instead, with a newline, if that is known.
+/// Writes what to write instead, if that is known, to `said`, which is empty.
 pub(crate) fn push_hint(alloc: Global, said: &mut Words, text: &str, fault: &Fault) {
     if let Some(hint) = hint_of(text, fault) {
-        said.text("hint: ");
         said.text(hint);
-        said.text("\n");
     } else if let Fault::Typing { rule, node, .. } = *fault {
         push_meant(alloc, said, text, Violation::Broken(rule, node));
     }
@@ -28,9 +26,9 @@ fn push_meant(alloc: Global, said: &mut Words, text: &str, violation: Violation)
     }
     match near.into_bytes() {
         Ok(name) => {
-            said.text("hint: did you mean ");
+            said.text("did you mean ");
             said.bytes(name.as_slice());
-            said.text("?\n");
+            said.text("?");
         }
         Err(_) => said.refuse(),
     }

@@ -4,7 +4,6 @@ use crate::expected::{Expected, push_expected};
 use crate::nesting::Nesting;
 use crate::site::{Site, piece_at};
 use crate::trouble::Trouble;
-use diagnostic_words::excerpt::push_excerpt;
 use diagnostic_words::words::Words;
 use go_text::{Fault, Memory, Place, Source};
 use scanner::{Token, scan};
@@ -45,10 +44,15 @@ fn found_at(text: &str, place: Place) -> &str {
     }
 }
 
-/// Appends what was found at a syntax error, what was expected, its line, and a hint.
+/// Appends what was found at a syntax error and what was expected to `message`, and what to write instead, if that is known, to `hint`.
+///
+/// # Errors
+///
+/// `Memory` if memory is refused.
 pub fn push_syntax(
     alloc: Global,
-    said: &mut Words,
+    message: &mut Words,
+    hint: &mut Words,
     text: &str,
     place: Place,
 ) -> Result<(), Memory> {
@@ -56,20 +60,16 @@ pub fn push_syntax(
     let site = Site::new(text, tokens.as_slice(), place);
     let nesting = Nesting::of(alloc, &site)?;
     let expected = Expected::at(alloc, &site, &nesting)?;
-    said.text("syntax error: unexpected ");
-    said.text(found_at(text, place));
-    push_expected(said, &site, &nesting, &expected)?;
-    said.text("\n");
-    push_excerpt(said, text, place.span);
+    message.text("syntax error: unexpected ");
+    message.text(found_at(text, place));
+    push_expected(message, &site, &nesting, &expected)?;
     let trouble = Trouble {
         site,
         expected: &expected,
         nesting: &nesting,
     };
-    if let Some(hint) = trouble.hint() {
-        said.text("hint: ");
-        hint.push(said);
-        said.text("\n");
+    if let Some(known) = trouble.hint() {
+        known.push(hint);
     }
     Ok(())
 }

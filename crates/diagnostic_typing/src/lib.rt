@@ -14,5 +14,5 @@ mod text;
 mod typing;
 
 pub use reading::fault_of;
-pub use several::{Other, OtherList, others};
+pub use several::{Other, OtherList, blanked, others};
 pub use typing::{push_near, push_violation};

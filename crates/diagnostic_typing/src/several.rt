@@ -28,14 +28,14 @@ const MOST_ROUNDS: usize = 60;
 /// How many words the variables of a function may take.
 const MOST_WORDS: usize = 4096;
 
-/// A violation, and the program that has it as its first one. Its locations are those of the whole program.
+/// A fault, and the program that has it as its first one. Its locations are those of the whole program.
 #[derive(Drop)]
 pub struct Other {
     pub fault: Fault,
     pub text: String,
 }
 
-/// Violations of a program, but for the first one.
+/// What is wrong with a program, but for its first fault.
 #[derive(Drop)]
 pub struct OtherList {
     /// The first nine.
@@ -47,6 +47,29 @@ pub struct OtherList {
 }
 
 impl OtherList {
+    /// No violations.
+    pub fn new(alloc: Global) -> OtherList {
+        OtherList {
+            kept: Vec::new(alloc),
+            more: 0,
+            is_cut: false,
+        }
+    }
+
+    /// Keeps a violation, if nine are not kept before it, and counts it otherwise.
+    ///
+    /// # Errors
+    ///
+    /// `Memory` if memory is refused.
+    pub fn keep(&mut self, other: Other) -> Result<(), Memory> {
+        if self.kept.len() >= MOST_KEPT {
+            self.more = self.more.saturating_add(1);
+            return Ok(());
+        }
+        self.kept.push(other)?;
+        Ok(())
+    }
+
     /// Keeps a violation of the program `text`, which is read as `read`.
     fn put(
         &mut self,
@@ -55,14 +78,9 @@ impl OtherList {
         read: &ReadText,
         violation: Violation,
     ) -> Result<(), Memory> {
-        if self.kept.len() >= MOST_KEPT {
-            self.more = self.more.saturating_add(1);
-            return Ok(());
-        }
         let fault = read.fault(violation);
         let text = format!(in alloc; "{text}")?;
-        self.kept.push(Other { fault, text })?;
-        Ok(())
+        self.keep(Other { fault, text })
     }
 
     /// Keeps the first violation of the body of each function, but for that of the first one.
@@ -242,7 +260,11 @@ fn declaration_at(alloc: Global, tops: &[TopNode], node: NodeId) -> Option<Decla
 }
 
 /// `text` with spaces instead of the bytes of a span, but for the ends of lines.
-fn blanked(alloc: Global, text: &str, span: Span) -> Result<String, Memory> {
+///
+/// # Errors
+///
+/// `Memory` if memory is refused.
+pub fn blanked(alloc: Global, text: &str, span: Span) -> Result<String, Memory> {
     let mut bytes = Vec::new(alloc);
     for (index, byte) in text.bytes().enumerate() {
         let is_in = span.from as usize <= index && index < span.to as usize;
@@ -326,11 +348,7 @@ fn declared_others(alloc: Global, text: &str, others: &mut OtherList) -> Result<
 ///
 /// Errors: a request for memory was refused.
 pub fn others(alloc: Global, text: &str, first: Violation) -> Result<OtherList, Memory> {
-    let mut others = OtherList {
-        kept: Vec::new(alloc),
-        more: 0,
-        is_cut: false,
-    };
+    let mut others = OtherList::new(alloc);
     let Some(read) = read(alloc, text)? else {
         return Ok(others);
     };

@@ -1,7 +1,7 @@
 //! The explanation that follows the line of an outcome.
 
 use command_line::arguments::{Invocation, Subcommand};
-use diagnostic::{explanation, explanations};
+use diagnostic::explanations;
 use go_text::Fault;
 use kendo_explore::{Explored, PlanFile};
 use kendo_front::{explain_end, explain_end_by_plan};
@@ -52,7 +52,7 @@ pub(crate) fn explain(
     let explained = match (outcome, refused) {
         (Ok(end), _) => end_explained(alloc, invocation, kept, end),
         (Err(Fault::Write), Some(refused)) => refusal_explained(alloc, invocation, refused),
-        (Err(fault), _) => fault_explained(alloc, invocation, kept, &fault),
+        (Err(fault), _) => fault_explained(alloc, kept, &fault),
     };
     if let Ok(explained) = explained {
         tell(rt, explained.as_slice());
@@ -172,22 +172,13 @@ fn refusal_explained(
     }
 }
 
-/// Explains the errors in a program: several for `check`, the first one for the other commands.
-fn fault_explained(
-    alloc: Global,
-    invocation: &Invocation<'_, '_>,
-    kept: Kept<'_>,
-    fault: &Fault,
-) -> Result<Vec<u8>, Fault> {
+/// Explains the errors in a program, the given one first.
+fn fault_explained(alloc: Global, kept: Kept<'_>, fault: &Fault) -> Result<Vec<u8>, Fault> {
     let file = kept.file;
     let text = match String::from_utf8(kept.text) {
         Ok(text) => text,
         Err(_) => String::new(alloc),
     };
-    let text = text.as_str();
-    let explained = match invocation.subcommand {
-        Subcommand::Check => explanations(alloc, file, text, fault)?,
-        _ => explanation(alloc, file, text, fault)?,
-    };
+    let explained = explanations(alloc, file, text.as_str(), fault)?;
     Ok(explained)
 }
