@@ -87,9 +87,12 @@ fn take_sentence(cutter: &mut Cutter<'_>, path: &[u8], line: &[u8]) -> Result<Ne
         cutter.take(line.len().saturating_sub(taken), Style::Plain)?;
         return Ok(Next::Source);
     }
-    let label = if line.starts_with(b"hint: ") { 5 } else { 0 };
-    cutter.take(label, Style::Label)?;
-    cutter.take(line.len().saturating_sub(label), Style::Plain)?;
+    if line.starts_with(b"hint: ") {
+        cutter.take(5, Style::Label)?;
+        cutter.take(line.len().saturating_sub(5), Style::Plain)?;
+    } else {
+        cutter.take(line.len(), Style::Plain)?;
+    }
     Ok(Next::Sentence)
 }
 
