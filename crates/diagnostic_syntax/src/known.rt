@@ -113,8 +113,13 @@ const ONLY_INT: &str = "the only type of numbers is int, of 64 bits: there are n
 
 const NO_FLOAT: &str = "there are no floating-point numbers";
 
-const NO_SLICE: &str =
-    "there are no slices: a buffered channel is a queue, and a goroutine keeps values in a chain of structs";
+/// What to write instead of a slice, an array or a type parameter.
+pub(crate) const NO_ARRAY: &str =
+    "there are no slices, arrays and type parameters; a buffered channel can be the array: docs/GO.md#queue";
+
+const NO_SLICE: &str = "there are no slices; a buffered channel can be the queue: docs/GO.md#queue";
+
+const NO_MAP: &str = "there are no maps; a goroutine can keep the values: docs/GO.md#map";
 
 const FAILS: &str = "there is no panic: print a message and return, and let callers return too";
 
@@ -126,10 +131,7 @@ pub static NAMES: [Known; 46] = [
     Known("recover", "there is no recover: a panic ends the run"),
     Known("append", NO_SLICE),
     Known("copy", NO_SLICE),
-    Known(
-        "delete",
-        "there are no maps: a goroutine keeps values, and answers on a channel",
-    ),
+    Known("delete", NO_MAP),
     Known("clear", NO_SLICE),
     Known(
         "new",
@@ -268,10 +270,7 @@ pub(crate) static OPERATORS: [Known; 6] = [
 /// Keywords and marks of Go that are not in the language.
 pub(crate) static MARKS: [Known; 10] = [
     Known("switch", "there is no switch: write if and else"),
-    Known(
-        "map",
-        "there are no maps: a goroutine can keep what it is sent",
-    ),
+    Known("map", NO_MAP),
     Known("interface", "there are no interfaces"),
     Known("goto", "loops and ifs take its place"),
     Known("fallthrough", "loops and ifs take its place"),

@@ -7,6 +7,7 @@ ghost use Rattle.diagnostic_syntax.specs.Places.{place_of};
 mod expected;
 mod hint;
 pub mod known;
+mod misplaced;
 mod nesting;
 mod site;
 mod trouble;

@@ -145,12 +145,29 @@ impl<'t> Site<'t> {
 
     /// The index of the first token of the statement, header or field in which the fault lies.
     pub(crate) fn statement_start(&self) -> usize {
+        self.start_before(self.at)
+    }
+
+    /// The index of the first token of the statement, header or field that the token with this index is in.
+    pub(crate) fn start_before(&self, index: usize) -> usize {
         let mut start = 0;
-        for index in 0..self.at {
-            if matches!(self.word_at(index), "\n" | ";" | "{" | "}") {
-                start = index.saturating_add(1);
+        for before in 0..index {
+            if matches!(self.word_at(before), "\n" | ";" | "{" | "}") {
+                start = before.saturating_add(1);
             }
         }
         start
+    }
+
+    /// The source text from the token with the index `first` to the one with the index `last`, if they are on one line.
+    pub(crate) fn between(&self, first: usize, last: usize) -> Option<&'t str> {
+        let from = self.tokens.get(first)?.span.from;
+        let to = self.tokens.get(last)?.span.to;
+        let piece = self.text.get(from as usize..to as usize)?;
+        if piece.contains('\n') {
+            None
+        } else {
+            Some(piece)
+        }
     }
 }

@@ -3,7 +3,7 @@
 use crate::expected::Expected;
 use crate::hint::Hint;
 use crate::known::{
-    DECLARATIONS, MARKS, METHODS, NAMES, OPERATORS, PACKAGES, STATEMENTS, stand_in,
+    DECLARATIONS, MARKS, METHODS, NAMES, NO_ARRAY, OPERATORS, PACKAGES, STATEMENTS, stand_in,
 };
 use crate::nesting::Nesting;
 use crate::site::{NEWLINE, Site};
@@ -23,6 +23,9 @@ impl<'s, 't> Trouble<'s, 't> {
     /// A hint, if there is one.
     pub(crate) fn hint(&self) -> Option<Hint<'t>> {
         if let Some(hint) = self.file_hint() {
+            return Some(hint);
+        }
+        if let Some(hint) = self.misplaced_hint() {
             return Some(hint);
         }
         if let Some(hint) = self.bracket_hint() {
@@ -74,7 +77,7 @@ impl<'s, 't> Trouble<'s, 't> {
     }
 
     /// Whether the program declares this name after `func` or `type`.
-    fn is_declared(&self, keyword: &str, word: &str) -> bool {
+    pub(crate) fn is_declared(&self, keyword: &str, word: &str) -> bool {
         self.declared(keyword, word, false).is_some()
     }
 
@@ -526,9 +529,7 @@ impl<'s, 't> Trouble<'s, 't> {
         if self.site.before(2) == "func" {
             return Hint::Plain("there are no type parameters: write a function for each type");
         }
-        Hint::Plain(
-            "there are no slices, arrays and type parameters: a goroutine can keep what it is sent",
-        )
+        Hint::Plain(NO_ARRAY)
     }
 
     /// A hint for a `*` or a `&` before an operand or a type.
@@ -739,7 +740,7 @@ impl<'s, 't> Trouble<'s, 't> {
 }
 
 /// Whether this is the name of a built-in function.
-fn is_built_in(word: &str) -> bool {
+pub(crate) fn is_built_in(word: &str) -> bool {
     matches!(word, "print" | "println" | "close" | "make" | "len" | "cap")
 }
 
