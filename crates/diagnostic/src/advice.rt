@@ -5,7 +5,7 @@ use crate::sentence::push_sentence;
 use diagnostic_syntax::{place_of, push_syntax};
 use diagnostic_words::excerpt::push_excerpt;
 use diagnostic_words::words::Words;
-use go_text::{Fault, Memory, Position};
+use go_text::{Fault, Memory, Position, Rule, Span};
 use std::alloc::Global;
 
 /// What is wrong at one location of a program.
@@ -47,7 +47,7 @@ impl Advice {
         let mut lines = message;
         lines.text("\n");
         if let Some(place) = place_of(fault) {
-            push_excerpt(&mut lines, text, place.span);
+            push_excerpt(&mut lines, text, shown_span(text, fault, place.span));
         }
         if !hint.is_empty() {
             lines.text("hint: ");
@@ -66,6 +66,26 @@ impl Advice {
         }
         let hint = string_of(alloc, hint)?;
         Ok((message, Some(hint)))
+    }
+}
+
+/// The span whose line is shown for a fault at `span`: the last `}` of a function that lacks a return, else the same.
+fn shown_span(text: &str, fault: &Fault, span: Span) -> Span {
+    let last = Span {
+        from: span.to.saturating_sub(1),
+        to: span.to,
+    };
+    let is_missing = matches!(
+        fault,
+        Fault::Typing {
+            rule: Rule::Terminating,
+            ..
+        }
+    );
+    if is_missing && text.get(last.from as usize..last.to as usize) == Some("}") {
+        last
+    } else {
+        span
     }
 }
 

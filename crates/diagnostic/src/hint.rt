@@ -12,8 +12,54 @@ use typing_rules::violation::Violation;
 pub(crate) fn push_hint(alloc: Global, said: &mut Words, text: &str, fault: &Fault) {
     if let Some(hint) = hint_of(text, fault) {
         said.text(hint);
-    } else if let Fault::Typing { rule, node, .. } = *fault {
+    } else if let Fault::Typing { rule, node, place } = *fault {
         push_meant(alloc, said, text, Violation::Broken(rule, node));
+        if matches!(rule, Rule::Visible) && said.is_empty() {
+            push_declaration(said, text, place);
+        }
+    }
+}
+
+/// Writes how the name at `place` is declared to `said`, which is empty, if a statement that begins there assigns to it.
+fn push_declaration(said: &mut Words, text: &str, place: Place) {
+    let name = piece_at(text, place);
+    let rest = text.get(place.span.to as usize..).unwrap_or("");
+    let line = rest.split('\n').next().unwrap_or("");
+    let begins = line_before(text, place.span.from).trim().is_empty() && first_word(name) == name;
+    let value = match line.trim_start().strip_prefix("=") {
+        Some(value) if begins && !value.starts_with("=") => value,
+        _ => return,
+    };
+    if text.split('\n').any(|line| declares(line, name)) {
+        return;
+    }
+    said.text(":= declares: ");
+    said.text(name);
+    said.text(" := ");
+    said.text(shown_value(value));
+}
+
+/// Whether a line begins with the declaration of a function or a type of this name.
+fn declares(line: &str, name: &str) -> bool {
+    for keyword in ["func ", "type "] {
+        if let Some(rest) = line.strip_prefix(keyword) {
+            return first_word(rest.trim_start()) == name;
+        }
+    }
+    false
+}
+
+/// The value that the rest of a line assigns, or `..` if it may not end there.
+fn shown_value(rest: &str) -> &str {
+    let value = rest.split("//").next().unwrap_or("").trim();
+    let is_whole = match value.bytes().last() {
+        Some(last) => last.is_ascii_alphanumeric() || last == b'_' || last == b')',
+        None => false,
+    };
+    if is_whole && !value.contains(';') {
+        value
+    } else {
+        ".."
     }
 }
 

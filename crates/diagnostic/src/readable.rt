@@ -47,7 +47,7 @@ impl Readable {
 /// # Errors
 ///
 /// `Memory` if memory is refused.
-pub(crate) fn readable(alloc: Global, text: &str) -> Result<Option<Readable>, Memory> {
+pub(crate) fn read_tokens(alloc: Global, text: &str) -> Result<Option<Readable>, Memory> {
     let mut current = blanked(alloc, text, Span { from: 0, to: 0 })?;
     let mut wrong = Vec::new(alloc);
     for round in 0..=MOST_WRONG {

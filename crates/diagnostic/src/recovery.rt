@@ -2,7 +2,7 @@
 //! follows from another one: a declaration is read alone, and one whose brackets are not closed is left out.
 
 use crate::parts::{Part, parts_of};
-use crate::readable::{Readable, located, readable};
+use crate::readable::{Readable, located, read_tokens};
 use diagnostic_syntax::place_of;
 use diagnostic_typing::{Other, OtherList, blanked, fault_of};
 use go_text::{Fault, Memory, Source, Span};
@@ -23,7 +23,7 @@ pub(crate) fn others_read(alloc: Global, text: &str, fault: &Fault) -> Result<Ot
     let Some(place) = place_of(fault) else {
         return Ok(others);
     };
-    let Some(read) = readable(alloc, text)? else {
+    let Some(read) = read_tokens(alloc, text)? else {
         return Ok(others);
     };
     let Some(clause) = package_clause(&read) else {

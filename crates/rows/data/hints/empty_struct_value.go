@@ -1,0 +1,6 @@
+package main
+
+func main() {
+	done := make(chan bool, 1)
+	done <- struct{}{}
+}

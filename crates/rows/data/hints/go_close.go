@@ -1,0 +1,7 @@
+package main
+
+func main() {
+	done := make(chan bool)
+	go close(done)
+	<-done
+}

@@ -1,0 +1,5 @@
+package main
+
+func main() {
+	go println("x")
+}
