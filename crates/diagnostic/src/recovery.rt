@@ -74,13 +74,18 @@ struct Search<'s> {
 }
 
 impl Search<'_> {
-    /// Keeps the first error of a part, if it has one that does not lie at the offset `known`.
+    /// Keeps the first error of a part, if it has one that does not lie at the offset `known`. It is only counted, without a copy of
+    /// the program, if another one was only counted before.
     fn put(&self, others: &mut OtherList, part: Part, known: u32) -> Result<(), Memory> {
         if let Some(fault) = self.read.wrong_token(part.span) {
             let text = format!(in self.alloc; "{}", self.text)?;
             return others.keep(Other { fault, text });
         }
         if !part.is_closed || self.is_right(part.span)? {
+            return Ok(());
+        }
+        if others.more > 0 {
+            others.more = others.more.saturating_add(1);
             return Ok(());
         }
         let text = self.alone(part.span)?;
@@ -103,12 +108,13 @@ impl Search<'_> {
         let part = part.unwrap_or("");
         let clause = if span.from > 0 { PACKAGE } else { "" };
         let text = format!(in self.alloc; "{clause}{part}")?;
+        let length = text.len();
         let Ok(source) = Source::new(text.into_bytes()) else {
             return Ok(true);
         };
         match fault_of(self.alloc, &source) {
             Some(Fault::Memory) => Err(Memory),
-            Some(_) => Ok(false),
+            Some(fault) => Ok(!lies_before(&fault, length)),
             None => Ok(true),
         }
     }
@@ -125,6 +131,14 @@ impl Search<'_> {
         };
         let text = blanked(self.alloc, self.read.text(), between)?;
         blanked(self.alloc, text.as_str(), after)
+    }
+}
+
+/// Whether a fault lies in the first `length` bytes.
+fn lies_before(fault: &Fault, length: usize) -> bool {
+    match place_of(fault) {
+        Some(place) => (place.span.from as usize) < length,
+        None => false,
     }
 }
 
