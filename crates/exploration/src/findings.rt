@@ -66,6 +66,11 @@ impl Findings {
         self.counted = self.counted.saturating_add(1);
     }
 
+    /// How many other ends are only counted.
+    pub fn counted(&self) -> usize {
+        self.counted
+    }
+
     /// One more end that no run showed.
     ///
     /// Errors: out of memory.

@@ -6,6 +6,7 @@ mod findings;
 mod hint;
 mod lines;
 mod mixed;
+mod outcomes;
 mod runner;
 mod scene;
 mod shown;
@@ -14,6 +15,7 @@ mod telling;
 
 pub use exploration::{Exploration, Extent, Options};
 pub use findings::{Findings, Verdict};
+pub use outcomes::{Cause, Outcome, OutcomeEnd, PlannedPause};
 pub use runner::{Ran, Runner};
 pub use scene::Scene;
 pub use shown::Shown;

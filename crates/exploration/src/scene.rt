@@ -53,19 +53,24 @@ impl<'a> Scene<'a> {
     /// Appends `goroutine WAY (FUNCTION)`, of the goroutine in the state of a number.
     pub(crate) fn push_goroutine(self, said: &mut Words, locals: &LocalStates<'_>, local: u32) {
         said.text("goroutine ");
-        let goroutine = locals.local(local).map(|one| one.goroutine()).unwrap_or(0);
-        self.push_way(said, locals, goroutine);
-        if let Some(frame) = locals.frames(local).first() {
-            if let Some(function) = self.code.functions().get(frame.function()) {
-                said.text(" (");
-                said.text(function.name());
-                said.text(")");
-            }
+        self.push_way(said, locals, local);
+        if let Some(function) = self.function(locals, local) {
+            said.text(" (");
+            said.text(function);
+            said.text(")");
         }
     }
 
-    /// Appends the way of a goroutine.
-    fn push_way(self, said: &mut Words, locals: &LocalStates<'_>, goroutine: u32) {
+    /// The name of the function that the goroutine in state `local` started with.
+    pub(crate) fn function(self, locals: &LocalStates<'_>, local: u32) -> Option<&'a str> {
+        let frame = locals.frames(local).first()?;
+        let function = self.code.functions().get(frame.function())?;
+        Some(function.name())
+    }
+
+    /// Appends the way of the goroutine in state `local`.
+    pub(crate) fn push_way(self, said: &mut Words, locals: &LocalStates<'_>, local: u32) {
+        let goroutine = locals.local(local).map(|one| one.goroutine()).unwrap_or(0);
         let Ok(way) = locals.goroutines().way(self.alloc, goroutine) else {
             said.refuse();
             return;
