@@ -202,7 +202,7 @@ struct TextCommand {
     about: &'static str,
     /// The arguments that it takes, in the order of the help text.
     arguments: &'static [Argument],
-    /// The end of its help text: an example.
+    /// The end of its help text: examples.
     example: &'static str,
 }
 
@@ -212,13 +212,13 @@ const TEXT_COMMANDS: [TextCommand; 8] = [
         name: "check",
         about: "Checks programs for errors",
         arguments: &[Argument::Files, Argument::Json, Argument::Explain],
-        example: "Example:\n  kendo check *.go",
+        example: "Examples:\n  kendo check *.go\n  kendo check - < sieve.go\n  kendo check --json sieve.go",
     },
     TextCommand {
         name: "list",
         about: "Lists the code of a program",
         arguments: &[Argument::File, Argument::Explain],
-        example: "Example:\n  kendo list sieve.go",
+        example: "Examples:\n  kendo list sieve.go\n  kendo list sieve.go | less",
     },
     TextCommand {
         name: "reference",
@@ -229,7 +229,7 @@ const TEXT_COMMANDS: [TextCommand; 8] = [
             Argument::Pauses,
             Argument::Explain,
         ],
-        example: "Example:\n  kendo reference sieve.go",
+        example: "Examples:\n  kendo reference sieve.go\n  kendo reference sieve.go --limit 1000000",
     },
     TextCommand {
         name: "timeline",
@@ -243,7 +243,7 @@ const TEXT_COMMANDS: [TextCommand; 8] = [
             Argument::Out,
             Argument::Explain,
         ],
-        example: "Example:\n  kendo timeline stages.go --out stages.svg",
+        example: "Examples:\n  kendo timeline stages.go --out stages.svg\n  kendo timeline stages.go --last 100 --out end.svg\n  kendo timeline stages.go --out stages.json",
     },
     TextCommand {
         name: "explore",
@@ -263,7 +263,7 @@ const TEXT_COMMANDS: [TextCommand; 8] = [
             Argument::Json,
             Argument::Explain,
         ],
-        example: "Example:\n  kendo explore account.go --seconds 10",
+        example: "Examples:\n  kendo explore account.go\n  kendo explore account.go --seconds 10 --ends\n  kendo explore account.go --leaks --out plans",
     },
     TextCommand {
         name: "test",
@@ -281,7 +281,7 @@ const TEXT_COMMANDS: [TextCommand; 8] = [
             Argument::Json,
             Argument::Explain,
         ],
-        example: "Example:\n  kendo test --orders *.go",
+        example: "Of a folder the tests in it are tested, of FOLDER/... those below it too.\n\nExamples:\n  kendo test ./...\n  kendo test --orders --seconds 10 account.go\n  kendo test --update sieve.go",
     },
     TextCommand {
         name: "inspect",
@@ -294,7 +294,7 @@ const TEXT_COMMANDS: [TextCommand; 8] = [
             Argument::Pauses,
             Argument::Explain,
         ],
-        example: "Example:\n  kendo inspect stages.go --event 20",
+        example: "Examples:\n  kendo inspect stages.go\n  kendo inspect stages.go --event 20\n  kendo inspect account.go --pauses account.1.pauses",
     },
     TextCommand {
         name: "run",
@@ -310,7 +310,7 @@ const TEXT_COMMANDS: [TextCommand; 8] = [
             Argument::Strict,
             Argument::Explain,
         ],
-        example: "Example:\n  kendo run sieve.go --workers 8 --trace sieve.trace",
+        example: "Examples:\n  kendo run sieve.go\n  kendo run sieve.go --workers 8 --trace sieve.trace\n  kendo run account.go --pauses account.1.pauses",
     },
 ];
 
