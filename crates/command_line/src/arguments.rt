@@ -13,7 +13,8 @@ const VERSION: &str = "0.1.0";
 
 /// The end of the help text: errors, exit statuses and the environment.
 const STATUSES: &str =
-    "FILE is a source file, or - for standard input. With KENDO_EXPLAIN=1 in the environment every command explains.\n\n\
+    "FILE is a source file, or - for standard input. If standard error is a terminal, every command explains, as with\n\
+--explain. KENDO_EXPLAIN=1 in the environment turns this on everywhere, KENDO_EXPLAIN=0 turns it off.\n\n\
 Errors in a program are reported by number and place: 1 TooLong, 2 NotUtf8, 3 BadCharacter, 4 BadNumber,\n\
 5 OpenString, 6 OpenComment, 7 Syntax, 8 TooDeep, 9 Type rule R (1 to 20), 10 Limit kind K (1 to 6). --explain\n\
 describes them. docs/LANGUAGE.md lists the rules and the limits.\n\n\

@@ -95,7 +95,7 @@ fn compare_run(
         &mut trace,
     );
     let status = told(rt, alloc, None, &outcome)?;
-    let kept = kept_program(alloc, invocation, file, Some(plan), text.as_slice());
+    let kept = kept_program(rt, alloc, invocation, file, Some(plan), text.as_slice());
     explain(rt, alloc, invocation, kept, outcome, outputs.refused());
     let program = program_of(invocation, plan, file, text.as_slice());
     match outcome {

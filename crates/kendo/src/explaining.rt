@@ -7,9 +7,22 @@ use kendo_explore::{Explored, PlanFile};
 use kendo_front::{explain_end, explain_end_by_plan};
 use kendo_shell::streams::tell;
 use kendo_shell::tracing::Refused;
+use kendo_shell::words::has_colors;
 use pauses::Plan;
 use std::alloc::Global;
+use std::io::IsTerminal;
+use std::time::Instant;
+use terminal_style::styled;
 use word::end::End;
+
+/// How many milliseconds a run takes before a terminal is told that it is run again.
+const LONG: u128 = 1_000;
+
+/// The line that tells that.
+const AGAIN: &[u8] = b"kendo: running again to explain; KENDO_EXPLAIN=0 turns this off\n";
+
+/// How many workers a run has at most.
+const MOST_WORKERS: u64 = 64;
 
 /// A program that is explained.
 #[derive(Drop)]
@@ -19,10 +32,13 @@ pub(crate) struct Kept<'a> {
     /// The plan by which it is run, if its run has one.
     plan: Option<&'a Plan>,
     text: Vec<u8>,
+    /// When it was kept, if the clock says so.
+    begun: Option<Instant>,
 }
 
 /// A copy of the program, if the command explains.
 pub(crate) fn kept_program<'a>(
+    rt: &HostRuntime,
     alloc: Global,
     invocation: &Invocation<'_, '_>,
     file: &'a str,
@@ -33,7 +49,12 @@ pub(crate) fn kept_program<'a>(
         return None;
     }
     let text = bytes.to_vec(alloc).ok()?;
-    Some(Kept { file, plan, text })
+    Some(Kept {
+        file,
+        plan,
+        text,
+        begun: Instant::now(rt).ok(),
+    })
 }
 
 /// Explains on standard error the errors in the program that was kept, how its run ended, or why an output refused bytes. If memory
@@ -49,28 +70,27 @@ pub(crate) fn explain(
     let Some(kept) = kept else {
         return;
     };
+    let file = kept.file;
+    kept.tell_second_run(rt, invocation, outcome);
     let explained = match (outcome, refused) {
         (Ok(end), _) => end_explained(alloc, invocation, kept, end),
         (Err(Fault::Write), Some(refused)) => refusal_explained(alloc, invocation, refused),
+        (Err(Fault::BadWorkers | Fault::BadLimit), _) => bounds_explained(alloc, invocation),
         (Err(fault), _) => fault_explained(alloc, kept, &fault),
     };
     if let Ok(explained) = explained {
-        tell(rt, explained.as_slice());
+        tell_styled(rt, alloc, file, explained.as_slice());
     }
 }
 
-/// Writes an explanation to standard error below a title, unless it is empty.
-fn tell_below(rt: &HostRuntime, alloc: Global, title: &str, explained: Result<Vec<u8>, Fault>) {
-    let Ok(explained) = explained else {
-        return;
-    };
-    if explained.is_empty() {
-        return;
+/// Writes an explanation of the program at `path` to standard error, with colours if it shows them.
+fn tell_styled(rt: &HostRuntime, alloc: Global, path: &str, explained: &[u8]) {
+    if has_colors(rt) {
+        if let Ok(styled) = styled(alloc, path, explained) {
+            return tell(rt, styled.as_slice());
+        }
     }
-    if let Ok(line) = format!(in alloc; "{title}:\n") {
-        tell(rt, line.as_bytes());
-        tell(rt, explained.as_slice());
-    }
+    tell(rt, explained);
 }
 
 impl Kept<'_> {
@@ -85,12 +105,8 @@ impl Kept<'_> {
     ) {
         if let Some(ran) = &explored.ordinary {
             if ran.leaks || matches!(ran.end, End::Deadlock | End::Panicked(_)) {
-                tell_below(
-                    rt,
-                    alloc,
-                    "as kendo run",
-                    self.explained(alloc, limit, ran.end),
-                );
+                let explained = self.explained(alloc, limit, ran.end);
+                self.tell_below(rt, alloc, "as kendo run", explained);
             }
         }
         self.explain_plans(rt, alloc, limit, explored.plans.as_slice());
@@ -106,8 +122,51 @@ impl Kept<'_> {
     ) {
         for one in plans {
             let explained = self.explained_by(alloc, limit, one);
-            tell_below(rt, alloc, one.name.as_str(), explained);
+            self.tell_below(rt, alloc, one.name.as_str(), explained);
         }
+    }
+
+    /// Writes an explanation to standard error below a title, unless it is empty.
+    fn tell_below(
+        &self,
+        rt: &HostRuntime,
+        alloc: Global,
+        title: &str,
+        explained: Result<Vec<u8>, Fault>,
+    ) {
+        let Ok(explained) = explained else {
+            return;
+        };
+        if explained.is_empty() {
+            return;
+        }
+        if let Ok(line) = format!(in alloc; "{title}:\n") {
+            tell(rt, line.as_bytes());
+            tell_styled(rt, alloc, self.file, explained.as_slice());
+        }
+    }
+
+    /// Tells on a terminal that the program runs again, if its first run took long and a second one explains how it ended.
+    fn tell_second_run(
+        &self,
+        rt: &HostRuntime,
+        invocation: &Invocation<'_, '_>,
+        outcome: Result<End, Fault>,
+    ) {
+        let runs_again = outcome.is_ok()
+            && matches!(
+                invocation.subcommand,
+                Subcommand::Paused { .. } | Subcommand::Reference { .. } | Subcommand::Run { .. }
+            );
+        if runs_again && self.elapsed(rt) >= LONG && rt.stderr().is_terminal() {
+            tell(rt, AGAIN);
+        }
+    }
+
+    /// How many milliseconds ago the program was kept.
+    fn elapsed(&self, rt: &HostRuntime) -> u128 {
+        let elapsed = self.begun.as_ref().and_then(|begun| begun.elapsed(rt).ok());
+        elapsed.map(|elapsed| elapsed.as_millis()).unwrap_or(0)
     }
 
     /// Explains an end of the run without pauses.
@@ -133,7 +192,12 @@ fn end_explained(
     kept: Kept<'_>,
     end: End,
 ) -> Result<Vec<u8>, Fault> {
-    let Kept { file, plan, text } = kept;
+    let Kept {
+        file,
+        plan,
+        text,
+        begun: _,
+    } = kept;
     match (invocation.subcommand, plan) {
         (Subcommand::Test { .. }, _) if end == End::Finished => Ok(Vec::new(alloc)),
         (Subcommand::Paused { limit }, Some(plan)) => {
@@ -165,6 +229,29 @@ fn refusal_explained(
             let path = invocation.values.unwrap_or("");
             format!(in alloc; "{path}: {reason}\n")
         }
+    };
+    match line {
+        Ok(line) => Ok(line.into_bytes()),
+        Err(_) => Err(Fault::Memory),
+    }
+}
+
+/// Explains which option is out of its bounds: `--workers`, which comes first, or `--limit`.
+fn bounds_explained(alloc: Global, invocation: &Invocation<'_, '_>) -> Result<Vec<u8>, Fault> {
+    let line = match invocation.subcommand {
+        Subcommand::Run { workers, .. } if workers == 0 || workers > MOST_WORKERS => {
+            format!(in alloc; "--workers: {workers} is not 1 to {MOST_WORKERS}\n")
+        }
+        Subcommand::Run { limit, .. }
+        | Subcommand::Reference { limit }
+        | Subcommand::Paused { limit }
+        | Subcommand::Timeline { limit }
+        | Subcommand::Inspect { limit }
+        | Subcommand::Explore { limit, .. }
+        | Subcommand::Test { limit, .. } => {
+            format!(in alloc; "--limit: {limit} is not 1 to 2^62\n")
+        }
+        Subcommand::Check | Subcommand::List => return Ok(Vec::new(alloc)),
     };
     match line {
         Ok(line) => Ok(line.into_bytes()),

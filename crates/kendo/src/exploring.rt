@@ -77,7 +77,7 @@ fn explore(
 ) -> Result<u8, Memory>
     ensures { IfOk result (IsJudged invocation.now bytes.items) }
 {
-    let kept = kept_program(alloc, invocation, file, None, bytes.as_slice());
+    let kept = kept_program(rt, alloc, invocation, file, None, bytes.as_slice());
     let mut outputs = Outputs::new(rt, Trace::Dropped);
     let task = Task {
         rt,

@@ -213,7 +213,14 @@ fn answer(
     ensures { IfOk result (IsJudged invocation.now bytes.items) }
 {
     plan.compare_source(rt, alloc, file, bytes.as_slice())?;
-    let kept = kept_program(alloc, invocation, file, Some(&plan.plan), bytes.as_slice());
+    let kept = kept_program(
+        rt,
+        alloc,
+        invocation,
+        file,
+        Some(&plan.plan),
+        bytes.as_slice(),
+    );
     let outcome = find(threads, alloc, invocation, plan, bytes, &mut outputs);
     let status = told(rt, alloc, name_of(invocation, file), &outcome)?;
     plan.report_unused(rt, alloc, invocation, &outcome)?;

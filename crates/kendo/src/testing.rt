@@ -264,7 +264,7 @@ fn explain_test(task: Task<'_, '_, '_>, bytes: &[u8], limit: u64, tested: &Teste
         invocation,
         file,
     } = task;
-    let kept = kept_program(alloc, invocation, file, None, bytes);
+    let kept = kept_program(rt, alloc, invocation, file, None, bytes);
     if let Some(kept) = &kept {
         kept.explain_plans(rt, alloc, limit, tested.plans.as_slice());
     }

@@ -16,7 +16,7 @@ use kendo_shell::checking::check;
 use kendo_shell::files::opened;
 use kendo_shell::streams::{exit, tell, told};
 use kendo_shell::tracing::{Outputs, Trace};
-use kendo_shell::words::{first_failure, name_of, show, with_environment, words_in};
+use kendo_shell::words::{first_failure, name_of, show, with_variable, words_in};
 use std::alloc::Global;
 use std::process::ExitCode;
 use std::sync::Wait;
@@ -68,7 +68,7 @@ fn perform(
 ) -> Result<u8, Memory>
     ensures { IfOk result (λ status. (status ≡ USAGE) ⊎ ReportsAll invocation.now status) }
 {
-    let invocation = &with_environment(rt, invocation);
+    let invocation = &with_variable(rt, invocation);
     let Some(task) = task_of(invocation) else {
         tell(
             rt,

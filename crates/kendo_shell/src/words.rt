@@ -11,6 +11,8 @@ use clap::error::ErrorKind;
 use command_line::arguments::Invocation;
 use go_text::Memory;
 use std::alloc::Global;
+use std::env::VarError;
+use std::io::IsTerminal;
 use std::{env, io};
 
 /// The words of the command line, the first of which is the program's name. `None` if one is not UTF-8, which is reported on standard
@@ -31,25 +33,63 @@ pub fn words_in(rt: &HostRuntime, alloc: Global) -> Result<Option<Vec<String>>, 
     }
 }
 
-/// The invocation, which also explains if the environment has `KENDO_EXPLAIN=1`.
+/// The invocation, which also explains if the environment has `KENDO_EXPLAIN=1`, or if standard error is a terminal and the
+/// environment does not have `KENDO_EXPLAIN=0`.
 pub fn with_environment<'m, 'a>(
     rt: &HostRuntime,
     invocation: &Invocation<'m, 'a>,
 ) -> Invocation<'m, 'a>
     ensures { result ≡ record invocation.now { explains = result.explains } }
 {
-    let explains = invocation.explains || is_explaining(rt);
+    let by_default = explains_by_variable(rt).unwrap_or_else(|| rt.stderr().is_terminal());
     Invocation {
-        explains,
+        explains: invocation.explains || by_default,
         ..*invocation
     }
 }
 
-/// Whether the environment has `KENDO_EXPLAIN=1`.
-fn is_explaining(rt: &HostRuntime) -> bool {
+/// The invocation, which also explains if the environment has `KENDO_EXPLAIN=1`.
+pub fn with_variable<'m, 'a>(
+    rt: &HostRuntime,
+    invocation: &Invocation<'m, 'a>,
+) -> Invocation<'m, 'a>
+    ensures { result ≡ record invocation.now { explains = result.explains } }
+{
+    let by_default = explains_by_variable(rt).unwrap_or(false);
+    Invocation {
+        explains: invocation.explains || by_default,
+        ..*invocation
+    }
+}
+
+/// Whether commands explain by the environment's `KENDO_EXPLAIN`: true for `1`, false for `0`; `None` for anything else.
+fn explains_by_variable(rt: &HostRuntime) -> Option<bool> {
     match env::var(rt, "KENDO_EXPLAIN") {
-        Ok(value) => value.as_str() == "1",
+        Ok(value) if value.as_str() == "1" => Some(true),
+        Ok(value) if value.as_str() == "0" => Some(false),
+        _ => None,
+    }
+}
+
+/// Whether standard error shows colours: it is a terminal, `TERM` names one other than `dumb`, and `NO_COLOR` is not set or empty.
+pub fn has_colors(rt: &HostRuntime) -> bool {
+    rt.stderr().is_terminal() && names_terminal(rt) && !refuses_colors(rt)
+}
+
+/// Whether the environment's `TERM` names a terminal that understands escape sequences.
+fn names_terminal(rt: &HostRuntime) -> bool {
+    match env::var(rt, "TERM") {
+        Ok(name) => !matches!(name.as_str(), "" | "dumb"),
         Err(_) => false,
+    }
+}
+
+/// Whether the environment has a `NO_COLOR` that is not empty.
+fn refuses_colors(rt: &HostRuntime) -> bool {
+    match env::var(rt, "NO_COLOR") {
+        Ok(value) => !value.is_empty(),
+        Err(VarError::NotPresent) => false,
+        Err(_) => true,
     }
 }
 
