@@ -1,21 +1,27 @@
 -- What an exit status says of a program.
-use Rattle.std.proofs.Common.{◌≡◌, ◌⊎◌, ◌∙◌, ℕ, Bool, inl, inr, true, false, List, Option, Some, None, Result, Ok, Err, IfOk, refl, sym, subst, ap, arith}
+use Rattle.std.proofs.lemmas.Result.{IfOk-weaker}
+use Rattle.std.proofs.Common.{◌≡◌, ◌⊎◌, ◌∙◌, ◌≤◌, ℕ, Bool, length, map, inl, inr, true, false, List, Option, Some, None, Result, Ok, Err, IfErr, IfOk, Vec, Global, refl, sym, subst, ap, arith}
 use Rattle.command_line.specs.declared.arguments.Invocation.{Invocation}
 use Rattle.command_line.specs.declared.arguments.Subcommand.{Subcommand}
 use Rattle.command_line.specs.declared.arguments.Subcommand.TheVariants as subcommands
 use Rattle.exploration.specs.declared.findings.Verdict.{Verdict}
 use Rattle.exploration.specs.declared.findings.Verdict.TheVariants.{Other, Same, SameSoFar, Unended, Unshown}
 use Rattle.go_text.specs.declared.fault.Fault.{Fault}
-use Rattle.kendo.specs.Verdicts.{compared_status, Compares, exploration_status, explored_status, Explores, FindsPlainly, IsAgainst, IsAgainstIfAny, IsExplored, IsJudged, IsSaid, IsTested, IsTracedAs, Judges, JudgesAll, LosesCounts, Says, SaysIfAny, scope_of, test_status, tested_status, Tests}
+use Rattle.go_text.specs.declared.fault.Fault.TheVariants as faults
+use Rattle.kendo.specs.Verdicts.{compared_status, Compares, exploration_status, explored_status, Explores, FindsPlainly, IsAgainst, IsAgainstIfAny, IsExplored, IsJudged, IsSaid, IsTested, IsTracedAs, Judges, JudgesAll, JudgesTests, Says, SaysIfAny, scope_of, passes, test_status, tested_status, Tests}
 use Rattle.kendo_compare.specs.Comparing.{IsCompared}
 use Rattle.kendo_report.specs.Outcome.{report_status}
 use Rattle.clap.specs.Words.{Text}
-use Rattle.kendo_shell.proofs.Findings.{explored as of_verdict, told, told_status}
+use Rattle.kendo_shell.proofs.Findings.{explored as of_verdict, test_lost, told, told_status}
 use Rattle.kendo_shell.proofs.Obeying.{obeyed}
 use Rattle.kendo_shell.proofs.SeveralFiles.{of_all_status}
 use Rattle.kendo_shell.specs.Answers.{Finds, IsOfAll, IsOfOne, IsReason, IsStatus, IsStatusOf, Obeys, Tells}
+use Rattle.kendo_test.specs.Passing.{IsRight, IsUpdatedTo}
+use Rattle.kendo_test.specs.declared.testing.Verdict.{Verdict as TestVerdict}
 use Rattle.pauses.specs.Plans.{Pause}
 use Rattle.program_states.specs.declared.space.Scope.{Scope}
+use Rattle.test_folders.specs.Folders.{AreTests}
+use Rattle.whole_run.specs.Runs.{IsLimit}
 use Rattle.word.specs.declared.end.End.{End}
 use Rattle.word.specs.declared.end.End.TheVariants.{Finished}
 
@@ -84,6 +90,26 @@ pub tested_or_not : (invocation : Invocation) (text : List ℕ) (found : Result 
     → IsJudged invocation text status
 tested_or_not invocation text (Ok passed) status shown is = tested invocation text passed status shown is
 tested_or_not invocation text (Err fault) status why is = refused invocation text fault status why is
+
+-- a program whose comments were brought up to date is tested, or its report is lost
+right_of : (text : List ℕ) (leaks : Bool) (limit : ℕ) (verdict : TestVerdict) (update : Option (Vec ℕ Global)) → IsUpdatedTo text leaks limit verdict update
+    → (new : List ℕ) × IsRight verdict leaks new limit
+right_of text leaks limit verdict None right = (text, right)
+right_of text leaks limit verdict (Some new) (expectation, is, said, passing) =
+    (new.items, subst (λ (v : TestVerdict). IsRight v leaks new.items limit) (sym is) (said, passing))
+
+tests_of_update : (limit tries states : ℕ) (leaks : Bool) (text : List ℕ) (verdict : TestVerdict) (found : Result Bool Fault) → IsLimit limit → IsRight verdict leaks text limit
+    → IfOk found (λ passed. passed ≡ passes verdict) → IfErr found (λ fault. (fault ≡ faults.Memory) ⊎ (fault ≡ faults.Write)) → Tests (subcommands.Test limit tries states) leaks text found
+tests_of_update limit tries states leaks text verdict (Ok passed) bounds right is only = (bounds, (verdict, right, is))
+tests_of_update limit tries states leaks text verdict (Err fault) bounds right is only = test_lost limit tries states text fault only
+
+pub updated_judged : {E : Type 0} (invocation : Invocation) (limit tries states : ℕ) (text : List ℕ) (verdict : TestVerdict) (update : Option (Vec ℕ Global)) (found : Result Bool Fault) (result : Result ℕ E)
+    → invocation.subcommand ≡ subcommands.Test limit tries states → IsLimit limit → IsUpdatedTo text invocation.leaks limit verdict update → IfOk found (λ passed. passed ≡ passes verdict)
+    → IfErr found (λ fault. (fault ≡ faults.Memory) ⊎ (fault ≡ faults.Write)) → IfOk result (λ status. status ≡ test_status found) → IfOk result (IsOfOne (Judges invocation))
+updated_judged invocation limit tries states text verdict update found result is bounds updated passed only reported =
+    let both = right_of text invocation.leaks limit verdict update updated in
+    let tests = subst (λ (s : Subcommand). Tests s invocation.leaks both.0 found) (sym is) (tests_of_update limit tries states invocation.leaks both.0 verdict found bounds both.1 passed only) in
+    IfOk-weaker result _ _ (λ status is. inr (both.0, tested_or_not invocation both.0 found status tests is)) reported
 
 against_in : {T : Type 0} (s : Subcommand) (scope : Scope) (against : Option T) (path : T) (strict whole : Bool) (pauses : List Pause) (recorded text : List ℕ) (end : End) (status : ℕ)
     → against ≡ Some path → IsAgainst s pauses strict recorded text end status → Says s scope against strict whole text end status
@@ -178,10 +204,13 @@ of_some invocation text (Ok status) is = inr (text, is)
 of_some invocation text (Err e) is = is
 
 -- the exit status of tests, or, if how many passed can't be written, of that
-pub summed : (invocation : Invocation) (limit tries states count status all : ℕ) → invocation.subcommand ≡ subcommands.Test limit tries states → (all ≡ status) ⊎ (all ≡ 6)
-    → IsOfAll (Judges invocation) count status → IsOfAll (Judges invocation) count all ⊎ LosesCounts invocation.subcommand all
-summed invocation limit tries states count status all is (inl same) of_all = inl (subst (λ n. IsOfAll (Judges invocation) count n) (sym same) of_all)
-summed invocation limit tries states count status all is (inr lost) of_all = inr (subst (λ (s : Subcommand). LosesCounts s all) (sym is) lost)
+pub summed : (invocation : Invocation) (limit tries states status all : ℕ) (programs : List (List ℕ)) → invocation.subcommand ≡ subcommands.Test limit tries states
+    → AreTests (map (λ path. path.now) invocation.files.now) programs → 1 ≤ length programs → (all ≡ status) ⊎ (all ≡ 6) → IsOfAll (Judges invocation) (length programs) status
+    → JudgesAll invocation all
+summed invocation limit tries states status all programs is tests some (inl same) of_all =
+    inr (subst (λ (s : Subcommand). JudgesTests s invocation all) (sym is) (programs, tests, some, inl (subst (λ n. IsOfAll (Judges invocation) (length programs) n) (sym same) of_all)))
+summed invocation limit tries states status all programs is tests some (inr lost) of_all =
+    inr (subst (λ (s : Subcommand). JudgesTests s invocation all) (sym is) (programs, tests, some, inr lost))
 
 -- ---- of any command line
 
@@ -234,24 +263,28 @@ tells : (invocation : Invocation) (status : ℕ) → (status ≡ 64) ⊎ Judges 
 tells invocation status (inl is) = inl is
 tells invocation status (inr (text, (outcome, finds, is))) = inr (text, status_in invocation text outcome status finds is)
 
-lost_status : (subcommand : Subcommand) (status : ℕ) → LosesCounts subcommand status → IsStatus status
-lost_status (subcommands.Test limit tries states) status is = inl (omega (arith, is))
-lost_status subcommands.Check status is = absurd is
-lost_status subcommands.List status is = absurd is
-lost_status (subcommands.Reference limit) status is = absurd is
-lost_status (subcommands.Timeline limit) status is = absurd is
-lost_status (subcommands.Explore limit tries states) status is = absurd is
-lost_status (subcommands.Inspect limit) status is = absurd is
-lost_status (subcommands.Paused limit) status is = absurd is
-lost_status (subcommands.Run workers limit) status is = absurd is
+all_status : (invocation : Invocation) (count status : ℕ) → IsOfAll (Judges invocation) count status → IsStatus status
+all_status invocation count status all = of_all_status (Judges invocation) count status (λ one judges. told_status invocation.subcommand one (tells invocation one judges)) all
+
+tests_status : (subcommand : Subcommand) (invocation : Invocation) (status : ℕ) → JudgesTests subcommand invocation status → IsStatus status
+tests_status (subcommands.Test limit tries states) invocation status (programs, tests, some, inl all) = all_status invocation _ status all
+tests_status (subcommands.Test limit tries states) invocation status (programs, tests, some, inr lost) = inl (omega (arith, lost))
+tests_status subcommands.Check invocation status is = absurd is
+tests_status subcommands.List invocation status is = absurd is
+tests_status (subcommands.Reference limit) invocation status is = absurd is
+tests_status (subcommands.Timeline limit) invocation status is = absurd is
+tests_status (subcommands.Explore limit tries states) invocation status is = absurd is
+tests_status (subcommands.Inspect limit) invocation status is = absurd is
+tests_status (subcommands.Paused limit) invocation status is = absurd is
+tests_status (subcommands.Run workers limit) invocation status is = absurd is
 
 pub judged_status : (words : List Text) (status : ℕ) → Obeys JudgesAll words status → IsStatus status
 judged_status words status obeys = obeyed {Reports = JudgesAll} words status by obeys
   where
     by : (invocation : Invocation) → (status ≡ 64) ⊎ JudgesAll invocation status → IsStatus status
     by invocation (inl is) = inr (inl is)
-    by invocation (inr (inl all)) = of_all_status (Judges invocation) _ status (λ one judges. told_status invocation.subcommand one (tells invocation one judges)) all
-    by invocation (inr (inr lost)) = lost_status invocation.subcommand status lost
+    by invocation (inr (inl all)) = all_status invocation _ status all
+    by invocation (inr (inr tests)) = tests_status invocation.subcommand invocation status tests
 
 -- that of a command line whose command was performed
 pub started : {E : Type 0} (words : List Text) (result : Result ℕ E) → IfOk result (λ status. Obeys JudgesAll words status) → IfOk result IsStatus

@@ -1,5 +1,5 @@
 -- What an exit status says of a program.
-use Rattle.std.specs.Prelude.{◌≡◌, ◌⊎◌, ℕ, Bool, true, false, not, List, Option, Some, None, Result, Ok, Err, length}
+use Rattle.std.specs.Prelude.{◌≡◌, ◌⊎◌, ◌≤◌, ℕ, Bool, true, false, not, List, Option, Some, None, Result, Ok, Err, length, map}
 use Rattle.command_line.specs.declared.arguments.Invocation.{Invocation}
 use Rattle.command_line.specs.declared.arguments.Subcommand.{Subcommand}
 use Rattle.command_line.specs.declared.arguments.Subcommand.TheVariants as subcommands
@@ -19,6 +19,7 @@ use Rattle.kendo_test.specs.declared.testing.Verdict.TheVariants as tests
 use Rattle.pauses.specs.Plans.{Pause}
 use Rattle.program_states.specs.declared.space.Scope.{Scope}
 use Rattle.syntax.specs.Tree.{File}
+use Rattle.test_folders.specs.Folders.{AreTests}
 use Rattle.whole_run.specs.Runs.{IsLimit}
 use Rattle.word.specs.declared.end.End.{End}
 
@@ -139,14 +140,16 @@ IsJudged invocation text status = (outcome : Result End Fault) × Finds invocati
 abbrev pub Judges : Invocation → (status : ℕ) → Type 0
 Judges invocation status = (text : List ℕ) × IsJudged invocation text status
 
--- the exit status if the line that says how many tests passed can't be written
-abbrev pub LosesCounts : Subcommand → (status : ℕ) → Type 0
-LosesCounts (subcommands.Test limit tries states) status = status ≡ 6
-LosesCounts subcommand status = ⊥
+-- the exit status of the tests of the programs that the paths stand for, at least one, or if the line that says how many passed can't be written
+abbrev pub JudgesTests : Subcommand → Invocation → (status : ℕ) → Type 0
+JudgesTests (subcommands.Test limit tries states) invocation status =
+    (programs : List (List ℕ)) × AreTests (map (λ path. path.now) invocation.files.now) programs × (1 ≤ length programs)
+    × (IsOfAll (Judges invocation) (length programs) status ⊎ (status ≡ 6))
+JudgesTests subcommand invocation status = ⊥
 
--- the exit status of what the invocation finds in its files
+-- the exit status of what the invocation finds in its files, or of its tests
 abbrev pub JudgesAll : Invocation → (status : ℕ) → Type 0
-JudgesAll invocation status = IsOfAll (Judges invocation) (length invocation.files.now) status ⊎ LosesCounts invocation.subcommand status
+JudgesAll invocation status = IsOfAll (Judges invocation) (length invocation.files.now) status ⊎ JudgesTests invocation.subcommand invocation status
 
 -- what a command finds that neither explores nor tests
 abbrev pub FindsPlainly : Subcommand → (text : List ℕ) → Result End Fault → Type 0

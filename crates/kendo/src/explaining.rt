@@ -36,7 +36,7 @@ pub(crate) struct Kept<'a> {
     begun: Option<Instant>,
 }
 
-/// A copy of the program, if the command explains.
+/// A copy of the program, if the command explains in words.
 pub(crate) fn kept_program<'a>(
     rt: &HostRuntime,
     alloc: Global,
@@ -45,7 +45,7 @@ pub(crate) fn kept_program<'a>(
     plan: Option<&'a Plan>,
     bytes: &[u8],
 ) -> Option<Kept<'a>> {
-    if !invocation.explains {
+    if !invocation.explains || invocation.json {
         return None;
     }
     let text = bytes.to_vec(alloc).ok()?;

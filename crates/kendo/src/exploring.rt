@@ -4,15 +4,16 @@ ghost use Rattle.std.specs.Prelude.{◌≡◌, ◌⊎◌, IfErr, IfOk};
 ghost use Rattle.command_line.specs.declared.arguments.Subcommand.TheVariants as subcommands;
 ghost use Rattle.kendo.specs.Verdicts.{Explores, IsJudged, Judges, exploration_status, explored_status, scope_of};
 
+use crate::errors::{Reported, told_of};
 use crate::explaining::{Kept, explain, kept_program};
 use crate::plan_files::check_folder;
 use crate::progress::Follower;
 use command_line::arguments::{Invocation, Subcommand};
 use go_text::{Fault, Memory};
+use json_report::exploration_lines;
 use kendo_explore::{Explored, Options, Scope, Verdict, explore_bytes};
 use kendo_shell::USAGE;
 use kendo_shell::files::opened;
-use kendo_shell::streams::told;
 use kendo_shell::tracing::{Outputs, Trace};
 use std::alloc::Global;
 use word::write_all;
@@ -77,6 +78,7 @@ fn explore(
 ) -> Result<u8, Memory>
     ensures { IfOk result (IsJudged invocation.now bytes.items) }
 {
+    let reported = Reported::of(alloc, invocation, file, bytes.as_slice())?;
     let kept = kept_program(rt, alloc, invocation, file, None, bytes.as_slice());
     let mut outputs = Outputs::new(rt, Trace::Dropped);
     let task = Task {
@@ -86,17 +88,18 @@ fn explore(
         file,
     };
     let found = find(task, invocation, bytes, kept.as_ref(), &mut outputs);
-    let status = report(rt, alloc, found, invocation.whole)?;
+    let status = report(rt, alloc, reported.as_ref(), found, invocation.whole)?;
     if let Err(fault) = found {
         explain(rt, alloc, invocation, kept, Err(fault), outputs.refused());
     }
     Ok(status)
 }
 
-/// Reports on standard error why a program was not explored. Returns the exit status of the exploration.
+/// Reports why a program was not explored. Returns the exit status of the exploration.
 fn report(
     rt: &HostRuntime,
     alloc: Global,
+    reported: Option<&Reported<'_>>,
     found: Result<Verdict, Fault>,
     whole: bool,
 ) -> Result<u8, Memory>
@@ -104,7 +107,7 @@ fn report(
 {
     match found {
         Ok(verdict) => Ok(status_of(verdict, whole)),
-        Err(fault) => told(rt, alloc, None, &Err(fault)),
+        Err(fault) => told_of(rt, alloc, None, reported, &Err(fault)),
     }
 }
 
@@ -172,20 +175,31 @@ impl Task<'_, '_, '_> {
         let mut follower = Follower::new(self.rt, self.alloc, self.invocation, self.file);
         let explored = explore_bytes(self.alloc, self.file, bytes, options, &mut follower)?;
         follower.clear();
-        write(&explored, outputs)?;
+        self.write(&explored, outputs)?;
         follower.all_written()?;
         if let Some(kept) = kept {
             kept.explain_explored(self.rt, self.alloc, options.limit, &explored);
         }
         Ok(explored.verdict)
     }
+
+    /// Writes what was found to standard output, as JSON if the command says so.
+    fn write(self, explored: &Explored, outputs: &mut Outputs) -> Result<(), Fault>
+        ensures { IfErr result (λ fault. (fault ≡ Fault.Memory) ⊎ (fault ≡ Fault.Write)) }
+    {
+        if !self.invocation.json {
+            return write(explored.report.as_slice(), outputs);
+        }
+        let lines = exploration_lines(self.alloc, self.file, explored)?;
+        write(lines.as_slice(), outputs)
+    }
 }
 
-/// Writes the report to standard output.
-fn write(explored: &Explored, outputs: &mut Outputs) -> Result<(), Fault>
-    ensures { IfErr result (λ fault. fault ≡ Fault.Write) }
+/// Writes the lines to standard output.
+pub(crate) fn write(lines: &[u8], outputs: &mut Outputs) -> Result<(), Fault>
+    ensures { IfErr result (λ fault. (fault ≡ Fault.Memory) ⊎ (fault ≡ Fault.Write)) }
 {
-    match write_all(&mut outputs.standard, explored.report.as_slice()) {
+    match write_all(&mut outputs.standard, lines) {
         Ok(()) => Ok(()),
         Err(_) => Err(Fault::Write),
     }

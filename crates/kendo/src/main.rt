@@ -6,6 +6,7 @@ ghost use Rattle.kendo.specs.Verdicts.{FindsPlainly, IsJudged, Judges, JudgesAll
 ghost use Rattle.kendo_shell.specs.Answers.{Finds, IsOfAll, IsOfOne, IsStatus, Obeys};
 
 mod comparing;
+mod errors;
 mod explaining;
 mod exploring;
 mod inspecting;
@@ -15,9 +16,11 @@ mod plans;
 mod progress;
 mod running;
 mod testing;
+mod updating;
 
 use command_line::arguments::{Invocation, Subcommand, command, invocation_of};
 use comparing::compare_file;
+use errors::{Reported, told_of};
 use explaining::{explain, kept_program};
 use exploring::explore_file;
 use go_text::{Fault, Memory};
@@ -27,7 +30,7 @@ use kendo_front::{paused_bytes_noting, reference_bytes, traced_bytes_noting};
 use kendo_shell::USAGE;
 use kendo_shell::checking::check;
 use kendo_shell::files::{opened, values_file};
-use kendo_shell::streams::{Stream, exit, tell, told};
+use kendo_shell::streams::{Stream, exit, tell};
 use kendo_shell::tracing::{Outputs, Trace};
 use kendo_shell::words::{first_failure, name_of, show, with_environment, words_in};
 use pictures::draw_file;
@@ -129,6 +132,12 @@ fn test_conflict(invocation: &Invocation<'_, '_>) -> Option<&'static [u8]> {
     if invocation.leaks && !invocation.orders {
         return Some(b"kendo: --leaks needs --orders\n");
     }
+    if invocation.update && invocation.orders {
+        return Some(b"kendo: --update and --orders can't be used together\n");
+    }
+    if invocation.update && invocation.files.iter().any(|file| *file == "-") {
+        return Some(b"kendo: --update can't rewrite standard input\n");
+    }
     None
 }
 
@@ -213,6 +222,7 @@ fn answer(
     ensures { IfOk result (IsJudged invocation.now bytes.items) }
 {
     plan.compare_source(rt, alloc, file, bytes.as_slice())?;
+    let reported = Reported::of(alloc, invocation, file, bytes.as_slice())?;
     let kept = kept_program(
         rt,
         alloc,
@@ -222,7 +232,8 @@ fn answer(
         bytes.as_slice(),
     );
     let outcome = find(threads, alloc, invocation, plan, bytes, &mut outputs);
-    let status = told(rt, alloc, name_of(invocation, file), &outcome)?;
+    let name = name_of(invocation, file);
+    let status = told_of(rt, alloc, name, reported.as_ref(), &outcome)?;
     plan.report_unused(rt, alloc, invocation, &outcome)?;
     explain(rt, alloc, invocation, kept, outcome, outputs.refused());
     Ok(status)

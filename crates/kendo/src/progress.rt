@@ -11,7 +11,7 @@ use kendo_shell::streams::tell;
 use pauses::PlanHeader;
 use std::alloc::Global;
 use std::io::IsTerminal;
-use std::time::Instant;
+use std::time::{Duration, Instant};
 use word::end::End;
 
 /// How many milliseconds pass at least between two lines of progress.
@@ -34,6 +34,8 @@ pub(crate) struct Follower<'r> {
     /// How many seconds it may take.
     seconds: Option<u64>,
     is_terminal: bool,
+    /// Whether errors that are found are only part of the report.
+    is_quiet: bool,
     /// How many milliseconds after the beginning a line of progress was last written, if one stands there now.
     line: Option<u128>,
     /// Whether a plan could not be written.
@@ -56,18 +58,20 @@ impl<'r> Follower<'r> {
             start: Instant::now(rt).ok(),
             seconds: invocation.seconds,
             is_terminal: rt.stderr().is_terminal(),
+            is_quiet: invocation.json,
             line: None,
             is_refused: false,
         }
     }
 
+    /// How long the search goes on, if the clock says so.
+    pub(crate) fn took(&self) -> Option<Duration> {
+        self.start.as_ref()?.elapsed(self.rt).ok()
+    }
+
     /// For how many milliseconds the search goes on.
     fn elapsed(&self) -> u128 {
-        let elapsed = self
-            .start
-            .as_ref()
-            .and_then(|start| start.elapsed(self.rt).ok());
-        elapsed.map(|elapsed| elapsed.as_millis()).unwrap_or(0)
+        self.took().map(|took| took.as_millis()).unwrap_or(0)
     }
 
     /// Whether all plans were written.
@@ -110,7 +114,7 @@ impl<'r> Follower<'r> {
     /// Tells that an error was found, which this plan shows.
     fn tell_error(&mut self, plan: &PlanFile, name: &str) -> Result<(), Memory> {
         let is_error = matches!(plan.end, End::Deadlock | End::Panicked(_)) && !plan.own_limit;
-        if !is_error || (self.is_terminal && self.elapsed() < LONG) {
+        if !is_error || self.is_quiet || (self.is_terminal && self.elapsed() < LONG) {
             return Ok(());
         }
         self.clear();

@@ -6,19 +6,24 @@ ghost use Rattle.kendo.specs.Verdicts.{IsJudged, Judges, JudgesAll, Tests, passe
 ghost use Rattle.kendo_shell.specs.Answers.{IsOfOne};
 
 use crate::explaining::{explain, kept_program};
-use crate::exploring::{Task, has_folder};
+use crate::exploring::{Task, has_folder, write};
 use crate::progress::Follower;
+use crate::updating::update_program;
 use command_line::arguments::{Invocation, Subcommand};
 use go_text::{Fault, Memory};
+use json_report::{Record, SearchRecord};
 use kendo_shell::files::opened;
-use kendo_shell::streams::told;
+use kendo_shell::streams::{tell, told};
 use kendo_shell::tracing::{Outputs, Trace};
 use kendo_shell::words::first_failure;
 use kendo_shell::{USAGE, WRITE};
 use kendo_test::{OrderSearch, TestOptions, Tested, Verdict, test_bytes};
-use std::alloc::Global;
+use std::alloc::{AllocError, Global};
+use std::io::IsTerminal;
 use std::sync::Wait;
 use std::thread::Threads;
+use std::time::Duration;
+use test_folders::tests_of;
 use word::write_all;
 
 /// The exit status if a test failed.
@@ -54,6 +59,16 @@ impl Counts {
             }
         }
     }
+
+    /// The line that says how many files passed, as JSON if `is_json`.
+    fn line(self, alloc: Global, is_json: bool) -> Result<Vec<u8>, Memory> {
+        let Counts { passed, failed } = self;
+        if is_json {
+            return Record::Tests { passed, failed }.line(alloc);
+        }
+        let line = format!(in alloc; "{passed} passed, {failed} failed\n")?;
+        Ok(line.into_bytes())
+    }
 }
 
 /// Tests the programs of the files, reports each on standard output, and then how many passed. The status is that of the first file
@@ -72,15 +87,32 @@ pub(crate) fn test_files(
     if limit < 1 || limit > 1 << 62 {
         return bad_limit(rt, alloc);
     }
+    if !has_folder(rt, alloc, invocation)? {
+        return Ok(USAGE);
+    }
+    let tests = tests_of(rt, alloc, invocation.files)?;
+    report_without(rt, alloc, tests.without.as_slice())?;
+    if tests.paths.is_empty() {
+        return Ok(USAGE);
+    }
     let mut counts = Counts::new();
     let mut status = 0;
-    for file in invocation.files {
-        let next = test_file(rt, threads, alloc, invocation, file)?;
+    for path in tests.paths.iter() {
+        let next = test_file(rt, threads, alloc, invocation, path.as_str())?;
         counts = counts.with(next);
         status = first_failure(status, next);
     }
-    let all = write_counts(rt, alloc, counts, status)?;
+    let all = write_counts(rt, alloc, invocation.json, counts, status)?;
     Ok(all)
+}
+
+/// Reports the folders that have no tests.
+fn report_without(rt: &HostRuntime, alloc: Global, folders: &[&str]) -> Result<(), Memory> {
+    for folder in folders {
+        let line = format!(in alloc; "kendo: no tests in {folder}\n")?;
+        tell(rt, line.as_bytes());
+    }
+    Ok(())
 }
 
 /// Reports that the limit is out of its bounds.
@@ -91,13 +123,18 @@ fn bad_limit(rt: &HostRuntime, alloc: Global) -> Result<u8, Memory>
 }
 
 /// Writes how many files passed, and returns `status`, or, if standard output refuses that line, the exit status that says so.
-fn write_counts(rt: &HostRuntime, alloc: Global, counts: Counts, status: u8) -> Result<u8, Memory>
+fn write_counts(
+    rt: &HostRuntime,
+    alloc: Global,
+    is_json: bool,
+    counts: Counts,
+    status: u8,
+) -> Result<u8, Memory>
     ensures { IfOk result (λ all. (all ≡ status) ⊎ (all ≡ WRITE)) }
 {
-    let Counts { passed, failed } = counts;
-    let line = format!(in alloc; "{passed} passed, {failed} failed\n")?;
+    let line = counts.line(alloc, is_json)?;
     let mut outputs = Outputs::new(rt, Trace::Dropped);
-    match write_all(&mut outputs.standard, line.as_bytes()) {
+    match write_all(&mut outputs.standard, line.as_slice()) {
         Ok(()) => Ok(status),
         Err(_) => told(rt, alloc, None, &Err(Fault::Write)),
     }
@@ -125,6 +162,9 @@ fn test_file(
         file,
     };
     match opened(rt, alloc, &source, file, None)? {
+        Some((bytes, _no_trace)) if invocation.update => {
+            update_program(task, threads, invocation, bytes)
+        }
         Some((bytes, _no_trace)) => test_program(task, threads, invocation, bytes),
         None => Ok(USAGE),
     }
@@ -145,7 +185,11 @@ fn test_program(
 }
 
 /// Reports on standard error why a program was not tested. Returns the exit status of the test.
-fn report(rt: &HostRuntime, alloc: Global, found: Result<bool, Fault>) -> Result<u8, Memory>
+pub(crate) fn report(
+    rt: &HostRuntime,
+    alloc: Global,
+    found: Result<bool, Fault>,
+) -> Result<u8, Memory>
     ensures { IfOk result (λ status. status ≡ test_status found) }
 {
     match found {
@@ -228,28 +272,66 @@ fn test(
         options,
         &mut follower,
     )?;
+    let took = follower.took();
     follower.clear();
-    write(&tested, outputs)?;
+    let lines = report_of(task, &tested, took)?;
+    write(lines.as_slice(), outputs)?;
     follower.all_written()?;
     explain_test(task, bytes.as_slice(), limit, &tested);
     Ok(is_passed(&tested.verdict))
 }
 
 /// Whether a program passes its test.
-fn is_passed(verdict: &Verdict) -> bool
+pub(crate) fn is_passed(verdict: &Verdict) -> bool
     ensures { result ≡ passes verdict.now }
 {
     matches!(verdict, Verdict::Passed(_))
 }
 
-/// Writes the lines that report a test to standard output.
-fn write(tested: &Tested, outputs: &mut Outputs) -> Result<(), Fault>
-    ensures { IfErr result (λ fault. fault ≡ Fault.Write) }
-{
-    match write_all(&mut outputs.standard, tested.lines.as_slice()) {
-        Ok(()) => Ok(()),
-        Err(_) => Err(Fault::Write),
+/// The lines that report a test that took this long, as JSON if the command says so. Otherwise they tell the time only if standard output
+/// is a terminal.
+pub(crate) fn report_of(
+    task: Task<'_, '_, '_>,
+    tested: &Tested,
+    took: Option<Duration>,
+) -> Result<Vec<u8>, Memory> {
+    let Task {
+        rt,
+        alloc,
+        invocation,
+        file,
+    } = task;
+    if invocation.json {
+        return record_of(alloc, file, tested, took)?.line(alloc);
     }
+    let took = took.filter(|_| rt.stdout().is_terminal());
+    tested.report(alloc, file, took)
+}
+
+/// The object of a test that took this long.
+fn record_of<'r>(
+    alloc: Global,
+    file: &'r str,
+    tested: &'r Tested,
+    took: Option<Duration>,
+) -> Result<Record<'r>, AllocError> {
+    let mut plans = Vec::new(alloc);
+    for plan in tested.plans.iter() {
+        plans.push(plan.name.as_str())?;
+    }
+    Ok(Record::Test {
+        file,
+        passed: is_passed(&tested.verdict),
+        updated: tested.is_updated,
+        reasons: tested.reasons.as_slice(),
+        seconds: took.map(|took| took.as_secs_f64()),
+        searched: tested.searched.map(|searched| SearchRecord {
+            states: searched.states,
+            walks: searched.walks,
+            all_orders: searched.is_whole,
+        }),
+        plans,
+    })
 }
 
 /// Explains on standard error, if the command explains, why the program is refused, how its run ended that is not as expected, or how

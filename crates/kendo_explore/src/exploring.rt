@@ -13,7 +13,7 @@ ghost use Rattle.program_states.specs.declared.space.Scope.{Scope};
 use checker::Typed;
 use codegen::compile_marked;
 use exploration::{
-    Exploration, Extent, Findings, Options, Ran, Runner, Scene, Shown, Stop, Verdict,
+    Exploration, Extent, Findings, Options, Outcome, Ran, Runner, Scene, Shown, Stop, Verdict,
 };
 use go_text::{Fault, Memory, Source};
 use kendo_reading::read;
@@ -54,6 +54,10 @@ pub struct PlanFile {
 pub struct Explored {
     /// The report of it.
     pub report: Vec<u8>,
+    /// The outcomes, in the order of the report.
+    pub outcomes: Vec<Outcome>,
+    /// How many outcomes more were found that are neither shown nor listed.
+    pub unlisted: usize,
     /// The plans that show the ends again.
     pub plans: Vec<PlanFile>,
     /// How the ordinary run ends; none if it does not end in time.
@@ -213,6 +217,7 @@ fn told(
     ensures { (file : File) (limit : ℕ) (scope : Scope) → AreFound file limit scope findings → IfOk result (AreShown file limit scope) }
 {
     let report = exploration.report(scene, &findings, names, stop)?;
+    let outcomes = exploration.outcomes(scene, &findings, names)?;
     let verdict = exploration.verdict(&findings);
     let extent = exploration.extent();
     let is_whole = exploration.is_whole(&findings);
@@ -220,6 +225,8 @@ fn told(
     let plans = plan_files(scene.alloc, findings.shown.as_slice(), names)?;
     Ok(Explored {
         report,
+        outcomes,
+        unlisted: findings.counted(),
         plans,
         ordinary: findings.ordinary,
         verdict,

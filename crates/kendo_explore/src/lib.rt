@@ -3,6 +3,6 @@
 
 mod exploring;
 
-pub use exploration::{Extent, Options, Ran, Verdict};
+pub use exploration::{Cause, Extent, Options, Outcome, OutcomeEnd, PlannedPause, Ran, Verdict};
 pub use exploring::{Explored, PlanFile, Progress, explore_bytes};
 pub use program_states::Scope;

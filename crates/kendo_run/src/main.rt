@@ -72,7 +72,7 @@ fn perform(
     let Some(task) = task_of(invocation) else {
         tell(
             rt,
-            b"kendo: this build supports only `check` and `run` without `--explain`, `--pauses`, `--against` and `--values`; use ./kendo\n".as_slice(),
+            b"kendo: this build supports only `check` and `run` without `--explain`, `--json`, `--pauses`, `--against` and `--values`; use ./kendo\n".as_slice(),
         );
         return Ok(USAGE);
     };

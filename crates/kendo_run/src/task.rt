@@ -20,13 +20,18 @@ pub(crate) enum Task {
     },
 }
 
-/// The command's task, if this program does it: `None` for another command, or if it is to explain, to compare or to write values.
+/// The command's task, if this program does it: `None` for another command, or if it is to explain, to report as JSON, to compare or to
+/// write values.
 pub(crate) fn task_of(invocation: &Invocation<'_, '_>) -> Option<Task>
     ensures some { IfSome result (λ task. subcommand_of task ≡ invocation.now.subcommand) }
-    ensures plain { IfSome result (λ _. (invocation.now.explains ≡ false) × (is_some invocation.now.against ≡ false) × (is_some invocation.now.values ≡ false)) }
-    ensures none { IfNone result (IsTrue invocation.now.explains ⊎ (IsTrue (is_some invocation.now.against) ⊎ (IsTrue (is_some invocation.now.values) ⊎ IsAnother invocation.now.subcommand))) }
+    ensures plain { IfSome result (λ _. (invocation.now.explains ≡ false) × (invocation.now.json ≡ false) × (is_some invocation.now.against ≡ false) × (is_some invocation.now.values ≡ false)) }
+    ensures none { IfNone result (IsTrue invocation.now.explains ⊎ (IsTrue invocation.now.json ⊎ (IsTrue (is_some invocation.now.against) ⊎ (IsTrue (is_some invocation.now.values) ⊎ IsAnother invocation.now.subcommand)))) }
 {
-    if invocation.explains || invocation.against.is_some() || invocation.values.is_some() {
+    if invocation.explains
+        || invocation.json
+        || invocation.against.is_some()
+        || invocation.values.is_some()
+    {
         return None;
     }
     match invocation.subcommand {

@@ -1,5 +1,6 @@
 -- When a program passes its test, and when it fails.
-use Rattle.std.specs.Prelude.{◌≡◌, ◌⊎◌, ◌≤◌, ℕ, All, Bool, true, false, List, Some, length, string_bytes}
+use Rattle.std.specs.Prelude.{◌≡◌, ◌⊎◌, ◌≤◌, ℕ, All, Bool, true, false, List, Option, None, Some, Vec, length, string_bytes}
+use Rattle.std.specs.Global.{Global}
 use Rattle.expected_output.specs.Expecting.{IsSaidIn, IsUnknown}
 use Rattle.expected_output.specs.Meeting.{Meets}
 use Rattle.expected_output.specs.declared.expectation.Expectation.{Expectation}
@@ -13,6 +14,7 @@ use Rattle.kendo_reading.specs.Reading.{HasNoReading, Reads}
 use Rattle.kendo_explore.specs.Explored.{ends_by}
 use Rattle.kendo_test.specs.declared.ordering.Found.{Found}
 use Rattle.kendo_test.specs.declared.testing.Verdict.{Verdict}
+use Rattle.kendo_test.specs.declared.updating.Updated.{Updated}
 use Rattle.kendo_test.specs.declared.testing.Verdict.TheVariants.{Passed, Failed, Doubted, Untested}
 use Rattle.meaning.specs.Source.{source_kind}
 use Rattle.pauses.specs.Plans.{Pause}
@@ -92,3 +94,11 @@ IsRight (Passed expectation) leaks text limit = IsSaidIn text expectation × Pas
 IsRight (Failed expectation) leaks text limit = IsSaidIn text expectation × Fails expectation leaks text limit
 IsRight (Doubted expectation) leaks text limit = IsSaidIn text expectation × Passes expectation text limit
 IsRight Untested leaks text limit = CannotBeTested text limit
+
+-- the verdict on a program whose comments were brought up to date is right: on the new text, which passes, if it has new comments
+abbrev pub IsUpdatedTo : (text : List ℕ) → (leaks : Bool) → (limit : ℕ) → Verdict → Option (Vec ℕ Global) → Type 0
+IsUpdatedTo text leaks limit verdict None = IsRight verdict leaks text limit
+IsUpdatedTo text leaks limit verdict (Some new) = (expectation : Expectation) × (verdict ≡ Passed expectation) × IsSaidIn new.items expectation × Passes expectation new.items limit
+
+abbrev pub IsUpdated : (text : List ℕ) → (leaks : Bool) → (limit : ℕ) → Updated → Type 0
+IsUpdated text leaks limit updated = IsUpdatedTo text leaks limit updated.tested.verdict updated.text

@@ -4,9 +4,12 @@
 mod differences;
 mod lines;
 mod ordering;
+mod report;
 mod running;
 mod testing;
+mod updating;
 
 pub use kendo_explore::{Extent, PlanFile, Progress};
-pub use ordering::OrderSearch;
+pub use ordering::{OrderSearch, Searched};
 pub use testing::{TestOptions, Tested, Verdict, test_bytes};
+pub use updating::{Updated, update_bytes};

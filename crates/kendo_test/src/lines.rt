@@ -1,41 +1,47 @@
-//! The lines that report a test.
+//! The reasons for which a program fails its test.
 
 use diagnostic_words::excerpt::push_shown;
 use diagnostic_words::words::Words;
 use go_text::{Fault, Memory};
 use kendo_report::report;
-use std::alloc::Global;
+use std::alloc::{AllocError, Global};
+use std::mem::replace;
 use word::end::End;
 
 /// The most characters of a line of output that are shown.
 const MOST_SHOWN: usize = 60;
 
-/// The lines that report that a program fails: `FAIL  FILE`, four spaces and the first reason, then a line for each other one.
+/// Why a program fails, or can't be tested. A refused request for memory is remembered, and reported by `reasons`.
 #[derive(Drop)]
 pub(crate) struct Failure {
     alloc: Global,
+    /// The reasons before the one that `said` is.
+    before: Vec<String>,
     pub said: Words,
     has_reason: bool,
 }
 
 impl Failure {
     /// No reason yet.
-    pub(crate) fn new(alloc: Global, path: &str) -> Failure {
-        let mut said = Words::new(alloc);
-        said.text("FAIL  ");
-        said.text(path);
+    pub(crate) fn new(alloc: Global) -> Failure {
         Failure {
             alloc,
-            said,
+            before: Vec::new(alloc),
+            said: Words::new(alloc),
             has_reason: false,
         }
     }
 
     /// Begins another reason, which is appended to `said`.
     pub(crate) fn reason(&mut self) {
-        self.said
-            .text(if self.has_reason { "\n  " } else { "    " });
-        self.has_reason = true;
+        if !self.has_reason {
+            self.has_reason = true;
+            return;
+        }
+        let said = replace(&mut self.said, Words::new(self.alloc));
+        if push_reason(self.alloc, &mut self.before, said).is_err() {
+            self.said.refuse();
+        }
     }
 
     /// Appends that a run ended in another way.
@@ -53,18 +59,26 @@ impl Failure {
         push_outcome(&mut self.said, self.alloc, outcome);
     }
 
-    /// The lines.
+    /// The reasons, in their order.
     ///
     /// Errors: out of memory.
-    pub(crate) fn lines(self) -> Result<Vec<u8>, Memory> {
+    pub(crate) fn reasons(self) -> Result<Vec<String>, Memory> {
         let Failure {
-            alloc: _,
-            mut said,
+            alloc,
+            mut before,
+            said,
             has_reason: _,
         } = self;
-        said.text("\n");
-        Ok(said.into_bytes()?)
+        push_reason(alloc, &mut before, said)?;
+        Ok(before)
     }
+}
+
+/// Appends a reason.
+fn push_reason(alloc: Global, reasons: &mut Vec<String>, said: Words) -> Result<(), AllocError> {
+    let said = said.into_bytes()?;
+    reasons.push(String::from_utf8_lossy(alloc, said.as_slice())?)?;
+    Ok(())
 }
 
 /// Appends how a run ended, or why there was none, as `kendo run` reports it.

@@ -47,8 +47,15 @@ pub(crate) struct Found {
     pub leaks_alone: bool,
     /// Whether an end was found that the ordinary run doesn't have, and that no plan shows.
     pub has_unshown: bool,
-    /// How many states were visited, and how many walks were made.
+    pub searched: Searched,
+}
+
+/// How much of the other orders was searched.
+#[derive(Clone, Copy)]
+pub struct Searched {
+    /// How many states were visited.
     pub states: usize,
+    /// How many walks were made.
     pub walks: u64,
     /// Whether all orders were searched.
     pub is_whole: bool,
@@ -121,9 +128,11 @@ impl Found {
     {
         self.leaks_alone || !self.failing.is_empty()
     }
+}
 
+impl Searched {
     /// Appends how much was searched.
-    pub(crate) fn push_extent(&self, said: &mut Words) {
+    pub(crate) fn push(self, said: &mut Words) {
         said.text(if self.is_whole {
             "all orders, "
         } else {
@@ -169,6 +178,8 @@ fn unexpected(
 {
     let Explored {
         report: _,
+        outcomes: _,
+        unlisted: _,
         plans,
         ordinary,
         verdict: _,
@@ -188,9 +199,11 @@ fn unexpected(
         failing,
         leaks_alone,
         has_unshown,
-        states,
-        walks,
-        is_whole,
+        searched: Searched {
+            states,
+            walks,
+            is_whole,
+        },
     })
 }
 

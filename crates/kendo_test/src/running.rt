@@ -97,7 +97,7 @@ fn run_silently<R: Threads + Wait + Sync>(
 }
 
 /// Runs a program, and returns how it ended and what it printed.
-fn run_printing<R: Threads + Wait + Sync>(
+pub(crate) fn run_printing<R: Threads + Wait + Sync>(
     rt: &R,
     alloc: Global,
     bytes: Vec<u8>,

@@ -10,9 +10,8 @@ ghost use Rattle.whole_run.specs.Runs.{IsLimit};
 
 use crate::differences::push_differences;
 use crate::lines::Failure;
-use crate::ordering::{Found, OrderSearch, OrderTask, push_failing};
+use crate::ordering::{Found, OrderSearch, OrderTask, Searched, push_failing};
 use crate::running::{Ran, run_expected};
-use diagnostic_words::words::Words;
 use expected_output::{Expectation, ExpectationError, MOST_BYTES};
 use go_text::{Fault, Memory, Source};
 use kendo_explore::{PlanFile, Progress};
@@ -50,8 +49,12 @@ pub enum Verdict {
 #[derive(Drop)]
 pub struct Tested {
     pub verdict: Verdict,
-    /// The lines that report it.
-    pub lines: Vec<u8>,
+    /// Why it doesn't pass, or why its comments could not be rewritten.
+    pub reasons: Vec<String>,
+    /// Whether its comments were rewritten.
+    pub is_updated: bool,
+    /// How much of the other orders was searched, if it passes in these too.
+    pub searched: Option<Searched>,
     /// The plans of ends in other orders that are not expected.
     pub plans: Vec<PlanFile>,
     /// If the run is why it fails, how that ended or why there was none; otherwise `Finished`.
@@ -59,7 +62,7 @@ pub struct Tested {
 }
 
 /// Tests a program: runs it up to the clock limit, on 4 workers, and compares its output and its end with what its comments say; if
-/// `options` request it, searches its other orders for ends that they don't name. FILE in the lines is the path as it was typed.
+/// `options` request it, searches its other orders for ends that they don't name. `path` is the path as it was typed.
 ///
 /// Errors: `Memory`; `BadLimit`.
 pub fn test_bytes<R: Threads + Wait + Sync, P: Progress>(
@@ -83,7 +86,7 @@ pub fn test_bytes<R: Threads + Wait + Sync, P: Progress>(
 
 /// Like `test_bytes`, up to a limit within its bounds.
 #[tactic(auto, using(crate::proofs::Verdicts::right_by_any, crate::proofs::Verdicts::unread_is_right, crate::proofs::Verdicts::unknown_is_right))]
-fn test<R: Threads + Wait + Sync, P: Progress>(
+pub(crate) fn test<R: Threads + Wait + Sync, P: Progress>(
     rt: &R,
     alloc: Global,
     path: &str,
@@ -96,8 +99,8 @@ fn test<R: Threads + Wait + Sync, P: Progress>(
 {
     match expectation_in(alloc, bytes) {
         Ok(expectation) => compare(rt, alloc, path, bytes, options, expectation, progress),
-        Err(ExpectationError::Fault(fault)) => refused(alloc, path, fault),
-        Err(ExpectationError::UnknownEnd(words)) => unknown_end(alloc, path, words.as_str()),
+        Err(ExpectationError::Fault(fault)) => refused(alloc, fault),
+        Err(ExpectationError::UnknownEnd(words)) => unknown_end(alloc, words.as_str()),
     }
 }
 
@@ -142,10 +145,10 @@ fn compare<R: Threads + Wait + Sync, P: Progress>(
             if ran.is_met {
                 search_others(alloc, path, bytes, options, expectation, progress)
             } else {
-                differs(alloc, path, expectation, &ran)
+                differs(alloc, expectation, &ran)
             }
         }
-        Err(fault) => refused(alloc, path, fault),
+        Err(fault) => refused(alloc, fault),
     }
 }
 
@@ -163,7 +166,7 @@ fn search_others<P: Progress>(
     ensures { IfOk result (λ tested. IsRightBy expectation tested.verdict options.leaks bytes.now options.limit) }
 {
     let Some(orders) = options.orders else {
-        return passes(alloc, path, expectation, None);
+        return passes(alloc, expectation, None);
     };
     let task = OrderTask {
         limit: options.limit,
@@ -172,49 +175,37 @@ fn search_others<P: Progress>(
     };
     let found = orders.find(alloc, path, bytes, &task, progress)?;
     if found.fails() {
-        return fails_elsewhere(alloc, path, expectation, found);
+        return fails_elsewhere(alloc, expectation, found);
     }
     if found.has_unshown {
-        return doubted(alloc, path, expectation);
+        return doubted(alloc, expectation);
     }
-    passes(alloc, path, expectation, Some(&found))
+    passes(alloc, expectation, Some(found.searched))
 }
 
 /// The program passes; if other orders were searched, this is how far.
 fn passes(
     alloc: Global,
-    path: &str,
     expectation: Expectation,
-    found: Option<&Found>,
+    searched: Option<Searched>,
 ) -> Result<Tested, Memory>
     ensures { IfOk result (λ tested. tested.verdict ≡ Verdict.Passed expectation) }
 {
-    let mut said = Words::new(alloc);
-    said.text("ok    ");
-    said.text(path);
-    if let Some(found) = found {
-        said.text("    ");
-        found.push_extent(&mut said);
-    }
-    said.text(if expectation.is_said {
-        "\n"
-    } else {
-        "    [no output comment]\n"
-    });
-    let lines = said.into_bytes()?;
     Ok(Tested {
         verdict: Verdict::Passed(expectation),
-        lines,
+        reasons: Vec::new(alloc),
+        is_updated: false,
+        searched,
         plans: Vec::new(alloc),
         outcome: Ok(End::Finished),
     })
 }
 
 /// Another order of the program fails, and no run shows it.
-fn doubted(alloc: Global, path: &str, expectation: Expectation) -> Result<Tested, Memory>
+fn doubted(alloc: Global, expectation: Expectation) -> Result<Tested, Memory>
     ensures { IfOk result (λ tested. tested.verdict ≡ Verdict.Doubted expectation) }
 {
-    let mut failure = Failure::new(alloc, path);
+    let mut failure = Failure::new(alloc);
     failure.reason();
     failure.said.text(
         "ends or prints otherwise in another order, which no run with pauses shows in time",
@@ -228,12 +219,7 @@ fn doubted(alloc: Global, path: &str, expectation: Expectation) -> Result<Tested
 }
 
 /// The program fails in other orders.
-fn fails_elsewhere(
-    alloc: Global,
-    path: &str,
-    expectation: Expectation,
-    found: Found,
-) -> Result<Tested, Memory>
+fn fails_elsewhere(alloc: Global, expectation: Expectation, found: Found) -> Result<Tested, Memory>
     ensures { IfOk result (λ tested. tested.verdict ≡ Verdict.Failed expectation) }
 {
     let Found {
@@ -241,26 +227,28 @@ fn fails_elsewhere(
         leaks_alone,
         ..
     } = found;
-    let mut failure = Failure::new(alloc, path);
+    let mut failure = Failure::new(alloc);
     if leaks_alone {
         failure.reason();
         failure.said.text("goroutines left waiting");
     }
     push_failing(&mut failure, alloc, &expectation, failing.as_slice())?;
-    let lines = failure.lines()?;
+    let reasons = failure.reasons()?;
     Ok(Tested {
         verdict: Verdict::Failed(expectation),
-        lines,
+        reasons,
+        is_updated: false,
+        searched: None,
         plans: failing,
         outcome: Ok(End::Finished),
     })
 }
 
 /// The run of the program is not as expected.
-fn differs(alloc: Global, path: &str, expectation: Expectation, ran: &Ran) -> Result<Tested, Memory>
+fn differs(alloc: Global, expectation: Expectation, ran: &Ran) -> Result<Tested, Memory>
     ensures { IfOk result (λ tested. tested.verdict ≡ Verdict.Failed expectation) }
 {
-    let mut failure = Failure::new(alloc, path);
+    let mut failure = Failure::new(alloc);
     push_differences(
         &mut failure,
         alloc,
@@ -272,11 +260,11 @@ fn differs(alloc: Global, path: &str, expectation: Expectation, ran: &Ran) -> Re
 }
 
 /// The text is no program, or its run can't be compared.
-fn refused(alloc: Global, path: &str, fault: Fault) -> Result<Tested, Memory>
+fn refused(alloc: Global, fault: Fault) -> Result<Tested, Memory>
     ensures untested { IfOk result (λ tested. tested.verdict ≡ Verdict.Untested) }
     ensures memory { IfOk result (λ _. fault ≡ Fault.Memory → ⊥) }
 {
-    let mut failure = Failure::new(alloc, path);
+    let mut failure = Failure::new(alloc);
     match fault {
         Fault::Memory => return Err(Memory),
         Fault::Write => {
@@ -291,10 +279,10 @@ fn refused(alloc: Global, path: &str, fault: Fault) -> Result<Tested, Memory>
 }
 
 /// A comment names no end.
-fn unknown_end(alloc: Global, path: &str, words: &str) -> Result<Tested, Memory>
+fn unknown_end(alloc: Global, words: &str) -> Result<Tested, Memory>
     ensures { IfOk result (λ tested. tested.verdict ≡ Verdict.Untested) }
 {
-    let mut failure = Failure::new(alloc, path);
+    let mut failure = Failure::new(alloc);
     failure.reason();
     failure.said.text("no end is called \"");
     failure.said.text(words);
@@ -313,10 +301,12 @@ fn told(
 ) -> Result<Tested, Memory>
     ensures { IfOk result (λ tested. tested.verdict ≡ verdict) }
 {
-    let lines = failure.lines()?;
+    let reasons = failure.reasons()?;
     Ok(Tested {
         verdict,
-        lines,
+        reasons,
+        is_updated: false,
+        searched: None,
         plans: Vec::new(alloc),
         outcome,
     })

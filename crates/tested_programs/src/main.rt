@@ -66,15 +66,18 @@ fn test_by(
         leaks: name.contains("leak"),
     };
     match test_bytes(threads, rt.alloc(), name, bytes, options, &mut Silent) {
-        Ok(tested) => print(rt, &tested),
+        Ok(tested) => print(rt, name, &tested),
         Err(fault) => println!(rt; "{name}: {fault}"),
     }
 }
 
 /// Prints the report of a test, and whether it passed.
-fn print(rt: &HostRuntime, tested: &Tested) -> io::Result<()> {
+fn print(rt: &HostRuntime, name: &str, tested: &Tested) -> io::Result<()> {
     let mut out = rt.stdout();
-    out.write_all(tested.lines.as_slice())?;
+    match tested.report(rt.alloc(), name, None) {
+        Ok(lines) => out.write_all(lines.as_slice())?,
+        Err(Memory) => println!(rt; "{name}: out of memory")?,
+    }
     for plan in tested.plans.iter() {
         let name = plan.name.as_str();
         println!(rt; "{name}:")?;

@@ -1,15 +1,19 @@
-use Rattle.std.proofs.Common.{◌≡◌, inr, length, subst, arith}
+use Rattle.std.proofs.Common.{◌≡◌, ◌∙◌, ◌≤◌, inr, length, map, string_bytes, sym, subst, arith}
+use Rattle.std.proofs.lemmas.List.{length-map}
 use Rattle.kendo.proofs.Judging.{summed}
 use Rattle.kendo.specs.Verdicts.{Judges}
 use Rattle.kendo_shell.proofs.SeveralFiles.{of_more}
 use Rattle.kendo_shell.specs.Answers.{IsOfAll}
 use Rattle.kendo.proofs.testing.test_files.Goals as goal
 
-pub loop-file-preserved : goal.loop-file-preserved
-loop-file-preserved g c = of_more (Judges c.args.invocation.now) _ _ _ _ c.loop-file.invariant c.in_ok-next.ensures c.first_failure-status.ensures
+pub loop-path-preserved : goal.loop-path-preserved
+loop-path-preserved g c = of_more (Judges c.args.invocation.now) _ _ _ _ c.loop-path.invariant c.in_ok-next.ensures c.first_failure-status.ensures
 
 pub returns : goal.returns
 returns g c =
     let invocation = c.args.invocation.now in
-    let end : c.loop-file.file-index ≡ length invocation.files.now = omega (arith, c.loop-file-test.false, c.loop-file.auto.file-index-end) in
-    inr (summed invocation _ _ _ _ _ _ c.in-Test.is c.in_ok-all.ensures (subst (λ n. IsOfAll (Judges invocation) n c.loop-file.status) end c.loop-file.invariant))
+    let paths = c.in_ok-tests.tests.paths.items in
+    let end : c.loop-path.path-index ≡ length paths = omega (arith, c.loop-path-test.false, c.loop-path.auto.path-index-end) in
+    let many : length (map string_bytes paths) ≡ length paths = length-map paths string_bytes in
+    let some : 1 ≤ length (map string_bytes paths) = ? in
+    inr (summed invocation _ _ _ _ _ (map string_bytes paths) c.in-Test.is c.in_ok-tests.ensures some c.in_ok-all.ensures (subst (λ n. IsOfAll (Judges invocation) n c.loop-path.status) (end ∙ sym many) c.loop-path.invariant))

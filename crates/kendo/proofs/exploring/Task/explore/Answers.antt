@@ -13,7 +13,7 @@ pub returns-in_err-write : goal.returns-in_err-write
 returns-in_err-write c =
     let p = err_from_is_err_and c.from_residual-in_err-write.result c.from_residual-in_err-write.ensures.1 in
     let made = c.in_ok-explored.ensures in
-    rw (p.1, p.2) (findings_lost c.args.options.limit c.args.options.tries c.args.options.states c.args.bytes.items _ (inr c.in_err-write.ensures) (limit_ended c.args.options.limit _ made.limit) (made.shown.0, made.shown.1))
+    rw (p.1, p.2) (findings_lost c.args.options.limit c.args.options.tries c.args.options.states c.args.bytes.items _ c.in_err-write.ensures (limit_ended c.args.options.limit _ made.limit) (made.shown.0, made.shown.1))
 
 pub returns-in_err-all_written : goal.returns-in_err-all_written
 returns-in_err-all_written c =
