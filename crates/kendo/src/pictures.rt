@@ -44,6 +44,7 @@ pub(crate) fn draw_file(
     };
     plan.compare_source(rt, alloc, file, source.bytes.as_slice())?;
     let kept = kept_program(
+        rt,
         alloc,
         invocation,
         file,
