@@ -42,6 +42,14 @@ pub struct SourceFile {
     identity: Option<Identity>,
 }
 
+impl SourceFile {
+    /// The bytes alone.
+    pub fn into_bytes(self) -> Vec<u8> {
+        let SourceFile { bytes, identity: _ } = self;
+        bytes
+    }
+}
+
 impl Drop for SourceFile {
     fn drop(self) {
         let SourceFile { bytes, identity: _ } = self;
@@ -67,10 +75,7 @@ pub fn opened(
         return Ok(None);
     };
     match output_file(rt, alloc, invocation, &source, name)? {
-        Some(trace) => {
-            let SourceFile { bytes, identity: _ } = source;
-            Ok(Some((bytes, trace)))
-        }
+        Some(trace) => Ok(Some((source.into_bytes(), trace))),
         None => Ok(None),
     }
 }
