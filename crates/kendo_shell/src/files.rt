@@ -36,25 +36,11 @@ impl Identity {
 }
 
 /// A source file that was read.
+#[derive(Drop)]
 pub struct SourceFile {
     /// Its bytes, at most one more than a program may have.
     pub bytes: Vec<u8>,
     identity: Option<Identity>,
-}
-
-impl SourceFile {
-    /// The bytes alone.
-    pub fn into_bytes(self) -> Vec<u8> {
-        let SourceFile { bytes, identity: _ } = self;
-        bytes
-    }
-}
-
-impl Drop for SourceFile {
-    fn drop(self) {
-        let SourceFile { bytes, identity: _ } = self;
-        drop(bytes);
-    }
 }
 
 /// The bytes of the source file `source`, and the file of its trace or its picture, which is created once the source was read,
@@ -75,7 +61,10 @@ pub fn opened(
         return Ok(None);
     };
     match output_file(rt, alloc, invocation, &source, name)? {
-        Some(trace) => Ok(Some((source.into_bytes(), trace))),
+        Some(trace) => {
+            let SourceFile { bytes, identity: _ } = source;
+            Ok(Some((bytes, trace)))
+        }
         None => Ok(None),
     }
 }
