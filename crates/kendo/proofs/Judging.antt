@@ -208,9 +208,9 @@ pub summed : (invocation : Invocation) (limit tries states status all : ℕ) (pr
     → AreTests (map (λ path. path.now) invocation.files.now) programs → 1 ≤ length programs → (all ≡ status) ⊎ (all ≡ 6) → IsOfAll (Judges invocation) (length programs) status
     → JudgesAll invocation all
 summed invocation limit tries states status all programs is tests some (inl same) of_all =
-    inr (subst (λ (s : Subcommand). JudgesTests s invocation all) (sym is) (programs, tests, some, inl (subst (λ n. IsOfAll (Judges invocation) (length programs) n) (sym same) of_all)))
+    inr (subst (λ (s : Subcommand). JudgesTests s (Judges invocation) (map (λ path. path.now) invocation.files.now) all) (sym is) (programs, tests, some, inl (subst (λ n. IsOfAll (Judges invocation) (length programs) n) (sym same) of_all)))
 summed invocation limit tries states status all programs is tests some (inr lost) of_all =
-    inr (subst (λ (s : Subcommand). JudgesTests s invocation all) (sym is) (programs, tests, some, inr lost))
+    inr (subst (λ (s : Subcommand). JudgesTests s (Judges invocation) (map (λ path. path.now) invocation.files.now) all) (sym is) (programs, tests, some, inr lost))
 
 -- ---- of any command line
 
@@ -266,17 +266,17 @@ tells invocation status (inr (text, (outcome, finds, is))) = inr (text, status_i
 all_status : (invocation : Invocation) (count status : ℕ) → IsOfAll (Judges invocation) count status → IsStatus status
 all_status invocation count status all = of_all_status (Judges invocation) count status (λ one judges. told_status invocation.subcommand one (tells invocation one judges)) all
 
-tests_status : (subcommand : Subcommand) (invocation : Invocation) (status : ℕ) → JudgesTests subcommand invocation status → IsStatus status
-tests_status (subcommands.Test limit tries states) invocation status (programs, tests, some, inl all) = all_status invocation _ status all
-tests_status (subcommands.Test limit tries states) invocation status (programs, tests, some, inr lost) = inl (omega (arith, lost))
-tests_status subcommands.Check invocation status is = absurd is
-tests_status subcommands.List invocation status is = absurd is
-tests_status (subcommands.Reference limit) invocation status is = absurd is
-tests_status (subcommands.Timeline limit) invocation status is = absurd is
-tests_status (subcommands.Explore limit tries states) invocation status is = absurd is
-tests_status (subcommands.Inspect limit) invocation status is = absurd is
-tests_status (subcommands.Paused limit) invocation status is = absurd is
-tests_status (subcommands.Run workers limit) invocation status is = absurd is
+tests_status : (subcommand : Subcommand) (invocation : Invocation) (paths : List (List ℕ)) (status : ℕ) → JudgesTests subcommand (Judges invocation) paths status → IsStatus status
+tests_status (subcommands.Test limit tries states) invocation paths status (programs, tests, some, inl all) = all_status invocation _ status all
+tests_status (subcommands.Test limit tries states) invocation paths status (programs, tests, some, inr lost) = inl (omega (arith, lost))
+tests_status subcommands.Check invocation paths status is = absurd is
+tests_status subcommands.List invocation paths status is = absurd is
+tests_status (subcommands.Reference limit) invocation paths status is = absurd is
+tests_status (subcommands.Timeline limit) invocation paths status is = absurd is
+tests_status (subcommands.Explore limit tries states) invocation paths status is = absurd is
+tests_status (subcommands.Inspect limit) invocation paths status is = absurd is
+tests_status (subcommands.Paused limit) invocation paths status is = absurd is
+tests_status (subcommands.Run workers limit) invocation paths status is = absurd is
 
 pub judged_status : (words : List Text) (status : ℕ) → Obeys JudgesAll words status → IsStatus status
 judged_status words status obeys = obeyed {Reports = JudgesAll} words status by obeys
@@ -284,7 +284,7 @@ judged_status words status obeys = obeyed {Reports = JudgesAll} words status by 
     by : (invocation : Invocation) → (status ≡ 64) ⊎ JudgesAll invocation status → IsStatus status
     by invocation (inl is) = inr (inl is)
     by invocation (inr (inl all)) = all_status invocation _ status all
-    by invocation (inr (inr tests)) = tests_status invocation.subcommand invocation status tests
+    by invocation (inr (inr tests)) = tests_status invocation.subcommand invocation _ status tests
 
 -- that of a command line whose command was performed
 pub started : {E : Type 0} (words : List Text) (result : Result ℕ E) → IfOk result (λ status. Obeys JudgesAll words status) → IfOk result IsStatus

@@ -140,16 +140,17 @@ IsJudged invocation text status = (outcome : Result End Fault) × Finds invocati
 abbrev pub Judges : Invocation → (status : ℕ) → Type 0
 Judges invocation status = (text : List ℕ) × IsJudged invocation text status
 
--- the exit status of the tests of the programs that the paths stand for, at least one, or if the line that says how many passed can't be written
-abbrev pub JudgesTests : Subcommand → Invocation → (status : ℕ) → Type 0
-JudgesTests (subcommands.Test limit tries states) invocation status =
-    (programs : List (List ℕ)) × AreTests (map (λ path. path.now) invocation.files.now) programs × (1 ≤ length programs)
-    × (IsOfAll (Judges invocation) (length programs) status ⊎ (status ≡ 6))
-JudgesTests subcommand invocation status = ⊥
+-- the exit status of tests, of which `Reports` says that of one, of the programs that the paths stand for, at least one, or if the line that says how many passed can't be written
+abbrev pub JudgesTests : Subcommand → (Reports : (status : ℕ) → Type 0) → (paths : List (List ℕ)) → (status : ℕ) → Type 0
+JudgesTests (subcommands.Test limit tries states) Reports paths status =
+    (programs : List (List ℕ)) × AreTests paths programs × (1 ≤ length programs) × (IsOfAll Reports (length programs) status ⊎ (status ≡ 6))
+JudgesTests subcommand Reports paths status = ⊥
 
 -- the exit status of what the invocation finds in its files, or of its tests
 abbrev pub JudgesAll : Invocation → (status : ℕ) → Type 0
-JudgesAll invocation status = IsOfAll (Judges invocation) (length invocation.files.now) status ⊎ JudgesTests invocation.subcommand invocation status
+JudgesAll invocation status =
+    IsOfAll (Judges invocation) (length invocation.files.now) status
+    ⊎ JudgesTests invocation.subcommand (Judges invocation) (map (λ path. path.now) invocation.files.now) status
 
 -- what a command finds that neither explores nor tests
 abbrev pub FindsPlainly : Subcommand → (text : List ℕ) → Result End Fault → Type 0

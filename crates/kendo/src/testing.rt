@@ -162,15 +162,27 @@ fn test_file(
         file,
     };
     match opened(rt, alloc, &source, file, None)? {
-        Some((bytes, _no_trace)) if invocation.update => {
-            update_program(task, threads, invocation, bytes)
-        }
-        Some((bytes, _no_trace)) => test_program(task, threads, invocation, bytes),
+        Some((bytes, _no_trace)) => test_or_update(task, threads, invocation, bytes),
         None => Ok(USAGE),
     }
 }
 
 /// Like `test_file`, for the bytes of the file.
+fn test_or_update(
+    task: Task<'_, '_, '_>,
+    threads: &(impl Threads + Wait + Sync),
+    invocation: &Invocation<'_, '_>,
+    bytes: Vec<u8>,
+) -> Result<u8, Memory>
+    ensures { IfOk result (IsOfOne (Judges invocation.now)) }
+{
+    if invocation.update {
+        return update_program(task, threads, invocation, bytes);
+    }
+    test_program(task, threads, invocation, bytes)
+}
+
+/// Like `test_file`, for the bytes of the file, whose comments stay as they are.
 fn test_program(
     task: Task<'_, '_, '_>,
     threads: &(impl Threads + Wait + Sync),

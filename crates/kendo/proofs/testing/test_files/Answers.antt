@@ -1,4 +1,4 @@
-use Rattle.std.proofs.Common.{◌≡◌, ◌∙◌, ◌≤◌, inr, length, map, string_bytes, sym, subst, arith}
+use Rattle.std.proofs.Common.{rules, ◌≡◌, ◌∙◌, ◌≤◌, inr, length, map, string_bytes, sym, subst, arith}
 use Rattle.std.proofs.lemmas.List.{length-map}
 use Rattle.kendo.proofs.Judging.{summed}
 use Rattle.kendo.specs.Verdicts.{Judges}
@@ -15,5 +15,6 @@ returns g c =
     let paths = c.in_ok-tests.tests.paths.items in
     let end : c.loop-path.path-index ≡ length paths = omega (arith, c.loop-path-test.false, c.loop-path.auto.path-index-end) in
     let many : length (map string_bytes paths) ≡ length paths = length-map paths string_bytes in
-    let some : 1 ≤ length (map string_bytes paths) = ? in
+    let path : 1 ≤ length paths = search rules in
+    let some : 1 ≤ length (map string_bytes paths) = omega (arith, many, path) in
     inr (summed invocation _ _ _ _ _ (map string_bytes paths) c.in-Test.is c.in_ok-tests.ensures some c.in_ok-all.ensures (subst (λ n. IsOfAll (Judges invocation) n c.loop-path.status) (end ∙ sym many) c.loop-path.invariant))
