@@ -2,6 +2,7 @@
 use Rattle.std.proofs.Common.{◌≡◌, ℕ, ◌+◌, All, List, [], ◌∷◌, ◌++◌, length, Option, Some, None, IsSome, sym, ap, ◌∙◌, subst, refl, append-nil}
 use Rattle.std.specs.Io.KnownBytes.{Appends}
 use Rattle.std.specs.List.{flat_map}
+use Rattle.std.proofs.lemmas.Bool.{false≢true}
 use Rattle.std.proofs.lemmas.List.{length-append}
 use Rattle.std.proofs.lemmas.List.Concat.{flat_map-append}
 use Rattle.std.proofs.lemmas.List.Elements.{All-nil, All-push}
@@ -14,6 +15,22 @@ use Rattle.word.specs.Kinds.{GoroutineKind}
 use Rattle.word.specs.Values.{Event}
 use Rattle.word.specs.Views.{event_of}
 use Rattle.word.specs.Worlds.{end_of, moment}
+
+-- no newline is among these bytes
+pub AreClean : List ℕ → Type 0
+AreClean bytes = All (λ b. b ≡ 10 → ⊥) bytes
+
+pub clean_none : AreClean []
+unfolding AreClean
+clean_none = All-nil (λ b. b ≡ 10 → ⊥)
+
+pub clean_more : (bytes : List ℕ) (b : ℕ) → AreClean bytes → (b ≡ 10 → ⊥) → AreClean (bytes ++ b ∷ [])
+unfolding AreClean
+clean_more bytes b are is = All-push (λ b. b ≡ 10 → ⊥) bytes b are is
+
+pub clean_line : (bytes : List ℕ) → AreClean bytes → IsLine (bytes ++ 10 ∷ [])
+unfolding AreClean
+clean_line bytes are = (bytes, are, refl)
 
 -- one line more
 one_more : (bytes line : List ℕ) (count : ℕ) → AreLines bytes count → IsLine line → AreLines (bytes ++ line) (count + 1)
@@ -60,5 +77,5 @@ module _ {S : Type 0} (K : GoroutineKind) (held : S → K.State) where
       go : (o : Option Ending) → IsSome o → HasHadTo K held o run h.events h.output → HasLines K limit known now
       go (Some end) is e =
           subst (λ (k : ℕ). HasLines K k known now) same
-          (e.moves, h.bytes, h.written, subst (λ (es : List Event). AreLines h.bytes (length es)) (sym e.events) h.lines, subst IsSome (sym e.end) tt)
-      go None is e = absurd is
+          (e.moves, h.bytes, h.written, subst (λ (es : List Event). AreLines h.bytes (length es)) (sym e.events) h.lines, subst IsSome (sym e.end) is)
+      go None is e = absurd (false≢true is)

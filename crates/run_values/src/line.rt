@@ -37,6 +37,7 @@ pub(crate) fn line_of(alloc: Global, forms: &Forms<'_>, event: &Event) -> Result
 }
 
 /// These bytes as a line. They have no newline; one would be left out.
+#[tactic(auto, using(crate::proofs::Lines::clean_none, crate::proofs::Lines::clean_more, crate::proofs::Lines::clean_line))]
 fn ended(alloc: Global, words: &[u8]) -> Result<Vec<u8>, Memory>
     ensures { IfOk result (λ line. IsLine line.items) }
 {

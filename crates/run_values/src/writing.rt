@@ -15,7 +15,7 @@ ghost use Rattle.word.specs.Related.{kind_of};
 use crate::forms::Forms;
 use crate::line::line_of;
 use checker::Typed;
-use go_text::Fault;
+use go_text::{Fault, Memory};
 use kendo_reading::read;
 use one_thread::{Interpreter, OpenRun, next_event, open_run};
 use paused_goroutine::{Paused, PausedState};
@@ -65,19 +65,20 @@ fn write_all_values<W: Write>(
     let program = Watched::new(alloc, typed)?;
     let paused = Paused { program, plan };
     let forms = Forms::new(alloc, typed.tree().file());
-    write_run(alloc, &paused, limit, forms, values)
+    write_run(alloc, &paused, &paused.program, limit, forms, values)
 }
 
 /// Writes the values of the run of a program, in which no channel was made yet.
-fn write_run<P: Interpreter, W: Write>(
+fn write_run<'t, P: Interpreter, W: Write>(
     alloc: Global,
     program: &P,
+    watched: &Watched<'t>,
     limit: u64,
     mut forms: Forms<'_>,
     values: &mut W,
 ) -> Result<(), Fault>
 where
-    P::State: Sited,
+    P::State: Seen<'t>,
     requires { limit ≤ 2 ^ 62 }
     ensures only { IfErr result (λ fault. (fault ≡ Fault.Memory) ⊎ (fault ≡ Fault.Write)) }
     ensures write { IsErrOf result Fault.Write → W.has_failed values.new ≡ true }
@@ -88,7 +89,8 @@ where
         let Some(event) = next_event(alloc, program, &mut run)? else {
             return Ok(());
         };
-        forms.take(&event, node_of(&run, event.number))?;
+        let node = node_of(alloc, watched, &run, event.number)?;
+        forms.take(&event, node)?;
         let line = line_of(alloc, &forms, &event)?;
         put(values, line.as_slice())?;
     }
@@ -96,22 +98,29 @@ where
 }
 
 /// A goroutine that is known to be at a statement.
-pub(crate) trait Sited {
-    /// The node of that statement.
-    fn node(&self) -> NodeId;
+pub(crate) trait Seen<'t> {
+    /// The goroutine with its statements.
+    fn placed(&self) -> &Placed<'t>;
 }
 
-impl<'t> Sited for PausedState<Placed<'t>> {
-    fn node(&self) -> NodeId {
-        self.state.trail.site().node
+impl<'t> Seen<'t> for PausedState<Placed<'t>> {
+    fn placed(&self) -> &Placed<'t> {
+        &self.state
     }
 }
 
-/// The node that a goroutine is at; 0 if it has ended.
-fn node_of<S: Sited + Drop>(run: &OpenRun<S>, number: u64) -> NodeId {
+/// The node of the operation that made a goroutine's last request, which has just been done; 0 if the goroutine has ended.
+///
+/// Errors: out of memory.
+fn node_of<'t, S: Seen<'t> + Drop>(
+    alloc: Global,
+    watched: &Watched<'t>,
+    run: &OpenRun<S>,
+    number: u64,
+) -> Result<NodeId, Memory> {
     match run.goroutine(number) {
-        Some(goroutine) => goroutine.state.node(),
-        None => 0,
+        Some(goroutine) => watched.asking_node(alloc, goroutine.state.placed()),
+        None => Ok(0),
     }
 }
 
