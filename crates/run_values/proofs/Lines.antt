@@ -14,7 +14,6 @@ use Rattle.word.specs.declared.request.Event.{Event as Recorded}
 use Rattle.word.specs.Kinds.{GoroutineKind}
 use Rattle.word.specs.Values.{Event}
 use Rattle.word.specs.Views.{event_of}
-use Rattle.word.specs.Worlds.{end_of, moment}
 
 -- no newline is among these bytes
 pub AreClean : List ℕ → Type 0
