@@ -12,5 +12,5 @@ returns-clause-recorded c =
     let made = c.in_ok-recording.recording in
     let window = recorded_code (source_kind (tree_of (tree_in c.args.typed.now))) _ (arc_value c.in_ok-program.program) c.args.limit made.before (map event_of made.events.items) made.end
     (c.in_ok-program.ensures.ok ∙ c.in_ok-verified.ensures.code) c.in_ok-code.ensures.equal c.in_ok-recording.ensures.next c.in_ok-recording.ensures.rest in
-    let same = c.with_lines.ensures in
+    let same = c.with_notes.ensures in
     rw (same.0, same.1, same.2) window

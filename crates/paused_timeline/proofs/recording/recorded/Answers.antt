@@ -11,7 +11,7 @@ use Rattle.paused_timeline.proofs.recording.recorded.Goals as goal
 
 pub returns-clause-recorded : goal.returns-clause-recorded
 returns-clause-recorded c =
-    let made = c.with_lines.ensures in
+    let made = c.with_notes.ensures in
     let kept = c.recording.ensures in
     let seen = c.in_ok-kept.ensures in
     rw (made.0, made.1, made.2, kept.0, kept.1, kept.2)
