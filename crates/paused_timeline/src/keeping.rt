@@ -73,7 +73,7 @@ where
         let Some(event) = next_event(alloc, program, run)? else {
             return Ok(kept.ended(run.ending()));
         };
-        let site = noting.take(run, &event)?;
+        let site = noting.follow(run, &event)?;
         kept.take(event, site, skip)?;
     }
     Err(Memory)
@@ -102,7 +102,7 @@ where
         let Some(event) = next_event(alloc, program, run)? else {
             return Ok(latest.ended(run.ending()));
         };
-        let site = noting.take(run, &event)?;
+        let site = noting.follow(run, &event)?;
         latest.push(event, site, most)?;
     }
     Err(Memory)

@@ -58,7 +58,7 @@ impl<'f> Noting<'f> {
     /// Notes the pauses that begin after the last event of a run, and returns the statement that made its request.
     ///
     /// Errors: out of memory.
-    pub(crate) fn take<S: Sited + Drop>(
+    pub(crate) fn follow<S: Sited + Drop>(
         &mut self,
         run: &OpenRun<S>,
         event: &Event,

@@ -12,7 +12,7 @@ use Rattle.paused_timeline.proofs.recording.recorded.Goals as goal
 pub returns-clause-recorded : goal.returns-clause-recorded
 returns-clause-recorded c =
     let made = c.with_notes.ensures in
-    let kept = c.recording.ensures in
+    let kept = c.recording-recording.ensures in
     let seen = c.in_ok-kept.ensures in
     rw (made.0, made.1, made.2, kept.0, kept.1, kept.2)
     (subst (λ (file : File). IsWindow (paused (source_kind file) (pauses_of c.args.plan.now.pauses.items)) c.args.limit c.in_ok-kept.kept.before (map event_of c.in_ok-kept.kept.events.items) c.in_ok-kept.kept.end) c.in_ok-program.ensures
