@@ -35,8 +35,8 @@ pub(crate) const LEGEND: &str = "<g transform=\"translate(12,56)\">\
 <line class=\"run\" x1=\"0\" y1=\"-4\" x2=\"24\" y2=\"-4\"/><text x=\"30\">awake</text>\
 <rect class=\"sleep\" x=\"78\" y=\"-12\" width=\"24\" height=\"16\"/><text x=\"108\">asleep</text>\
 <line class=\"arrow c1\" x1=\"158\" y1=\"-4\" x2=\"182\" y2=\"-4\" marker-end=\"url(#c1)\"/><text x=\"188\">item</text>\
-<line class=\"arrow close\" x1=\"226\" y1=\"-4\" x2=\"250\" y2=\"-4\" marker-end=\"url(#close)\"/>\
-<path class=\"shut\" d=\"M221 -4l5 -5l5 5l-5 5z\"/><text x=\"256\">close</text>\
+<line class=\"arrow close\" x1=\"230\" y1=\"-4\" x2=\"254\" y2=\"-4\" marker-end=\"url(#close)\"/>\
+<path class=\"shut\" d=\"M225 -4l5 -5l5 5l-5 5z\"/><text x=\"259\">close</text>\
 <line class=\"arrow start\" x1=\"298\" y1=\"-4\" x2=\"322\" y2=\"-4\" marker-end=\"url(#start)\"/><text x=\"328\">go</text>\
 <path class=\"dot\" d=\"M362 -4m-3 0a3 3 0 1 0 6 0a3 3 0 1 0 -6 0z\"/><text x=\"370\">event</text>\
 <path class=\"print\" d=\"M416 -4m-4 -4h8v8h-8z\"/><text x=\"427\">print</text>\
