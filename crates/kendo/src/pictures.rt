@@ -84,7 +84,7 @@ fn draw(
         invocation,
         file: _,
     } = task;
-    let bytes = source.bytes.clone()?;
+    let bytes = Vec::from_slice(alloc, source.bytes.as_slice())?;
     let format = Format::of(invocation.out);
     let recording = match recorded(alloc, bytes, plan, limit, invocation, format.most_events()) {
         Ok(recording) => recording,

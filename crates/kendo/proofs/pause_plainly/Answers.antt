@@ -1,7 +1,7 @@
 use Rattle.std.proofs.lemmas.Result.{err_from_is_err_and}
 use Rattle.kendo_shell.proofs.Findings.{limit_ended, paused_stops}
 use Rattle.pauses.specs.Plans.{pauses_of}
-use Rattle.kendo.proofs.pause.Goals as goal
+use Rattle.kendo.proofs.pause_plainly.Goals as goal
 
 pub returns-in_err-end : goal.returns-in_err-end
 returns-in_err-end c =
