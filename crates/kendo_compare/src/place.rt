@@ -5,7 +5,7 @@ use go_text::{Fault, Memory};
 use kendo_code::timeline_window;
 use paused_timeline::timeline_paused;
 use std::alloc::Global;
-use timeline::{Recording, Window};
+use timeline::{Recording, Window, transfer_of};
 
 /// The location in the source of the request of an event.
 #[derive(Drop)]
@@ -14,7 +14,7 @@ pub(crate) struct Place {
     pub function: Option<String>,
     /// The line, counted from 1.
     pub line: Option<u32>,
-    /// What the event is, as `sends 3 on orders`.
+    /// What the event sends or receives, as `sends 3 on orders`; `None` if it does neither.
     pub event: Option<String>,
 }
 
@@ -32,7 +32,7 @@ impl Place {
 
     /// The location of the only event of a recording.
     fn in_recording(alloc: Global, recording: &Recording) -> Result<Place, Memory> {
-        let event = recording.event_words(alloc, 0)?;
+        let event = transfer_in(alloc, recording)?;
         let Some(Some(site)) = recording.sites.first().copied() else {
             return Ok(Place {
                 function: None,
@@ -62,6 +62,14 @@ impl Place {
             line: None,
             event: None,
         }
+    }
+}
+
+/// What the first event of a recording sends or receives, in words; `None` if it does neither.
+fn transfer_in(alloc: Global, recording: &Recording) -> Result<Option<String>, Memory> {
+    match recording.events.first() {
+        Some(event) if transfer_of(event).is_some() => recording.event_words(alloc, 0),
+        _ => Ok(None),
     }
 }
 
