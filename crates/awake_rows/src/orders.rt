@@ -10,12 +10,11 @@ use crate::goroutine::Goroutine;
 use crate::rows::row_in;
 use crate::turns::Among;
 use key_index::KeyIndex;
-use logical_clock::{Clock, Key, sooner};
+use logical_clock::{Clock, Key, Steps, sooner};
 use slot_index::SlotIndex;
 use std::alloc::{AllocError, Global};
 use std::marker::Brand;
 use std::sync::ledger::{Blank, Ledger};
-use steps::Steps;
 
 /// The keys of goroutines, by their slots. The keys of a slot are set only once the row in another slot changes, so a row that changes
 /// several times in a row sets its keys once.

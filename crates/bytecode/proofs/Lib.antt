@@ -3,3 +3,4 @@ pub mod Fitted
 pub mod Instrs
 pub mod Unstuck
 pub mod Silent
+pub mod Listings

@@ -3,3 +3,4 @@ pub mod Effects
 pub mod Machine
 pub mod Rules
 pub mod Silence
+pub mod Listing

@@ -7,7 +7,7 @@ use Rattle.std.specs.Option.{is_some}
 use Rattle.std.proofs.lemmas.Bool.{cases_eq, cases_Bool, both_ways, and_from, and_left, and_right, or_from, or_left, or_right}
 use Rattle.word.specs.Values.{Item, Request, Sleeper, Offer, Reply}
 use Rattle.word.specs.Requests.{also, close_reply, first_offer, first_on, offers, or_else, partner, partners, without, without_all}
-use Rattle.sleep_queue.specs.declared.offer.Offer.{Offer as Entry}
+use Rattle.word.specs.declared.offer.Offer.{Offer as Entry}
 use Rattle.sleep_queue.specs.Queue.{Waiting, first}
 use Rattle.channel_core.specs.Asleep.{Placed, placed_of, row_on, placed_offer, placed_all, held, asleep_of, placed_by, has, AreDistinct}
 use Rattle.channel_core.specs.Channels.{Partner, closed_for, partner_of}

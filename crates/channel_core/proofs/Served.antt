@@ -7,7 +7,7 @@ use Rattle.std.proofs.lemmas.Bool.{cases_eq, cases_Bool}
 use Rattle.std.proofs.lemmas.Option.{none-some}
 use Rattle.word.specs.Values.{Closed, Item, Reply, Sleeper}
 use Rattle.word.specs.Requests.{got, partner}
-use Rattle.sleep_queue.specs.declared.offer.Offer.{Offer as Entry}
+use Rattle.word.specs.declared.offer.Offer.{Offer as Entry}
 use Rattle.sleep_queue.specs.Queue.{QueuesValue, Waiting, first, is_in_either, row_of}
 use Rattle.channel_core.specs.Asleep.{IsAsleep, Placed, asleep_of, has, held, is_not_of, placed, row_on}
 use Rattle.channel_core.specs.Channels.{partner_of}

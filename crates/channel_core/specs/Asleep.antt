@@ -3,7 +3,7 @@ use Rattle.std.specs.Prelude.{◌≡◌, ℕ, ◌+◌, ◌*◌, ◌==◌, Bool, 
 use Rattle.std.specs.Option.{is_some}
 use Rattle.word.specs.Values.{Request, Exhausted, Sleeper, Offer}
 use Rattle.word.specs.Requests.{offers}
-use Rattle.sleep_queue.specs.declared.offer.Offer.{Offer as Entry}
+use Rattle.word.specs.declared.offer.Offer.{Offer as Entry}
 use Rattle.sleep_queue.specs.Queue.{Waiting, QueuesValue}
 
 -- an offer in a row. Its number is its sleeper's key

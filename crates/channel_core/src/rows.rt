@@ -9,10 +9,10 @@ ghost use Rattle.word.specs.Views.{request_of};
 ghost use Rattle.channel_core.specs.Asleep.{is_not_of, placed, placed_all, placed_offer, row_on};
 
 use go_text::Memory;
+use logical_clock::Steps;
 use sleep_queue::{OfferView, SleepQueues};
 use std::marker::Brand;
 use std::sync::ledger::{Blank, Ledger};
-use steps::Steps;
 use word::request::{Case, Request};
 use word::value::Item;
 

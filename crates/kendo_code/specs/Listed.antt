@@ -4,7 +4,7 @@ use Rattle.std.specs.Io.KnownBytes.{Appends}
 use Rattle.bytecode.specs.Code.{Code}
 use Rattle.bytecode.specs.Machine.{code_kind}
 use Rattle.bytecode.specs.Rules.{IsVerified}
-use Rattle.code_listing.specs.Listing.{listing}
+use Rattle.bytecode.specs.Listing.{listing}
 use Rattle.codegen.specs.Codes.{AreNamed}
 use Rattle.meaning.specs.Source.{source_kind}
 use Rattle.syntax.specs.Tree.{File}

@@ -5,7 +5,7 @@ ghost use Rattle.kendo_code.specs.Listed.{BeginsListing, IsListing};
 ghost use Rattle.kendo_reading.specs.Reading.{HasNoReading, IsRefusal, IsWhy, Reads};
 ghost use Rattle.syntax.specs.Tree.{File};
 
-use code_listing::listing;
+use bytecode::listing;
 use codegen::compile;
 use go_text::Fault;
 use kendo_reading::read;

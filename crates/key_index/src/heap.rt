@@ -4,9 +4,8 @@ ghost use Rattle.std.specs.Prelude.{◌≡◌, ℕ, ◌+◌, ◌*◌, ◌<◌, �
 ghost use Rattle.key_index.specs.Heap.{IsAboveChildren, IsBelowParent, IsFilled, IsHeap, IsHole, entry_at, key_at, keys_with};
 ghost use Rattle.logical_clock.specs.Order.{is_before};
 
-use logical_clock::Key;
+use logical_clock::{Key, Steps};
 use std::sync::ledger::Ledger;
-use steps::Steps;
 
 /// A slot that is taken, with its key.
 #[derive(Clone, Copy)]

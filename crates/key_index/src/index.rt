@@ -6,11 +6,10 @@ ghost use Rattle.logical_clock.specs.declared.key.Key.{Key};
 
 use crate::heap::{Entry, refill, second, sift, sift_down, sift_up};
 use go_text::Memory;
-use logical_clock::Key;
+use logical_clock::{Key, Steps};
 use std::alloc::{AllocError, Global};
 use std::marker::Model;
 use std::sync::ledger::Ledger;
-use steps::Steps;
 
 /// The keys of slots, of which each is taken or free, and which is least. Room for a key is made with its slot.
 #[derive(Drop)]

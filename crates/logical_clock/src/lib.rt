@@ -7,6 +7,8 @@
 mod clock;
 mod key;
 pub mod limits;
+mod steps;
 
 pub use clock::{Clock, LAST, tick};
 pub use key::{Key, sooner};
+pub use steps::Steps;

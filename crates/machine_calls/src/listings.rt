@@ -2,9 +2,8 @@
 
 use crate::checks::Checks;
 use crate::made::main_code;
-use bytecode::Instr;
 use bytecode::Instr::*;
-use code_listing::listing;
+use bytecode::{Instr, listing};
 use go_text::{Fault, Memory};
 use std::alloc::Global;
 use word::apply::Op;

@@ -12,12 +12,11 @@ use crate::goroutine::{Goroutine, Turn, advance, tell};
 use crate::interpreter::Interpreter;
 use go_text::Memory;
 use key_index::KeyIndex;
-use logical_clock::{Clock, Key};
+use logical_clock::{Clock, Key, Steps};
 use reference_world::Woken;
 use std::alloc::Global;
 use std::marker::{Brand, Model};
 use std::sync::ledger::{Blank, Ledger};
-use steps::Steps;
 use word::request::Reply;
 
 /// All goroutines, goroutine n at index n; index 0 is empty. A heap has the keys of those that are awake, so the least key

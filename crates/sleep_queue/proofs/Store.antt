@@ -9,7 +9,7 @@ use Rattle.sleep_queue.specs.Queue.{node_at, sooner}
 use Rattle.sleep_queue.specs.Stored.{AreStored, IsOffered, item_at, offer_of, stored_item}
 use Rattle.sleep_queue.specs.declared.offer.Kept.{Kept}
 use Rattle.sleep_queue.specs.declared.offer.Node.{Node}
-use Rattle.sleep_queue.specs.declared.offer.Offer.{Offer}
+use Rattle.word.specs.declared.offer.Offer.{Offer}
 use Rattle.sleep_queue.specs.declared.offer.Stored.{Stored}
 
 node_inj : (a b : Node) → Some a ≡ Some b → a ≡ b

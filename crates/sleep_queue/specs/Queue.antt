@@ -3,7 +3,7 @@ use Rattle.std.specs.Prelude.{◌≡◌, ◌≢◌, ℕ, ◌<◌, ◌≤◌, Boo
 use Rattle.std.specs.List.{filter}
 use Rattle.std.specs.Option.{is_some}
 use Rattle.sleep_queue.specs.Linked.{link}
-use Rattle.sleep_queue.specs.declared.offer.Offer.{Offer}
+use Rattle.word.specs.declared.offer.Offer.{Offer}
 use Rattle.sleep_queue.specs.declared.offer.Node.{Node}
 use Rattle.sleep_queue.specs.Stored.{AreStored, offer_of}
 use Rattle.word.specs.Values.{Item}

@@ -3,7 +3,7 @@ use Rattle.std.specs.Prelude.{◌≡◌, ℕ, List, Option, None, Some, option_c
 use Rattle.word.specs.Values.{Item}
 use Rattle.sleep_queue.specs.declared.offer.Kept.{Kept}
 use Rattle.sleep_queue.specs.declared.offer.Node.{Node}
-use Rattle.sleep_queue.specs.declared.offer.Offer.{Offer}
+use Rattle.word.specs.declared.offer.Offer.{Offer}
 use Rattle.sleep_queue.specs.declared.offer.OfferView.{OfferView}
 use Rattle.sleep_queue.specs.declared.offer.Stored.{Stored}
 

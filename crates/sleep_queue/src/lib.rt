@@ -10,5 +10,6 @@ mod queues;
 mod rings;
 
 pub use numbered_keys::NumberedKeys;
-pub use offer::{Offer, OfferView};
+pub use offer::OfferView;
 pub use queues::SleepQueues;
+pub use word::offer::Offer;

@@ -10,15 +10,16 @@ ghost use Rattle.std.specs.Option.{is_some};
 
 use crate::heads::{head_of, head_with, head_without, set_head};
 use crate::items::{forget, lend, store};
-use crate::offer::{Kept, Node, Offer, OfferView};
+use crate::offer::{Kept, Node, OfferView};
 use crate::owners::Owners;
 use crate::rings::Rings;
 use go_text::Memory;
+use logical_clock::Steps;
 use slab::Slab;
 use std::alloc::Global;
 use std::marker::Model;
 use std::sync::ledger::Ledger;
-use steps::Steps;
+use word::offer::Offer;
 use word::value::Item;
 
 /// Rows of offers, each in the order in which its offers entered. An offer leaves from anywhere, and all offers of a

@@ -15,6 +15,7 @@ ghost use Rattle.word.specs.Zeros.{IsZeroLast};
 pub mod apply;
 pub mod end;
 pub mod limits;
+pub mod offer;
 pub mod panic;
 pub mod request;
 pub mod text;

@@ -4,12 +4,11 @@ ghost use Rattle.std.specs.Prelude.{◌≡◌};
 
 use go_text::{Fault, Memory};
 use key_index::KeyIndex;
-use logical_clock::{Clock, Key};
+use logical_clock::{Clock, Key, Steps};
 use machine_calls::Checks;
 use std::alloc::Global;
 use std::marker::Brand;
 use std::sync::ledger::{Blank, Ledger};
-use steps::Steps;
 
 /// Whether the least key is that of the least clock and, of equal clocks, of the least number.
 pub(crate) fn check(alloc: Global, checks: &mut Checks) -> Result<(), Memory> {

@@ -3,7 +3,7 @@ use Rattle.std.specs.Prelude.{option_copied, option_map}
 use Rattle.std.specs.List.{filter}
 use Rattle.sleep_queue.specs.Stored.{offer_of}
 use Rattle.sleep_queue.specs.declared.offer.Node.{Node}
-use Rattle.sleep_queue.specs.declared.offer.Offer.{Offer}
+use Rattle.word.specs.declared.offer.Offer.{Offer}
 use Rattle.sleep_queue.specs.Queue.{QueuesValue, Waiting, first, head_at, is_in_either, node_at, sooner}
 use Rattle.sleep_queue.proofs.Sides.{first_of_heads}
 use Rattle.sleep_queue.proofs.Store.{lent_sooner}

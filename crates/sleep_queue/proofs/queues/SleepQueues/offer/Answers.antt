@@ -4,7 +4,7 @@ use Rattle.std.specs.Option.{is_some}
 use Rattle.std.specs.Prelude.{option_map}
 use Rattle.std.proofs.lemmas.Bool.{false≢true}
 use Rattle.sleep_queue.specs.Queue.{QueuesValue, Waiting, first, is_at}
-use Rattle.sleep_queue.specs.declared.offer.Offer.{Offer}
+use Rattle.word.specs.declared.offer.Offer.{Offer}
 use Rattle.sleep_queue.proofs.Sides.{at_key, none_at}
 use Rattle.sleep_queue.proofs.Store.{lent_offer}
 use Rattle.sleep_queue.proofs.queues.SleepQueues.offer.Goals as goal

@@ -3,8 +3,8 @@ use Rattle.std.specs.Prelude.{ℕ, ◌+◌, ◌-◌, Bool, true, false, List, []
 use Rattle.std.specs.Fmt.{signed_decimal}
 use Rattle.bytecode.specs.declared.instr.Instr.{Instr}
 use Rattle.bytecode.specs.declared.instr.Instr.TheVariants as instrs
-use Rattle.code_listing.specs.declared.lines.Operands.{Operands}
-use Rattle.code_listing.specs.declared.lines.Operands.TheVariants as operands
+use Rattle.bytecode.specs.declared.lines.Operands.{Operands}
+use Rattle.bytecode.specs.declared.lines.Operands.TheVariants as operands
 use Rattle.bytecode.specs.Code.{Function, Code}
 use Rattle.word.specs.declared.apply.Op.{Op}
 use Rattle.word.specs.declared.apply.Op.TheVariants as ops

@@ -2,9 +2,10 @@
 
 ghost use Rattle.std.specs.Prelude.{◌≡◌, ◌++◌, IfOk, OnOk, Some, string_bytes};
 ghost use Rattle.std.specs.Fmt.{DisplaysOnOk};
-ghost use Rattle.code_listing.specs.Listing.{function_lines, heading, instr_line, instr_lines, instr_text, listing as listing_of, op_name as name_of, operands_text};
+ghost use Rattle.bytecode.specs.Listing.{function_lines, heading, instr_line, instr_lines, instr_text, listing as listing_of, op_name as name_of, operands_text};
 
-use bytecode::{Code, Function, Instr};
+use crate::code::{Code, Function};
+use crate::instr::Instr;
 use go_text::Memory;
 use std::alloc::{AllocError, Global};
 use std::fmt;

@@ -3,9 +3,9 @@ use Rattle.std.proofs.lemmas.List.{take_all}
 use Rattle.std.proofs.lemmas.Option.{slice_get-get_or}
 use Rattle.std.specs.Global.{Vec}
 use Rattle.bytecode.specs.Code.{Function}
-use Rattle.code_listing.specs.Listing.{function_lines, heading, instr_lines}
-use Rattle.code_listing.proofs.Listings.{one_function_more}
-use Rattle.code_listing.proofs.lines.listing.Goals as goal
+use Rattle.bytecode.specs.Listing.{function_lines, heading, instr_lines}
+use Rattle.bytecode.proofs.Listings.{one_function_more}
+use Rattle.bytecode.proofs.lines.listing.Goals as goal
 
 pub loop-number-preserved : goal.loop-number-preserved
 loop-number-preserved c =

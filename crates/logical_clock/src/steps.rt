@@ -1,6 +1,4 @@
 //! A count of steps that takes no bytes, by which contracts bound what a call does.
-#![tactic(auto)]
-
 ghost use Rattle.std.specs.Prelude.{◌≡◌, ◌+◌, ◌<◌};
 
 use std::marker::Model;

@@ -1,8 +1,8 @@
 use Rattle.std.proofs.Common.{◌≡◌, ◌∙◌, ◌++◌, OnOk, ap, subst, List, ℕ, [], ◌∷◌, string_bytes}
 use Rattle.std.specs.Fmt.{styled_decimal}
-use Rattle.code_listing.specs.Listing.{instr_text}
-use Rattle.code_listing.proofs.Listings.{aligned}
-use Rattle.code_listing.proofs.lines.list_instr.Goals as goal
+use Rattle.bytecode.specs.Listing.{instr_text}
+use Rattle.bytecode.proofs.Listings.{aligned}
+use Rattle.bytecode.proofs.lines.list_instr.Goals as goal
 
 pub returns : goal.returns
 returns c =

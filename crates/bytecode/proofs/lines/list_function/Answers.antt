@@ -2,9 +2,9 @@ use Rattle.std.proofs.Common.{◌∙◌, ◌++◌, ap, sym, List, ℕ, take, str
 use Rattle.bytecode.specs.declared.instr.Instr.{Instr}
 use Rattle.bytecode.specs.declared.instr.Instr.TheVariants as instrs
 use Rattle.std.proofs.lemmas.Option.{slice_get-get_or}
-use Rattle.code_listing.specs.Listing.{heading, instr_line, instr_lines}
-use Rattle.code_listing.proofs.Listings.{appended, one_more, read}
-use Rattle.code_listing.proofs.lines.list_function.Goals as goal
+use Rattle.bytecode.specs.Listing.{heading, instr_line, instr_lines}
+use Rattle.bytecode.proofs.Listings.{appended, one_more, read}
+use Rattle.bytecode.proofs.lines.list_function.Goals as goal
 
 pub loop-place-preserved : goal.loop-place-preserved
 loop-place-preserved c =

@@ -9,7 +9,7 @@ use Rattle.std.proofs.Math.Nat.{sub_self}
 use Rattle.std.proofs.Math.Utf8.{encode}
 use Rattle.bytecode.specs.declared.instr.Instr.{Instr}
 use Rattle.bytecode.specs.declared.instr.Instr.TheVariants as instrs
-use Rattle.code_listing.specs.Listing.{right_aligned, instr_line, instr_lines, heading, function_lines}
+use Rattle.bytecode.specs.Listing.{right_aligned, instr_line, instr_lines, heading, function_lines}
 use Rattle.bytecode.specs.Code.{Function}
 use Rattle.bytecode.proofs.Options.{some_inj, none_some}
 
