@@ -50,14 +50,16 @@ impl Model for Sleeping {
 }
 
 impl GoState {
-    /// Puts the goroutine to sleep; returns it, and its buffer for reply words.
+    /// Puts the goroutine to sleep; returns it, and its buffer for reply words. It gives back the memory of frames that it keeps for
+    /// later calls, if there are many.
     pub fn fall_asleep(self) -> (Sleeping, Room)
         requires { IsQuiet self.state }
         ensures { result.0 ≡ self }
     {
         let (clock, doomed, frames) = self.into_parts();
         frames.running.as_ref().quiet();
-        let Frames { running, told } = frames;
+        let Frames { mut running, told } = frames;
+        running.as_mut().trim_deep();
         let sleeping = Sleeping {
             clock,
             doomed,

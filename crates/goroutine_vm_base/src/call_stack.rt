@@ -14,8 +14,11 @@ use std::alloc::{AllocError, Global};
 use std::marker::Model;
 use word::value::Word;
 
-/// How many frames an ended goroutine keeps for later calls.
+/// How many frames `trim` keeps for later calls.
 const MOST_KEPT: usize = 3;
+
+/// How many frames a goroutine that falls asleep may keep for later calls. It trims its call stack if it keeps more.
+const MOST_KEPT_ASLEEP: usize = 64;
 
 /// A nonempty stack of functions, each waiting for the one called after it; contracts list the last one called first. Frames are kept for
 /// later calls; contracts don't mention these.
@@ -72,6 +75,25 @@ impl CallStack {
         ensures { self.new ≡ self.old }
     {
         self.frames.truncate(self.depth + MOST_KEPT);
+    }
+
+    /// Frees the memory of frames kept for later calls, if there are many.
+    #[inline(always)]
+    pub fn trim_deep(&mut self)
+        ensures { self.new ≡ self.old }
+    {
+        if self.frames.len() - self.depth > MOST_KEPT_ASLEEP {
+            self.trim_all();
+        }
+    }
+
+    /// Like `trim`, but it also frees the list's own memory. It is a call, so that a goroutine with few frames falls asleep without it.
+    #[inline(never)]
+    fn trim_all(&mut self)
+        ensures { self.new ≡ self.old }
+    {
+        self.trim();
+        self.frames.shrink_to_fit();
     }
 
     /// How many there are.
