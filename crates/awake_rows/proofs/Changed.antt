@@ -45,6 +45,22 @@ asleep_up f None = refl
 asleep_up f (Some (Awake row)) = refl
 asleep_up f (Some (Asleep state)) = refl
 
+-- what a slot holds stays a goroutine
+pub some_with : (f : Row State → Row State) (o : Option Goroutine) → IsSome o → IsSome (with_row f o)
+some_with f None h = absurd cc
+some_with f (Some (Awake row)) h = refl
+some_with f (Some (Asleep state)) h = refl
+
+pub some_down : (o : Option Goroutine) → IsSome o → IsSome (lain_down o)
+some_down None h = absurd cc
+some_down (Some (Awake row)) h = refl
+some_down (Some (Asleep state)) h = refl
+
+pub some_up : (f : State → State) (o : Option Goroutine) → IsSome o → IsSome (woken_up f o)
+some_up f None h = absurd cc
+some_up f (Some (Awake row)) h = refl
+some_up f (Some (Asleep state)) h = refl
+
 pub awake_not_asleep : (o : Option Goroutine) → IsSome (awake_of o) → asleep_of o ≡ None
 awake_not_asleep None h = absurd cc
 awake_not_asleep (Some (Awake row)) h = refl
@@ -106,8 +122,9 @@ module _ (count : ℕ) (slots : Numbered) (items : Items) (orders : Orders) (all
       changes = written_back items given changed len s item (all.within n s has) size same set
 
       -- the one that has it is late
-      pub kept_set : (seen : Items) (after : Orders) → seen ≡ new → (s ≡ orders.late → after ≡ orders) → (s ≢ orders.late → after ≡ now_late orders slots seen s) → IfSome (row_in seen s) KeepsFloor → AreLiving count slots new after
-      kept_set seen after see kept moved floor = kept_changed count slots items orders all n s has item new changes after (record {
+      pub kept_set : (seen : Items) (after : Orders) → seen ≡ new → (s ≡ orders.late → after ≡ orders) → (s ≢ orders.late → after ≡ now_late orders slots seen s) → IfSome (row_in seen s) KeepsFloor
+          → (IsSome (slice_index_or given s None) → IsSome item) → AreLiving count slots new after
+      kept_set seen after see kept moved floor there = kept_changed count slots items orders all n s has item new changes (there (subst (λ (xs : Items). IsSome (slice_index_or xs s None)) (sym same) (all.taken n s has))) after (record {
         same = kept;
         other = λ ne. moved ne ∙ ap (λ (xs : Items). now_late orders slots xs s) see;
         floor = subst (λ (xs : Items). IfSome (row_in xs s) KeepsFloor) see floor;
@@ -227,8 +244,8 @@ module _ (count : ℕ) (slots : Numbered) (items : Items) (orders : Orders) (all
   start_changes = written_back more given changed len s item within size same set
 
   pub kept_start : (seen : Items) (after : Orders) → seen ≡ take len (changed ++ drop (length changed) more) → (s ≡ grown.late → after ≡ grown) → (s ≢ grown.late → after ≡ now_late grown slots' seen s) → IfSome (row_in seen s) KeepsFloor
-      → AreLiving (count + 1) slots' (take len (changed ++ drop (length changed) more)) after
-  kept_start seen after see kept moved floor = kept_started count slots more grown start_all slots' inverse' s gives item (take len (changed ++ drop (length changed) more)) start_changes within after (record {
+      → IsSome item → AreLiving (count + 1) slots' (take len (changed ++ drop (length changed) more)) after
+  kept_start seen after see kept moved floor there = kept_started count slots more grown start_all slots' inverse' s gives item (take len (changed ++ drop (length changed) more)) start_changes within there after (record {
     same = kept;
     other = λ ne. moved ne ∙ ap (λ (xs : Items). now_late grown slots' xs s) see;
     floor = subst (λ (xs : Items). IfSome (row_in xs s) KeepsFloor) see floor;
@@ -257,9 +274,9 @@ gets_up f items taken put s state row t p is e =
 -- ---- if one is lent, or works
 
 -- one that is lent, or none is
-pub lent_at : (o : Option State) (given changed : Items) (s : ℕ) (C : Type 0) → IfNone o (C × (changed ≡ given)) → IfSome o (λ t. (row_in given s ≡ Some (free_row t)) × (changed ≡ slice_set given s (Some (Awake (lent_row t))))) → (item : Option Goroutine) × (changed ≡ slice_set given s item)
-lent_at None given changed s C none some = (slice_index_or given s None, none.1 ∙ sym (set-get_or given s None))
-lent_at (Some t) given changed s C none some = (Some (Awake (lent_row t)), some.1)
+pub lent_at : (o : Option State) (given changed : Items) (s : ℕ) (C : Type 0) → IfNone o (C × (changed ≡ given)) → IfSome o (λ t. (row_in given s ≡ Some (free_row t)) × (changed ≡ slice_set given s (Some (Awake (lent_row t))))) → (item : Option Goroutine) × (changed ≡ slice_set given s item) × (IsSome (slice_index_or given s None) → IsSome item)
+lent_at None given changed s C none some = (slice_index_or given s None, none.1 ∙ sym (set-get_or given s None), λ h. h)
+lent_at (Some t) given changed s C none some = (Some (Awake (lent_row t)), some.1, λ h. refl)
 
 pub worked_at : {E : Type 0} (code : Code) (limit quantum : ℕ) (given changed : Items) (s : ℕ) (r : Result Bool E) → IfOk r (λ asking. WorksAt code limit quantum given s (Some asking) changed) → OnErr r (WorksAt code limit quantum given s None changed)
     → (row : Row State) × (changed ≡ slice_set given s (Some (Awake row)))

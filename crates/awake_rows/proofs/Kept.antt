@@ -1,6 +1,6 @@
 -- What changes of an item keep.
 use Rattle.std.proofs.Common.{◌≡◌, ◌≢◌, ◌∙◌, ℕ, zero, suc, ◌+◌, ◌<◌, ◌≤◌, Bool, List, [], ◌∷◌, ◌++◌, length, take, drop, Option, Some, None, refl, ap, sym, subst, arith, inl, inr, length-set, get_or-set_same, get_or-set_other}
-use Rattle.std.specs.Prelude.{IfSome, slice_index_or, slice_set}
+use Rattle.std.specs.Prelude.{IfSome, IsSome, slice_index_or, slice_set}
 use Rattle.std.proofs.lemmas.Bool.{cases_eq, cases_lt}
 use Rattle.std.proofs.lemmas.Grind.{common_steps}
 use Rattle.std.proofs.lemmas.List.{length-append, set_past}
@@ -146,6 +146,7 @@ none_living slots items orders none free o = record {
   inverse = record { number = λ n s e. nobody n s (number_at slots s ≡ Some n) e; slot = λ n s e. let no : None ≡ Some n = sym (free s) ∙ e in absurd (cc) };
   below = λ n s e. nobody n s (n < 0) e;
   within = λ n s e. nobody n s (s < length items) e;
+  taken = λ n s e. nobody n s (IsSome (slice_index_or items s None)) e;
   ordered = o;
 } where
   nobody : (n s : ℕ) (P : Type 0) → slot_of slots n ≡ Some s → P
@@ -288,11 +289,15 @@ rows_apart items new s same t ne = ap awake_of (same t ne)
 
 -- a goroutine's item changes
 module _ (count : ℕ) (slots : Numbered) (items : Items) (orders : Orders) (all : AreLiving count slots items orders) (n s : ℕ) (has : slot_of slots n ≡ Some s) (item : Option Goroutine) (new : Items) (c : Changes items s item new) where
-  pub kept_changed : (after : Orders) → IsNoted orders slots new s after → AreLiving count slots new after
-  kept_changed after noted = record {
+  pub kept_changed : IsSome item → (after : Orders) → IsNoted orders slots new s after → AreLiving count slots new after
+  kept_changed there after noted = record {
     inverse = all.inverse;
     below = all.below;
     within = λ m t e. omega (arith, all.within m t e, c.size);
+    taken = λ m t e. elim (cases_eq t s) [
+      | inl q ↦ subst (λ (i : ℕ). IsSome (slice_index_or new i None)) (sym q) (subst (λ (o : Option Goroutine). IsSome o) (sym c.here) there)
+      | inr ne ↦ subst (λ (o : Option Goroutine). IsSome o) (sym (c.others t ne)) (all.taken m t e)
+    ];
     ordered = orders_noted orders after slots slots items new s all.ordered (subst (HaveRoom orders) (sym c.size) (orders_room orders slots items all.ordered)) (λ t ne. refl) (rows_apart items new s c.others) noted;
   }
 
@@ -323,6 +328,10 @@ module _ (count : ℕ) (slots : Numbered) (items : Items) (orders : Orders) (all
       inverse = inverse';
       below = λ m t e. all.below m t (still m t e);
       within = λ m t e. omega (arith, all.within m t (still m t e), c.size);
+      taken = λ m t e. elim (cases_eq m n) [
+        | inl q ↦ let no : None ≡ Some t = sym frees.slot ∙ ap (slot_of slots') (sym q) ∙ e in absurd (cc)
+        | inr ne ↦ subst (λ (o : Option Goroutine). IsSome o) (sym (c.others t (other_slot slots all.inverse n m s t has (still m t e) ne))) (all.taken m t (still m t e))
+      ];
       ordered = orders_noted orders after slots slots' items new s all.ordered (subst (HaveRoom orders) (sym c.size) (orders_room orders slots items all.ordered)) (λ t ne. frees.numbers t (λ q. ne (let same : Some t ≡ Some s = sym q ∙ has in cc))) (rows_apart items new s c.others) noted;
     }
 
@@ -349,6 +358,7 @@ module _ (count : ℕ) (slots : Numbered) (items : Items) (orders : Orders) (all
         inverse = record { number = all.inverse.number; slot = all.inverse.slot };
         below = all.below;
         within = λ m t e. omega (arith, all.within m t e, h.size);
+        taken = λ m t e. subst (λ (o : Option Goroutine). IsSome o) (sym (h.same t)) (all.taken m t e);
         ordered = record {
           parked = record { room = o.parked.room; others = o.parked.others };
           free = record { room = o.free.room; others = o.free.others };
@@ -379,8 +389,8 @@ module _ (count : ℕ) (slots : Numbered) (items : Items) (orders : Orders) (all
   same_slot : (m t : ℕ) → m ≡ count → slot_of slots' m ≡ Some t → t ≡ s
   same_slot m t q e = let same : Some t ≡ Some s = sym e ∙ ap (slot_of slots') q ∙ gives.slot in cc
 
-  pub kept_started : (after : Orders) → IsNoted orders slots' new s after → AreLiving (count + 1) slots' new after
-  kept_started after noted = record {
+  pub kept_started : IsSome item → (after : Orders) → IsNoted orders slots' new s after → AreLiving (count + 1) slots' new after
+  kept_started there after noted = record {
     inverse = inverse';
     below = λ m t e. elim (cases_eq m count) [
       | inl q ↦ omega (arith, q)
@@ -389,6 +399,10 @@ module _ (count : ℕ) (slots : Numbered) (items : Items) (orders : Orders) (all
     within = λ m t e. elim (cases_eq m count) [
       | inl q ↦ omega (arith, same_slot m t q e, room, c.size)
       | inr ne ↦ omega (arith, all.within m t (before m t ne e), c.size)
+    ];
+    taken = λ m t e. elim (cases_eq m count) [
+      | inl q ↦ subst (λ (i : ℕ). IsSome (slice_index_or new i None)) (sym (same_slot m t q e)) (subst (λ (o : Option Goroutine). IsSome o) (sym c.here) there)
+      | inr ne ↦ subst (λ (o : Option Goroutine). IsSome o) (sym (c.others t (nobodys slots all.inverse s m t gives.free (before m t ne e)))) (all.taken m t (before m t ne e))
     ];
     ordered = orders_noted orders after slots slots' items new s all.ordered (subst (HaveRoom orders) (sym c.size) (orders_room orders slots items all.ordered)) gives.numbers (rows_apart items new s c.others) noted;
   }
@@ -414,7 +428,7 @@ module _ (count : ℕ) (slots : Numbered) (items : Items) (orders : Orders) (all
 -- a number that no goroutine has
 module _ (count : ℕ) (slots : Numbered) (items : Items) (orders : Orders) (all : AreLiving count slots items orders) where
   pub kept_skipped : AreLiving (count + 1) slots items orders
-  kept_skipped = record { inverse = all.inverse; below = λ m t e. omega (arith, all.below m t e); within = all.within; ordered = all.ordered }
+  kept_skipped = record { inverse = all.inverse; below = λ m t e. omega (arith, all.below m t e); within = all.within; taken = all.taken; ordered = all.ordered }
 
   nobody : (o : Option ℕ) → slot_of slots count ≡ o → item_in items (slot_of slots count) ≡ None
   nobody None e = ap (item_in items) e

@@ -1,5 +1,5 @@
 -- Goroutines that are awake or asleep, each in a slot of its own.
-use Rattle.std.specs.Prelude.{◌≡◌, ◌≢◌, ℕ, zero, suc, ◌<◌, ◌≤◌, Bool, true, false, length, List, [], ◌∷◌, ◌++◌, Option, Some, None, IfSome, slice_index_or, slice_set}
+use Rattle.std.specs.Prelude.{◌≡◌, ◌≢◌, ℕ, zero, suc, ◌<◌, ◌≤◌, Bool, true, false, length, List, [], ◌∷◌, ◌++◌, Option, Some, None, IfSome, IsSome, slice_index_or, slice_set}
 use Rattle.bytecode.specs.Code.{Code}
 use Rattle.logical_clock.specs.declared.key.Key.{Key}
 use Rattle.logical_clock.specs.Order.{is_before, sooner}
@@ -102,11 +102,13 @@ pub record AreOrders (orders : Orders) (slots : Numbered) (items : Items) : Type
   pub lent : AreKeysBut orders.late lent_clock orders.lent slots items
   pub floors : AllKeepFloors items
 
--- each number that has a slot is below `count`, each slot is an index of `items`, and the orders are those of `slots` and `items`
+-- each number that has a slot is below `count`, each slot that is taken has a goroutine, so the slot of one that ends is free, and the orders are
+-- those of `slots` and `items`
 pub record AreLiving (count : ℕ) (slots : Numbered) (items : Items) (orders : Orders) : Type 0 where
   pub inverse : IsInverse slots
   pub below : (n s : ℕ) → slot_of slots n ≡ Some s → n < count
   pub within : (n s : ℕ) → slot_of slots n ≡ Some s → s < length items
+  pub taken : (n s : ℕ) → slot_of slots n ≡ Some s → IsSome (slice_index_or items s None)
   pub ordered : AreOrders orders slots items
 
 abbrev pub clocks_of : Option (Row State) → Clocks

@@ -123,7 +123,7 @@ impl Goroutines {
         Ok(())
     }
 
-    /// Starts a goroutine in `state`. Its number is `count`, and it may be lent.
+    /// Starts a goroutine in `state`, in a free slot. Its number is `count`, and it may be lent.
     ///
     /// Errors: out of memory, also after 2^64 - 1 numbers, which no run reaches.
     pub fn start(&mut self, state: GoState) -> Result<(), AllocError>
@@ -144,7 +144,8 @@ impl Goroutines {
         Ok(())
     }
 
-    /// Ends goroutine `number`, if it is awake. Returns its state, for another one to start in; contracts don't see it.
+    /// Ends goroutine `number`, if it is awake, and frees its slot, as each slot that is taken has a goroutine (`AreLiving`). Returns its
+    /// state, for another one to start in; contracts don't see it.
     pub fn end(&mut self, number: u64) -> Option<GoState>
         ensures { self.new ≡ record self.old { rows = slice_set self.old.rows number None } }
     {

@@ -210,8 +210,8 @@ falls_asleep old new n q p fate w (Ok x) sleeps asleep same does =
 falls_asleep old new n q p fate w (Err e) sleeps asleep same does = tt
 
 -- a request that wakes nobody
-pub nobody_woken : {A E : Type 0} (old new : ChannelsValue) (n : ℕ) (q p : Request) (fate : Fate) (w : Vec (ℕ × Reply)) (r : Result A E) → w.items ≡ [] → q ≡ p → OnOk r (DoesAlone old n p fate new) → OnOk r (Does old n q (came fate w) new)
-nobody_woken old new n q p fate w (Ok x) none same does = subst (λ (a : Request). Does old n a (came fate w) new) (sym same) (does w none)
+pub nobody_woken : {A E : Type 0} (old new : ChannelsValue) (n : ℕ) (q p : Request) (fate : Fate) (w : Vec (ℕ × Reply)) (r : Result A E) → w.items ≡ [] → q ≡ p → OnOk r ((m : ℕ) → DoesAlone old m p fate new) → OnOk r (Does old n q (came fate w) new)
+nobody_woken old new n q p fate w (Ok x) none same does = subst (λ (a : Request). Does old n a (came fate w) new) (sym same) (does n w none)
 nobody_woken old new n q p fate w (Err e) none same does = tt
 
 pub send_nil : (old : ChannelsValue) (n : ℕ) (item : Item) → Does old n (Send None item) outcomes.Sleeps (with_sleeper old n (Send None item))

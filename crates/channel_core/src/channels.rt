@@ -91,7 +91,7 @@ impl Channels {
         ensures memory { OnErr result (self.new ≡ self.old) }
     {
         match request {
-            Request::Make(size, zero) => self.make_asked(number, *size, zero, outcome, woken),
+            Request::Make(size, zero) => self.make_asked(*size, zero, outcome, woken),
             Request::Send(chan, item) => {
                 self.send_asked(number, request, *chan, item, outcome, woken)
             }
@@ -105,24 +105,26 @@ impl Channels {
 
     /// A new channel (Go: Making slices, maps and channels). It panics if the size is negative or over 65,536, or if
     /// 65,536 channels were made.
-    pub fn make(&mut self, number: u64, size: i64, zero: Item) -> Result<Outcome, Memory>
-        ensures does { IfOk result (λ outcome. Does self.old number (Make size zero) outcome self.new) }
+    pub fn make(&mut self, size: i64, zero: Item) -> Result<Outcome, Memory>
+        ensures does { IfOk result (λ outcome. (n : ℕ) → Does self.old n (Make size zero) outcome self.new) }
         ensures memory { OnErr result (self.new ≡ self.old) }
     {
-        self.perform(number, &Request::Make(size, zero))
+        let mut outcome = EventOutcome::Sleeps;
+        let mut woken = Vec::new(self.alloc);
+        self.make_asked(size, &zero, &mut outcome, &mut woken)?;
+        Ok(Outcome::of(&outcome, woken))
     }
 
     /// Like `make`, but the zero item stays the caller's. It is a call, so that no other request reserves stack space for an item.
     #[inline(never)]
     fn make_asked(
         &mut self,
-        number: u64,
         size: i64,
         zero: &Item,
         outcome: &mut EventOutcome,
         woken: &mut Vec<Woken>,
     ) -> Result<(), Memory>
-        ensures does { OnOk result (DoesAlone self.old number (Make size zero.now) outcome.new self.new) }
+        ensures does { OnOk result ((n : ℕ) → DoesAlone self.old n (Make size zero.now) outcome.new self.new) }
         ensures nobody { woken.new.items ≡ [] }
         ensures memory { OnErr result (self.new ≡ self.old) }
     {
@@ -144,7 +146,7 @@ impl Channels {
 
     /// A send by goroutine `number` (Go: Send statements): to the first sleeper that receives, else into the buffer, else
     /// it sleeps. A send on a closed channel panics; on `nil` it sleeps for good.
-    pub fn send(&mut self, number: u64, chan: Option<u32>, item: Item) -> Result<Outcome, Memory>
+    pub fn send(&mut self, chan: Option<u32>, number: u64, item: Item) -> Result<Outcome, Memory>
         ensures does { IfOk result (λ outcome. Does self.old number (Send chan item) outcome self.new) }
         ensures memory { OnErr result (self.new ≡ self.old) }
     {
@@ -178,7 +180,7 @@ impl Channels {
 
     /// A receive by goroutine `number` (Go: Receive operator): of the buffer's front item, and the first sleeping sender's item then
     /// enters the buffer; else of that item; else of the zero item if the channel is closed; else it sleeps. On `nil` it sleeps for good.
-    pub fn receive(&mut self, number: u64, chan: Option<u32>) -> Result<Outcome, Memory>
+    pub fn receive(&mut self, chan: Option<u32>, number: u64) -> Result<Outcome, Memory>
         ensures does { IfOk result (λ outcome. Does self.old number (Receive chan) outcome self.new) }
         ensures memory { OnErr result (self.new ≡ self.old) }
     {

@@ -13,14 +13,15 @@ use word::value::{Item, Word};
 /// The number of the one channel that is made.
 const ONE: Option<u32> = Some(1);
 
-/// A call, with the goroutine that makes it.
+/// A call. The goroutine that makes it is named where it matters.
 #[derive(Clone, Copy)]
 enum Call {
     /// Of a channel of this capacity.
-    Make(u64, i64),
-    /// Of an item of one number.
-    Send(u64, Option<u32>, i64),
-    Receive(u64, Option<u32>),
+    Make(i64),
+    /// On a channel, by the goroutine of this number, of an item of one number.
+    Send(Option<u32>, u64, i64),
+    /// On a channel, by the goroutine of this number.
+    Receive(Option<u32>, u64),
     Close(Option<u32>),
     /// At this clock: a send of 1 or a receive, both on the one channel; or the default, if it has one.
     Select(u64, u64, bool),
@@ -77,10 +78,10 @@ const TALKS: [(&str, Talk); 9] = [
     (
         "a sender waits for its receiver",
         &[
-            (Call::Make(1, 0), MADE),
-            (Call::Send(2, ONE, 7), Seen::Sleeps),
+            (Call::Make(0), MADE),
+            (Call::Send(ONE, 2, 7), Seen::Sleeps),
             (
-                Call::Receive(1, ONE),
+                Call::Receive(ONE, 1),
                 Seen::Replied(Answer::Item(7, true), (1, 2)),
             ),
         ],
@@ -88,40 +89,40 @@ const TALKS: [(&str, Talk); 9] = [
     (
         "a buffer keeps the order",
         &[
-            (Call::Make(1, 2), MADE),
-            (Call::Send(1, ONE, 0), DONE),
-            (Call::Send(1, ONE, 1), DONE),
-            (Call::Send(1, ONE, 2), Seen::Sleeps),
+            (Call::Make(2), MADE),
+            (Call::Send(ONE, 1, 0), DONE),
+            (Call::Send(ONE, 1, 1), DONE),
+            (Call::Send(ONE, 1, 2), Seen::Sleeps),
             (
-                Call::Receive(2, ONE),
+                Call::Receive(ONE, 2),
                 Seen::Replied(Answer::Item(0, true), (1, 1)),
             ),
             (
-                Call::Receive(2, ONE),
+                Call::Receive(ONE, 2),
                 Seen::Replied(Answer::Item(1, true), NOBODY),
             ),
             (
-                Call::Receive(2, ONE),
+                Call::Receive(ONE, 2),
                 Seen::Replied(Answer::Item(2, true), NOBODY),
             ),
-            (Call::Receive(2, ONE), Seen::Sleeps),
+            (Call::Receive(ONE, 2), Seen::Sleeps),
         ],
     ),
     (
         "a size out of range panics, and nil is never ready",
         &[
-            (Call::Make(1, -1), Seen::Panics(Panic::ChannelSize, 0)),
-            (Call::Make(1, 65_537), Seen::Panics(Panic::ChannelSize, 0)),
-            (Call::Send(1, None, 1), Seen::Sleeps),
-            (Call::Receive(1, None), Seen::Sleeps),
+            (Call::Make(-1), Seen::Panics(Panic::ChannelSize, 0)),
+            (Call::Make(65_537), Seen::Panics(Panic::ChannelSize, 0)),
+            (Call::Send(None, 1, 1), Seen::Sleeps),
+            (Call::Receive(None, 1), Seen::Sleeps),
         ],
     ),
     (
         "a close wakes all",
         &[
-            (Call::Make(1, 0), MADE),
-            (Call::Receive(2, ONE), Seen::Sleeps),
-            (Call::Receive(3, ONE), Seen::Sleeps),
+            (Call::Make(0), MADE),
+            (Call::Receive(ONE, 2), Seen::Sleeps),
+            (Call::Receive(ONE, 3), Seen::Sleeps),
             (Call::Asleep, Seen::Asleep(2)),
             (Call::Close(ONE), Seen::Replied(Answer::Other, (2, 2))),
             (Call::Asleep, Seen::Asleep(0)),
@@ -130,17 +131,17 @@ const TALKS: [(&str, Talk); 9] = [
     (
         "a closed channel panics, and the close of nil",
         &[
-            (Call::Make(1, 0), MADE),
+            (Call::Make(0), MADE),
             (Call::Close(ONE), DONE),
             (Call::Close(ONE), Seen::Panics(Panic::CloseOfClosed, 0)),
             (Call::Close(None), Seen::Panics(Panic::CloseOfNil, 0)),
-            (Call::Send(1, ONE, 1), Seen::Panics(Panic::SendOnClosed, 0)),
+            (Call::Send(ONE, 1, 1), Seen::Panics(Panic::SendOnClosed, 0)),
         ],
     ),
     (
         "a select sleeps with all its clauses",
         &[
-            (Call::Make(1, 0), MADE),
+            (Call::Make(0), MADE),
             (
                 Call::Select(1, 0, true),
                 Seen::Replied(Answer::Default, NOBODY),
@@ -156,9 +157,9 @@ const TALKS: [(&str, Talk); 9] = [
     (
         "of k ready clauses the one of index clock mod k is done",
         &[
-            (Call::Make(1, 2), MADE),
+            (Call::Make(2), MADE),
             (Call::Choose(1, false), Seen::Chosen(Choice::Case(0))),
-            (Call::Send(1, ONE, 5), DONE),
+            (Call::Send(ONE, 1, 5), DONE),
             (Call::Choose(4, true), Seen::Chosen(Choice::Case(0))),
             (Call::Choose(5, true), Seen::Chosen(Choice::Case(1))),
             (
@@ -171,7 +172,7 @@ const TALKS: [(&str, Talk); 9] = [
     (
         "all offers of a select are withdrawn at once",
         &[
-            (Call::Make(1, 0), MADE),
+            (Call::Make(0), MADE),
             (Call::Choose(1, true), Seen::Chosen(Choice::Default)),
             (Call::Choose(1, false), Seen::Chosen(Choice::Sleep)),
             (Call::EnterAll(2), Seen::Asleep(1)),
@@ -183,8 +184,8 @@ const TALKS: [(&str, Talk); 9] = [
     (
         "channels have lengths and capacities",
         &[
-            (Call::Make(1, 3), MADE),
-            (Call::Send(1, ONE, 5), DONE),
+            (Call::Make(3), MADE),
+            (Call::Send(ONE, 1, 5), DONE),
             (Call::Len(ONE), Seen::Count(1)),
             (Call::Cap(ONE), Seen::Count(3)),
             (Call::Len(None), Seen::Count(0)),
@@ -237,9 +238,9 @@ fn item(alloc: Global, number: i64) -> Item {
 /// What a call says.
 fn said(channels: &mut Channels, alloc: Global, call: Call) -> Seen {
     match call {
-        Call::Make(number, size) => seen_in(channels.make(number, size, item(alloc, 0))),
-        Call::Send(number, chan, sent) => seen_in(channels.send(number, chan, item(alloc, sent))),
-        Call::Receive(number, chan) => seen_in(channels.receive(number, chan)),
+        Call::Make(size) => seen_in(channels.make(size, item(alloc, 0))),
+        Call::Send(chan, number, sent) => seen_in(channels.send(chan, number, item(alloc, sent))),
+        Call::Receive(chan, number) => seen_in(channels.receive(chan, number)),
         Call::Close(chan) => seen_in(channels.close(chan)),
         Call::Select(number, clock, default) => selected(channels, alloc, number, clock, default),
         Call::Choose(clock, default) => {

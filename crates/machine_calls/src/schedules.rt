@@ -259,6 +259,21 @@ fn state_is_lent_and_taken_back(alloc: Global) -> Result<bool, Fault> {
     Ok(away && here && number == 1 && parked == None)
 }
 
+/// Whether the state of goroutine 1 is taken out and put back, and that of no other.
+#[tactic(auto, using(world_core_base::proofs::Others::still_awake))]
+fn state_is_taken_out_and_put_back(alloc: Global) -> Result<bool, Fault> {
+    let program = program(alloc, &HANDS_OVER)?;
+    let mut core = Core::open(alloc, &program)?;
+    let nobody = core.take_state(0).is_none() && core.take_state(u64::MAX).is_none();
+    let Some(state) = core.take_state(1) else {
+        return Ok(false);
+    };
+    let away = core.is_lent(1) && core.awake(1).is_none() && !core.may_lend();
+    core.put_state(1, state);
+    let here = !core.is_lent(1) && core.awake(1).is_some() && core.may_lend();
+    Ok(nobody && away && here)
+}
+
 /// Whether schedules lead where they must.
 pub(crate) fn check(alloc: Global, checks: &mut Checks) -> Result<(), Memory> {
     checks.see("a schedule hands over an item", hands_over(alloc))?;
@@ -277,5 +292,9 @@ pub(crate) fn check(alloc: Global, checks: &mut Checks) -> Result<(), Memory> {
     checks.see(
         "a state is lent and taken back",
         state_is_lent_and_taken_back(alloc),
+    )?;
+    checks.see(
+        "a state is taken out and put back",
+        state_is_taken_out_and_put_back(alloc),
     )
 }

@@ -8,7 +8,7 @@ ghost use Rattle.turn_rule.specs.declared.Row.{Row};
 ghost use Rattle.turn_rule.specs.Schedule.{has_turn};
 ghost use Rattle.word.specs.Views.{event_of};
 ghost use Rattle.world_core_base.specs.Cores.{Asks, FitsCore, HasLease, Performs, Works, bytes_of, most_partners, no_event, opened_core, to_lend};
-ghost use Rattle.awake_rows.specs.Slots.{FitsAll, FitsRow, State, IsAwake, IsBefore, IsFreeIn, IsNobodyAwake, back_row, lent_row, raised_row, stepped_rows, waiting_clock};
+ghost use Rattle.awake_rows.specs.Slots.{FitsAll, FitsRow, State, IsAwake, IsBefore, IsFreeIn, IsNobodyAwake, back_row, free_clock, free_row, lent_row, raised_row, stepped_rows, waiting_clock};
 
 use crate::situation::Situation;
 use crate::spare::Spare;
@@ -227,6 +227,23 @@ impl Core {
         ensures { self.new ≡ record self.old { rows = slice_set self.old.rows number (option_map (raised_row clock) (slice_index_or self.old.rows number None)) } }
     {
         self.situation.goroutines.raise(number, clock);
+    }
+
+    /// Lends goroutine `number`, if it is awake and neither lent nor parked: its state is moved out, for local steps.
+    pub fn take_state(&mut self, number: u64) -> Option<GoState>
+        ensures none { IfNone result ((free_clock (slice_index_or self.old.rows number None) ≡ None) × (self.new ≡ self.old)) }
+        ensures free { IfSome result (λ s. IsFreeIn self.old.rows number s) }
+        ensures lent { IfSome result (λ s. self.new ≡ record self.old { rows = slice_set self.old.rows number (Some (lent_row s)) }) }
+    {
+        self.situation.goroutines.lend(number)
+    }
+
+    /// Puts goroutine `number`, which is awake, back in this state. It is then neither lent nor parked.
+    pub fn put_state(&mut self, number: u64, state: GoState)
+        requires { IsSome (slice_index_or self.old.rows number None) }
+        ensures { self.new ≡ record self.old { rows = slice_set self.old.rows number (Some (free_row state)) } }
+    {
+        self.take_back(number, state, false);
     }
 
     /// Puts goroutine `number`, which is awake, back in this state, parked or not.

@@ -5,7 +5,7 @@ use Rattle.turn_rule.specs.declared.Row.{Row}
 use Rattle.awake_rows.specs.Slots.{IsUnlent, State}
 use Rattle.awake_rows.specs.Living.{living_in, row_in}
 use Rattle.awake_rows.proofs.Kept.{row_none}
-use Rattle.awake_rows.proofs.Changed.{down_set, kept_set, row_given, some_not_none}
+use Rattle.awake_rows.proofs.Changed.{down_set, kept_set, row_given, some_down, some_not_none}
 use Rattle.awake_rows.proofs.goroutines.Goroutines.doze.Goals as goal
 
 pub unreachable-requires : goal.unreachable-requires
@@ -36,7 +36,7 @@ pub invariant_of-self : goal.invariant_of-self
 invariant_of-self c =
     let g = c.self.inside in
     kept_set g.count g.slots g.items.items g.orders c.self.invariant c.args.number c.in-Some.slot (sym c.slot.ensures ∙ c.in-Some.is) c.as_mut_slice.result.now c.as_mut_slice.ensures.value
-    g.items.len g.items.ok.0 _ c.doze_at-room.new.items c.doze_at-room.ensures c.deref.result.now c.note.new.orders c.deref.ensures.value c.note.ensures.same c.note.ensures.other c.note.ensures.floor
+    g.items.len g.items.ok.0 _ c.doze_at-room.new.items c.doze_at-room.ensures c.deref.result.now c.note.new.orders c.deref.ensures.value c.note.ensures.same c.note.ensures.other c.note.ensures.floor (some_down _)
 
 pub returns : goal.returns
 returns c =

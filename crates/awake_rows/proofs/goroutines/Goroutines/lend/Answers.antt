@@ -14,7 +14,7 @@ invariant_of-self c =
     let g = c.self.inside in
     let item = lent_at c.lend_row-state.result c.as_mut_slice.result.now c.lend_row-state.new.items c.in-Some.slot _ c.lend_row-state.ensures.none c.lend_row-state.ensures.some in
     kept_set g.count g.slots g.items.items g.orders c.self.invariant c.args.number c.in-Some.slot (sym c.slot.ensures ∙ c.in-Some.is) c.as_mut_slice.result.now c.as_mut_slice.ensures.value
-    g.items.len g.items.ok.0 item.0 c.lend_row-state.new.items item.1 c.deref.result.now c.note.new.orders c.deref.ensures.value c.note.ensures.same c.note.ensures.other c.note.ensures.floor
+    g.items.len g.items.ok.0 item.0 c.lend_row-state.new.items item.1 c.deref.result.now c.note.new.orders c.deref.ensures.value c.note.ensures.same c.note.ensures.other c.note.ensures.floor item.2
 
 pub returns-clause-none : goal.returns-clause-none
 returns-clause-none c =

@@ -1,4 +1,4 @@
-use Rattle.std.proofs.Common.{◌≡◌, ◌∙◌, None, Some, ap, sym}
+use Rattle.std.proofs.Common.{◌≡◌, ◌∙◌, None, Some, ap, refl, sym}
 use Rattle.std.specs.Prelude.{IsSome, slice_index_or}
 use Rattle.turn_rule.specs.declared.Row.{Row}
 use Rattle.awake_rows.specs.declared.goroutine.Goroutine.TheVariants.{Awake}
@@ -18,7 +18,7 @@ pub invariant_of-self : goal.invariant_of-self
 invariant_of-self c =
     let g = c.self.inside in
     kept_set g.count g.slots g.items.items g.orders c.self.invariant c.args.number c.in-Some.slot (sym c.slot.ensures ∙ c.in-Some.is) c.as_mut_slice.result.now c.as_mut_slice.ensures.value
-    g.items.len g.items.ok.0 _ c.put_at.new.items c.put_at.ensures c.deref.result.now c.note.new.orders c.deref.ensures.value c.note.ensures.same c.note.ensures.other c.note.ensures.floor
+    g.items.len g.items.ok.0 _ c.put_at.new.items c.put_at.ensures c.deref.result.now c.note.new.orders c.deref.ensures.value c.note.ensures.same c.note.ensures.other c.note.ensures.floor (λ h. refl)
 
 pub returns : goal.returns
 returns c =

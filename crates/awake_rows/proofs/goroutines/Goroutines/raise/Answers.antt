@@ -4,7 +4,7 @@ use Rattle.turn_rule.specs.declared.Row.{Row}
 use Rattle.std.specs.Option.{is_some}
 use Rattle.awake_rows.specs.Slots.{State, raised_row}
 use Rattle.awake_rows.specs.Living.{living_in, row_in}
-use Rattle.awake_rows.proofs.Changed.{kept_set, none_changes, row_given, row_set}
+use Rattle.awake_rows.proofs.Changed.{kept_set, none_changes, row_given, row_set, some_with}
 use Rattle.awake_rows.proofs.goroutines.Goroutines.raise.Goals as goal
 
 pub returns-in_default : goal.returns-in_default
@@ -23,7 +23,7 @@ pub invariant_of-self : goal.invariant_of-self
 invariant_of-self c =
     let g = c.self.inside in
     kept_set g.count g.slots g.items.items g.orders c.self.invariant c.args.number c.in-Some.slot (sym c.slot.ensures ∙ c.in-Some.is) c.as_mut_slice.result.now c.as_mut_slice.ensures.value
-    g.items.len g.items.ok.0 _ c.raise_row.new.items c.raise_row.ensures c.deref.result.now c.note.new.orders c.deref.ensures.value c.note.ensures.same c.note.ensures.other c.note.ensures.floor
+    g.items.len g.items.ok.0 _ c.raise_row.new.items c.raise_row.ensures c.deref.result.now c.note.new.orders c.deref.ensures.value c.note.ensures.same c.note.ensures.other c.note.ensures.floor (some_with _ _)
 
 pub returns : goal.returns
 returns c =

@@ -3,7 +3,7 @@ use Rattle.std.specs.Prelude.{slice_index_or}
 use Rattle.turn_rule.specs.declared.Row.{Row}
 use Rattle.awake_rows.specs.Slots.{FitsRow, State, stepped_row}
 use Rattle.awake_rows.specs.Living.{living_in, row_in}
-use Rattle.awake_rows.proofs.Changed.{kept_set, none_changes, none_fits, row_given, row_set, step_fits}
+use Rattle.awake_rows.proofs.Changed.{kept_set, none_changes, none_fits, row_given, row_set, some_with, step_fits}
 use Rattle.awake_rows.proofs.goroutines.Goroutines.step.Goals as goal
 
 pub returns-in_default-clause-ok : goal.returns-in_default-clause-ok
@@ -26,7 +26,7 @@ pub invariant_of-self-2 : goal.invariant_of-self-2
 invariant_of-self-2 c =
     let g = c.self.inside in
     kept_set g.count g.slots g.items.items g.orders c.self.invariant c.args.number c.in-Some.slot (sym c.slot.ensures ∙ c.in-Some.is) c.as_mut_slice.result.now c.as_mut_slice.ensures.value
-    g.items.len g.items.ok.0 _ c.step_row.new.items c.in_ok-step_row.ensures.ok c.deref.result.now c.note.new.orders c.deref.ensures.value c.note.ensures.same c.note.ensures.other c.note.ensures.floor
+    g.items.len g.items.ok.0 _ c.step_row.new.items c.in_ok-step_row.ensures.ok c.deref.result.now c.note.new.orders c.deref.ensures.value c.note.ensures.same c.note.ensures.other c.note.ensures.floor (some_with _ _)
 
 pub returns-clause-ok : goal.returns-clause-ok
 returns-clause-ok c =

@@ -7,7 +7,7 @@ use Rattle.word.specs.Views.{reply_of}
 use Rattle.awake_rows.specs.Slots.{State}
 use Rattle.awake_rows.specs.Living.{asleep_of, living_in}
 use Rattle.awake_rows.proofs.Kept.{bed_none}
-use Rattle.awake_rows.proofs.Changed.{bed_given, kept_set, some_not_none, some_there, up_set}
+use Rattle.awake_rows.proofs.Changed.{bed_given, kept_set, some_not_none, some_there, some_up, up_set}
 use Rattle.awake_rows.proofs.goroutines.Goroutines.wake.Goals as goal
 
 pub unreachable-requires : goal.unreachable-requires
@@ -34,7 +34,7 @@ pub invariant_of-self : goal.invariant_of-self
 invariant_of-self c =
     let g = c.self.inside in
     kept_set g.count g.slots g.items.items g.orders c.self.invariant c.args.number c.in-Some.slot (sym c.slot.ensures ∙ c.in-Some.is) c.as_mut_slice.result.now c.as_mut_slice.ensures.value
-    g.items.len g.items.ok.0 _ c.wake_at.new.items c.wake_at.ensures c.deref.result.now c.note.new.orders c.deref.ensures.value c.note.ensures.same c.note.ensures.other c.note.ensures.floor
+    g.items.len g.items.ok.0 _ c.wake_at.new.items c.wake_at.ensures c.deref.result.now c.note.new.orders c.deref.ensures.value c.note.ensures.same c.note.ensures.other c.note.ensures.floor (some_up _ _)
 
 pub returns : goal.returns
 returns c =

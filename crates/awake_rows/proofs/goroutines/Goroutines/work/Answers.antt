@@ -1,4 +1,4 @@
-use Rattle.std.proofs.Common.{◌≡◌, ◌∙◌, None, Option, Some, true, false, ap, subst, sym}
+use Rattle.std.proofs.Common.{◌≡◌, ◌∙◌, None, Option, Some, true, false, ap, refl, subst, sym}
 use Rattle.std.specs.Prelude.{slice_index_or}
 use Rattle.std.specs.Option.{is_some}
 use Rattle.turn_rule.specs.declared.Row.{Row}
@@ -33,7 +33,7 @@ invariant_of-self c =
     let g = c.self.inside in
     let row = worked_at c.args.code.now c.args.limit c.args.quantum c.as_mut_slice.result.now c.work_row-worked.new.items c.in-Some.slot c.work_row-worked.result c.work_row-worked.ensures.ok c.work_row-worked.ensures.memory in
     kept_set g.count g.slots g.items.items g.orders c.self.invariant c.args.number c.in-Some.slot (sym c.slot.ensures ∙ c.in-Some.is) c.as_mut_slice.result.now c.as_mut_slice.ensures.value
-    g.items.len g.items.ok.0 (Some (Awake row.0)) c.work_row-worked.new.items row.1 c.deref.result.now c.note.new.orders c.deref.ensures.value c.note.ensures.same c.note.ensures.other c.note.ensures.floor
+    g.items.len g.items.ok.0 (Some (Awake row.0)) c.work_row-worked.new.items row.1 c.deref.result.now c.note.new.orders c.deref.ensures.value c.note.ensures.same c.note.ensures.other c.note.ensures.floor (λ h. refl)
 
 pub returns-clause-ok : goal.returns-clause-ok
 returns-clause-ok c =
