@@ -385,6 +385,14 @@ impl<B: BookName> Book<B> {
         Ok(())
     }
 
+    /// How many bytes of the output and of the trace were committed and not yet taken out.
+    #[inline(always)]
+    pub fn unwritten(&self) -> usize
+        ensures { result ≡ length self.now.pending + length self.now.lines }
+    {
+        self.pending.len() + self.lines.len()
+    }
+
     /// The bytes of the output that were committed and not yet taken out.
     pub fn take_output(&mut self) -> Result<Piece, Memory>
         ensures run { IfOk result (λ piece. piece_run piece ≡ record { program = self.old.code; limit = self.old.limit; kind = Output }) }

@@ -17,6 +17,7 @@ use crate::book_model::Book;
 use crate::run_name::{OfRun, RunLease, RunName};
 use crate::settled::Reached;
 use go_text::{Fault, Memory};
+use logical_clock::Clock;
 use output::Piece;
 use std::sync::Arc;
 use verifier::Verified;
@@ -129,6 +130,21 @@ impl<B: RunName> RunBook<B> {
             }
         }
         Err(Memory)
+    }
+
+    /// The clock of the last committed event, before it; 0 if none is committed.
+    pub fn clock(&self) -> Clock
+        ensures { result ≡ self.now.event.clock }
+    {
+        self.event.clock
+    }
+
+    /// How many bytes of the output and of the trace were committed and not yet taken out.
+    #[inline(always)]
+    pub fn unwritten(&self) -> usize
+        ensures { result ≡ length self.now.book.pending + length self.now.book.lines }
+    {
+        self.book.unwritten()
     }
 
     /// The bytes of the output that were committed and not yet taken out.
