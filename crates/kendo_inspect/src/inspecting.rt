@@ -51,7 +51,7 @@ pub fn inspect_bytes(
     ensures why { IfErr result (λ fault. IsRefusal fault → IsWhy bytes.items fault) }
     ensures only { IfErr result (λ fault. IsRefusal fault ⊎ ((fault ≡ Fault.Memory) ⊎ (fault ≡ Fault.BadLimit))) }
     ensures reads { IfOk result (λ _. (file : File) × Reads bytes.items file) }
-    ensures world { IfOk result (λ seen. (file : File) × Reads bytes.items file × IsAfter (source_kind file) limit seen.events seen.end) }
+    ensures world { IfOk result (λ seen. (file : File) × Reads bytes.items file × IsAfter (source_kind file) limit until seen.events seen.end) }
     ensures wanted { IfOk result (λ seen. IsWanted until seen.events seen.end) }
 {
     if limit < 1 || limit > 1 << 62 {
@@ -76,7 +76,7 @@ pub fn inspect_paused_bytes(
     ensures why { IfErr result (λ fault. IsRefusal fault → IsWhy bytes.items fault) }
     ensures only { IfErr result (λ fault. IsRefusal fault ⊎ ((fault ≡ Fault.Memory) ⊎ (fault ≡ Fault.BadLimit))) }
     ensures reads { IfOk result (λ _. (file : File) × Reads bytes.items file) }
-    ensures world { IfOk result (λ seen. (file : File) × Reads bytes.items file × IsAfter (paused (source_kind file) (pauses_of plan.now.pauses.items)) limit seen.events seen.end) }
+    ensures world { IfOk result (λ seen. (file : File) × Reads bytes.items file × IsAfter (paused (source_kind file) (pauses_of plan.now.pauses.items)) limit until seen.events seen.end) }
     ensures wanted { IfOk result (λ seen. IsWanted until seen.events seen.end) }
 {
     if limit < 1 || limit > 1 << 62 {
@@ -97,7 +97,7 @@ fn inspect(
     until: Until,
 ) -> Result<Inspected, Memory>
     requires { limit ≤ 2 ^ 62 }
-    ensures world { IfOk result (λ seen. IsAfter (source_kind (tree_of (tree_in typed.now))) limit seen.events seen.end) }
+    ensures world { IfOk result (λ seen. IsAfter (source_kind (tree_of (tree_in typed.now))) limit until seen.events seen.end) }
     ensures wanted { IfOk result (λ seen. IsWanted until seen.events seen.end) }
 {
     let watched = Watched::new(alloc, typed)?;
@@ -125,7 +125,7 @@ fn inspect_paused(
     until: Until,
 ) -> Result<Inspected, Memory>
     requires { limit ≤ 2 ^ 62 }
-    ensures world { IfOk result (λ seen. IsAfter (paused (source_kind (tree_of (tree_in typed.now))) (pauses_of plan.now.pauses.items)) limit seen.events seen.end) }
+    ensures world { IfOk result (λ seen. IsAfter (paused (source_kind (tree_of (tree_in typed.now))) (pauses_of plan.now.pauses.items)) limit until seen.events seen.end) }
     ensures wanted { IfOk result (λ seen. IsWanted until seen.events seen.end) }
 {
     let program = Watched::new(alloc, typed)?;

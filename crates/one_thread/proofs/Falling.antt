@@ -1,6 +1,6 @@
 -- What falls with a step, a turn and a move.
 use Rattle.std.proofs.Common.{◌≡◌, ℕ, ◌+◌, ◌-◌, ◌<◌, ◌≤◌, ◌^◌, Bool, true, false, cond, List, length, Option, Some, None, refl, sym, ap, ◌∙◌, subst, arith}
-use Rattle.std.specs.Prelude.{slice_index_or, slice_set, sum_by, Result, Ok, Err, IfOk}
+use Rattle.std.specs.Prelude.{slice_index_or, slice_set, sum_by, Result, Ok, Err, IfNone, IfOk, IfSome, IsSome}
 use Rattle.std.proofs.lemmas.Bool.{false≢true, true≢false}
 use Rattle.std.proofs.lemmas.List.{get_or_past}
 use Rattle.std.proofs.lemmas.List.Sums.{sum_by-set}
@@ -9,6 +9,7 @@ use Rattle.logical_clock.specs.Order.{keys, least}
 use Rattle.logical_clock.proofs.Keys.{IsNext, next_is}
 use Rattle.reference_world.specs.Deeds.{SharedValue}
 use Rattle.word.specs.declared.end.End.{End as Ending}
+use Rattle.word.specs.declared.request.Event.{Event as Recorded}
 use Rattle.word.specs.declared.request.Request.{Request as Asked}
 use Rattle.word.specs.Kinds.{Next, Slides}
 use Rattle.word.specs.Related.{Falls}
@@ -17,9 +18,14 @@ use Rattle.one_thread.specs.declared.goroutine.Turn.{Turn}
 use Rattle.one_thread.specs.declared.goroutine.Turn.TheVariants as turns
 use Rattle.one_thread.specs.declared.move_kind.Move.{Move}
 use Rattle.one_thread.specs.declared.move_kind.Move.TheVariants as moves
+use Rattle.one_thread.specs.declared.move_kind.MoveSeen.{MoveSeen}
+use Rattle.one_thread.specs.declared.move_kind.MoveSeen.TheVariants as seen
+use Rattle.one_thread.specs.declared.snapshot.Until.{Until}
+use Rattle.one_thread.specs.Histories.{OpenValue}
 use Rattle.one_thread.specs.Places.{clock_of, here}
+use Rattle.one_thread.specs.Snapshots.{IsThere}
 use Rattle.one_thread.specs.Steps.{asking}
-use Rattle.one_thread.specs.Progress.{EventFalls, FallsInTurn, MoveFalls, TickFalls, TurnFalls, ending_in, events_left, is_slide, is_tick, performed, ticks_left, ticks_of, weight_left, weight_of}
+use Rattle.one_thread.specs.Progress.{EventFalls, EventSeenFalls, FallsInTurn, MoveFalls, SeenFalls, TickFalls, TickSeenFalls, TurnFalls, ending_in, event_in, events_left, is_slide, is_slide_seen, is_tick, is_tick_seen, left_after, left_in, performed, ticks_left, ticks_of, weight_left, weight_of}
 
 -- ---- a step
 
@@ -141,3 +147,79 @@ performed_ends (Some end) = refl
 pub performed_falls : (v v' : SharedValue) (ending : Option Ending) → v'.ending ≡ ending → v'.events ≡ v.events + 1 → (v'.ending ≡ None → v'.events < 2 ^ 62) → EventFalls (performed ending) v v'
 performed_falls v v' None is one room = let below : v'.events < 2 ^ 62 = room is in omega (arith, one, below)
 performed_falls v v' (Some end) is one room = tt
+
+-- ---- a move of an open run
+
+-- one event more leaves one fewer
+pub counted_falls : (v v' : SharedValue) → v'.events ≡ v.events + 1 → v'.events < 2 ^ 62 → events_left v' < events_left v
+counted_falls v v' one room = omega (arith, one, room)
+
+-- a local step is no event
+pub slide_unseen : (made : MoveSeen) → is_slide_seen made ≡ true → event_in made ≡ None
+slide_unseen seen.Nothing is = refl
+slide_unseen seen.Slide is = refl
+slide_unseen seen.Tick is = refl
+slide_unseen (seen.Event event) is = absurd (false≢true is)
+
+pub tick_unseen : (made : MoveSeen) → is_tick_seen made ≡ true → event_in made ≡ None
+tick_unseen seen.Nothing is = refl
+tick_unseen seen.Slide is = refl
+tick_unseen seen.Tick is = refl
+tick_unseen (seen.Event event) is = absurd (false≢true is)
+
+module _ {S : Type 0} (until : Option Until) where
+  module _ (weight : S → ℕ) where
+    -- what falls in a run that should go on to its end
+    pub falls_until : (made : MoveSeen) (old new : OpenValue S) → SeenFalls weight None made old new → SeenFalls weight until made old new
+    falls_until seen.Nothing old new f = λ none. absurd (f none).2
+    falls_until seen.Slide old new f = f
+    falls_until seen.Tick old new f = f
+    falls_until (seen.Event event) old new f = f
+
+    -- a slide
+    pub slide_seen_falls : (made : MoveSeen) (old new : OpenValue S) → is_slide_seen made ≡ true → SeenFalls weight until made old new → SeenFalls weight until seen.Slide old new
+    slide_seen_falls seen.Nothing old new is f = absurd (false≢true is)
+    slide_seen_falls seen.Slide old new is f = f
+    slide_seen_falls seen.Tick old new is f = absurd (false≢true is)
+    slide_seen_falls (seen.Event event) old new is f = absurd (false≢true is)
+
+    -- a move that is no slide, after slides
+    pub after_slides : (made : MoveSeen) (first old new : OpenValue S) → is_slide_seen made ≡ false → old.limit ≡ first.limit → ticks_left first.limit old.places ≡ ticks_left first.limit first.places → old.shared ≡ first.shared
+        → SeenFalls weight until made old new → TickSeenFalls until made first new
+    after_slides seen.Nothing first old new isnt limit ticks same f = f
+    after_slides seen.Slide first old new isnt limit ticks same f = absurd (true≢false isnt)
+    after_slides seen.Tick first old new isnt limit ticks same f =
+        (subst (λ (n : ℕ). ticks_left first.limit new.places < n) ticks (subst (λ (k : ℕ). ticks_left k new.places < ticks_left k old.places) limit f.0), f.1 ∙ same, f.2)
+    after_slides (seen.Event event) first old new isnt limit ticks same f = subst (λ (v : SharedValue). new.end ≡ None → events_left new.shared < events_left v) same f
+
+  -- a tick
+  pub tick_seen_falls : (made : MoveSeen) (old new : OpenValue S) → is_tick_seen made ≡ true → TickSeenFalls until made old new → TickSeenFalls until seen.Tick old new
+  tick_seen_falls seen.Nothing old new is f = absurd (false≢true is)
+  tick_seen_falls seen.Slide old new is f = absurd f
+  tick_seen_falls seen.Tick old new is f = f
+  tick_seen_falls (seen.Event event) old new is f = absurd (false≢true is)
+
+  -- a move that is no tick, after ticks
+  pub after_ticks : (made : MoveSeen) (first old new : OpenValue S) → is_tick_seen made ≡ false → old.shared ≡ first.shared → TickSeenFalls until made old new → EventSeenFalls until (event_in made) first new
+  after_ticks seen.Nothing first old new isnt same f = f
+  after_ticks seen.Slide first old new isnt same f = absurd f
+  after_ticks seen.Tick first old new isnt same f = absurd (true≢false isnt)
+  after_ticks (seen.Event event) first old new isnt same f = subst (λ (v : SharedValue). new.end ≡ None → events_left new.shared < events_left v) same f
+
+-- an event leaves an open run fewer of them
+pub event_left : {S : Type 0} (until : Option Until) (found : Option Recorded) (old new : OpenValue S) → old.end ≡ None → EventSeenFalls until found old new → IfSome found (λ event. left_in new < left_in old)
+event_left until None old new goes f = tt
+event_left until (Some event) old new goes f = rw goes (go new.end f)
+  where
+    go : (end : Option Ending) → (end ≡ None → events_left new.shared < events_left old.shared) → left_after end (events_left new.shared) < events_left old.shared + 1
+    go None less = let l : events_left new.shared < events_left old.shared = less refl in omega (arith, l)
+    go (Some end) less = omega arith
+
+-- without one it has ended, if it should go on to its end
+pub ended_unless : {S : Type 0} (found : Option Recorded) (old new : OpenValue S) → EventSeenFalls None found old new → IfNone found (IsSome new.end)
+ended_unless (Some event) old new f = tt
+ended_unless None old new f = go new.end f
+  where
+    go : (end : Option Ending) → (end ≡ None → IsThere None new) → IsSome end
+    go None none = absurd (none refl).2
+    go (Some end) none = search

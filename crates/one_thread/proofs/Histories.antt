@@ -155,6 +155,10 @@ module _ {S : Type 0} (K : GoroutineKind) (held : S → K.State) where
   gone_on : (run : OpenValue S) (events : List Event) (output : List ℕ) → run.end ≡ None → HasHistory K held run.limit run.places run.shared events output → HasHad K held run events output
   gone_on run events output goes h = subst (λ (o : Option Ending). HasHadTo K held o run events output) (sym goes) h
 
+  -- after moves that were no events
+  pub adds_after : (first old new : OpenValue S) (found : Option Recorded) → Adds K held first None old → Adds K held old found new → Adds K held first found new
+  adds_after first old new found none more = λ events output h. more events output (none events output h)
+
   module _ (old : OpenValue S) (goes : old.end ≡ None) (ready : IsReady old) where
     -- no goroutine is awake
     pub deserted_adds : least (keys clock_of 0 old.places) ≡ None → Adds K held old None (record old { end = Some Deadlock })

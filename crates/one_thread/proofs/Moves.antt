@@ -140,7 +140,7 @@ module _ {S : Type 0} (K : GoroutineKind) (held : S → K.State) (limit : ℕ) w
   lie_on old new beds [] on h = tt
   lie_on old new beds (x ∷ xs) on h = (h.0 ∙ sym (on x.number), lie_on old new beds xs on h.1)
 
-  next_is : (w : World (Clocked K.State) (Rest K.State)) (old : List (Option (Goroutine S))) (v : SharedValue) (o : Option Key) → IsWorldOf K held w old v → least (keys clock_of 0 old) ≡ o → next (rules K limit) w.awake ≡ o
+  pub next_is : (w : World (Clocked K.State) (Rest K.State)) (old : List (Option (Goroutine S))) (v : SharedValue) (o : Option Key) → IsWorldOf K held w old v → least (keys clock_of 0 old) ≡ o → next (rules K limit) w.awake ≡ o
   next_is w old v o fits is = ap (λ (a : List (Option (Clocked K.State))). next (rules K limit) a) (sym fits.awake) ∙ ap least (keys_is 0 old) ∙ is
 
   at_is : (w : World (Clocked K.State) (Rest K.State)) (old : List (Option (Goroutine S))) (v : SharedValue) (n : ℕ) → IsWorldOf K held w old v → slice_index_or w.awake n None ≡ here (awake_of held) old n

@@ -18,7 +18,7 @@ use Rattle.one_thread.specs.declared.snapshot.Until.{Until}
 use Rattle.one_thread.specs.declared.snapshot.Until.TheVariants as untils
 use Rattle.one_thread.specs.Histories.{Adds, Counts, HasEnded, HasHistory, HasHad, HasHadTo, IsReady, OpenValue}
 use Rattle.one_thread.specs.Places.{clock_of}
-use Rattle.one_thread.specs.Snapshots.{IsFar, IsNotPast, IsReached, IsSeen, newest}
+use Rattle.one_thread.specs.Snapshots.{IsFar, IsFarBefore, IsNotPast, IsReached, IsSeen, StaysBefore, newest}
 use Rattle.one_thread.proofs.Histories.{deserted_history, going_on}
 use Rattle.one_thread.proofs.Moves.{runs_on}
 
@@ -70,6 +70,11 @@ module _ {S : Type 0} (K : GoroutineKind) (held : S → K.State) where
         ended_seen limit run.places run.shared has.0 has.1 (option_map event_of last) has.3 end
         (subst (λ (k : ℕ). HasEnded K held k run.places run.shared has.0 has.1 end) same (subst (λ (o : Option Ending). HasHadTo K held o run has.0 has.1) over has.2))
 
+    -- it has ended, or it is a goroutine's turn
+    pub rested_seen : IsReady run → (end : Option Ending) → run.end ≡ end → (end ≡ None → (turn : Key) × (least (keys clock_of 0 run.places) ≡ Some turn)) → IsSeen K held limit run.places run.shared (option_map event_of last) end
+    rested_seen ready None is next = let first = next refl in stopped_seen is ready first.0 first.1
+    rested_seen ready (Some end) is next = over_seen end is
+
 module _ {S : Type 0} (K : GoroutineKind) (held : S → K.State) (limit : ℕ) where
   -- what is equal is seen too
   pub seen_as : (places places' : List (Option (Goroutine S))) (v v' : SharedValue) (last last' : Option Event) (end end' : Option Ending) → places' ≡ places → v' ≡ v → last' ≡ last → end' ≡ end → IsSeen K held limit places v last end → IsSeen K held limit places' v' last' end'
@@ -102,6 +107,15 @@ not_past_more (untils.Clock c) turn old new last (Some e) far h more = elim (cas
   | inl lt ↦ absurd (far lt)
   | inr le ↦ rw more.1 le
 ]
+
+-- nothing has happened
+pub stays_same : (until : Option Until) (v : SharedValue) → StaysBefore until v None v
+stays_same None v = tt
+stays_same (Some until) v = λ last h. h
+
+pub stays_more : (until : Option Until) (turn : Key) (old new : SharedValue) (found : Option Recorded) → (IsFarBefore until old.events turn → ⊥) → Counts turn.clock old found new → StaysBefore until old found new
+stays_more None turn old new found far counts = tt
+stays_more (Some until) turn old new found far counts = λ last h. not_past_more until turn old new last found far h counts
 
 -- it has come so far
 pub reached : {S : Type 0} (until : Until) (turn : Key) (places : List (Option (Goroutine S))) (v : SharedValue) (last : Option Event) → IsFar until v.events turn → IsNotPast until v last → least (keys clock_of 0 places) ≡ Some turn → IsReached until places v

@@ -1,12 +1,18 @@
 -- How near its end a run is: each move leaves less of something.
-use Rattle.std.specs.Prelude.{◌≡◌, ℕ, ◌-◌, ◌<◌, ◌^◌, Bool, true, false, List, Option, Some, None, sum_by}
+use Rattle.std.specs.Prelude.{◌≡◌, ℕ, ◌+◌, ◌-◌, ◌<◌, ◌^◌, Bool, true, false, List, Option, Some, None, sum_by}
 use Rattle.reference_world.specs.Deeds.{SharedValue}
 use Rattle.word.specs.declared.end.End.{End as Ending}
+use Rattle.word.specs.declared.request.Event.{Event as Recorded}
 use Rattle.one_thread.specs.declared.goroutine.Goroutine.{Goroutine}
 use Rattle.one_thread.specs.declared.goroutine.Turn.{Turn}
 use Rattle.one_thread.specs.declared.goroutine.Turn.TheVariants as turns
 use Rattle.one_thread.specs.declared.move_kind.Move.{Move}
 use Rattle.one_thread.specs.declared.move_kind.Move.TheVariants as moves
+use Rattle.one_thread.specs.declared.move_kind.MoveSeen.{MoveSeen}
+use Rattle.one_thread.specs.declared.move_kind.MoveSeen.TheVariants as seen
+use Rattle.one_thread.specs.declared.snapshot.Until.{Until}
+use Rattle.one_thread.specs.Histories.{OpenValue}
+use Rattle.one_thread.specs.Snapshots.{IsThere}
 
 -- ---- what a move was
 
@@ -34,6 +40,25 @@ abbrev pub performed : Option Ending → Move
 performed None = moves.Event
 performed (Some end) = moves.Last end
 
+abbrev pub is_slide_seen : MoveSeen → Bool
+is_slide_seen seen.Nothing = false
+is_slide_seen seen.Slide = true
+is_slide_seen seen.Tick = false
+is_slide_seen (seen.Event event) = false
+
+abbrev pub is_tick_seen : MoveSeen → Bool
+is_tick_seen seen.Nothing = false
+is_tick_seen seen.Slide = false
+is_tick_seen seen.Tick = true
+is_tick_seen (seen.Event event) = false
+
+-- the event, if it was one
+abbrev pub event_in : MoveSeen → Option Recorded
+event_in seen.Nothing = None
+event_in seen.Slide = None
+event_in seen.Tick = None
+event_in (seen.Event event) = Some event
+
 -- ---- what is left
 
 -- the ticks that a goroutine has left up to the limit
@@ -57,6 +82,15 @@ weight_left weight places = sum_by (weight_of weight) places
 -- the events that a run has left
 abbrev pub events_left : SharedValue → ℕ
 events_left v = 2 ^ 62 - v.events
+
+-- one more than these, unless the run has ended
+abbrev pub left_after : Option Ending → ℕ → ℕ
+left_after None events = events + 1
+left_after (Some end) events = 0
+
+-- how many events an open run has left at most, and one
+abbrev pub left_in : {S : Type 0} → OpenValue S → ℕ
+left_in run = left_after run.end (events_left run.shared)
 
 -- ---- what falls
 
@@ -94,3 +128,24 @@ EventFalls moves.Slide v v' = ⊥
 EventFalls moves.Tick v v' = ⊥
 EventFalls moves.Event v v' = events_left v' < events_left v
 EventFalls (moves.Last end) v v' = Unit {0}
+
+-- ---- what falls in an open run, up to a moment
+
+-- without an event the run has ended or is at the moment; after one fewer events are left, unless it was the last one
+abbrev pub EventSeenFalls : {S : Type 0} → Option Until → Option Recorded → (old new : OpenValue S) → Type 0
+EventSeenFalls until None old new = new.end ≡ None → IsThere until new
+EventSeenFalls until (Some event) old new = new.end ≡ None → events_left new.shared < events_left old.shared
+
+-- like `EventSeenFalls`, or a tick leaves fewer ticks
+abbrev pub TickSeenFalls : {S : Type 0} → Option Until → MoveSeen → (old new : OpenValue S) → Type 0
+TickSeenFalls until seen.Nothing old new = EventSeenFalls until None old new
+TickSeenFalls until seen.Slide old new = ⊥
+TickSeenFalls until seen.Tick old new = (ticks_left old.limit new.places < ticks_left old.limit old.places) × (new.shared ≡ old.shared) × (new.end ≡ None)
+TickSeenFalls until (seen.Event event) old new = EventSeenFalls until (Some event) old new
+
+-- like `TickSeenFalls`, or a slide leaves less weight
+abbrev pub SeenFalls : {S : Type 0} → (S → ℕ) → Option Until → MoveSeen → (old new : OpenValue S) → Type 0
+SeenFalls weight until seen.Nothing old new = EventSeenFalls until None old new
+SeenFalls weight until seen.Slide old new = (weight_left weight new.places < weight_left weight old.places) × (ticks_left old.limit new.places ≡ ticks_left old.limit old.places) × (new.shared ≡ old.shared) × (new.end ≡ None)
+SeenFalls weight until seen.Tick old new = TickSeenFalls until seen.Tick old new
+SeenFalls weight until (seen.Event event) old new = EventSeenFalls until (Some event) old new

@@ -1,16 +1,20 @@
 -- A run that was stopped at a moment.
-use Rattle.std.specs.Prelude.{◌≡◌, ℕ, ◌<◌, ◌≤◌, List, [], ◌∷◌, Option, Some, None}
+use Rattle.std.specs.Prelude.{◌≡◌, ℕ, ◌<◌, ◌≤◌, List, [], ◌∷◌, Option, Some, None, option_map}
+use Rattle.std.specs.Option.{option_or}
 use Rattle.logical_clock.specs.declared.key.Key.{Key}
 use Rattle.logical_clock.specs.Order.{keys, least}
 use Rattle.reference_world.specs.Deeds.{SharedValue}
 use Rattle.word.specs.Values.{Event}
+use Rattle.word.specs.Views.{event_of}
 use Rattle.word.specs.declared.end.End.{End as Ending}
+use Rattle.word.specs.declared.request.Event.{Event as Recorded}
 use Rattle.word.specs.declared.end.End.TheVariants.{Finished, Panicked, Deadlock, Exhausted}
 use Rattle.word.specs.Kinds.{GoroutineKind}
 use Rattle.word.specs.Worlds.{end_of, moment}
 use Rattle.one_thread.specs.declared.goroutine.Goroutine.{Goroutine}
 use Rattle.one_thread.specs.declared.snapshot.Until.{Until}
 use Rattle.one_thread.specs.declared.snapshot.Until.TheVariants as untils
+use Rattle.one_thread.specs.Histories.{OpenValue}
 use Rattle.one_thread.specs.Places.{clock_of}
 use Rattle.one_thread.specs.Worlds.{IsWorldOf}
 
@@ -54,3 +58,16 @@ abbrev pub IsNotPast : Until → SharedValue → Option Event → Type 0
 IsNotPast (untils.Event n) v last = v.events ≤ n
 IsNotPast (untils.Clock c) v None = Unit {0}
 IsNotPast (untils.Clock c) v (Some e) = e.clock ≤ c
+
+-- the run has come so far as it should, before a goroutine's turn; one that should go on to its end never has
+abbrev pub IsFarBefore : Option Until → ℕ → Key → Type 0
+IsFarBefore None events turn = ⊥
+IsFarBefore (Some until) events turn = IsFar until events turn
+
+abbrev pub IsThere : {S : Type 0} → Option Until → OpenValue S → Type 0
+IsThere until run = (turn : Key) × (least (keys clock_of 0 run.places) ≡ Some turn) × IsFarBefore until run.shared.events turn
+
+-- a run that was not past the moment is not past it after this event, if there was one
+abbrev pub StaysBefore : Option Until → (old : SharedValue) → Option Recorded → (new : SharedValue) → Type 0
+StaysBefore None old found new = Unit {0}
+StaysBefore (Some until) old found new = (last : Option Recorded) → IsNotPast until old (option_map event_of last) → IsNotPast until new (option_map event_of (option_or found last))

@@ -1,18 +1,22 @@
 //! A run that is made event after event.
 
-ghost use Rattle.std.specs.Prelude.{◌≡◌, ◌+◌, ◌^◌, ◌≤◌, [], IfNone, IfOk, IfSome, IsSome, None, OnOk, Some, slice_index_or};
+ghost use Rattle.std.specs.Prelude.{◌≡◌, ◌+◌, ◌<◌, ◌^◌, ◌≤◌, [], IfNone, IfOk, IfSome, IsSome, None, OnOk, Some, slice_index_or};
 ghost use Rattle.logical_clock.specs.Order.{keys, least};
 ghost use Rattle.reference_world.specs.Deeds.{opened};
 ghost use Rattle.word.specs.Related.{kind_of};
 ghost use Rattle.word.specs.Views.{request_of};
 ghost use Rattle.one_thread.specs.Histories.{Adds, Counts, HasHad, IsReady};
 ghost use Rattle.one_thread.specs.Places.{clock_of};
+ghost use Rattle.one_thread.specs.Progress.{EventSeenFalls, SeenFalls, TickSeenFalls, event_in, left_in};
+ghost use Rattle.one_thread.specs.Snapshots.{StaysBefore};
 ghost use Rattle.one_thread.specs.Worlds.{IsAsked};
 
 use crate::goroutine::{Goroutine, Turn};
 use crate::interpreter::Interpreter;
+use crate::move_kind::MoveSeen;
 use crate::places::{Places, advance_at};
 use crate::running::{apply, opening};
+use crate::snapshot::{Until, is_reached};
 use go_text::Memory;
 use logical_clock::{Clock, Key};
 use reference_world::Shared;
@@ -119,7 +123,7 @@ pub fn open_run<P: Interpreter>(
 /// Makes the moves of a run up to its next event and with it, and returns that event; none if the run has ended without one. The run
 /// has ended then, and it may have ended with an event.
 ///
-/// Errors: out of memory, as which 2^64 moves without an event count. The run can't go on then.
+/// Errors: out of memory. The run can't go on then.
 pub fn next_event<P: Interpreter>(
     alloc: Global,
     program: &P,
@@ -130,64 +134,117 @@ pub fn next_event<P: Interpreter>(
     ensures adds { IfOk result (λ found. Adds (kind_of (P.parts program.now)) (P.held program.now) run.old found run.new) }
     ensures ended { IfOk result (λ found. IfNone found (IsSome run.new.end)) }
     ensures limit { OnOk result (run.new.limit ≡ run.old.limit) }
+    ensures falls { IfOk result (λ found. IfSome found (λ _. left_in run.new < left_in run.old)) }
 {
-    for _ in 0..u64::MAX {
-        if run.end.is_some() {
-            return Ok(None);
-        }
-        if let Some(event) = make_move(alloc, program, run)? {
-            return Ok(Some(event));
-        }
+    if run.end.is_some() {
+        return Ok(None);
     }
-    Err(Memory)
+    event_before(alloc, program, run, None)
 }
 
-/// Makes the next move of a run that goes on. Returns the event, if it was one.
+/// Makes the moves of a run that goes on up to its next event and with it, and returns that event; none if the run has ended without
+/// one, or has come as far as `until` without one.
+pub(crate) fn event_before<P: Interpreter>(
+    alloc: Global,
+    program: &P,
+    run: &mut OpenRun<P::State>,
+    until: Option<Until>,
+) -> Result<Option<Event>, Memory>
+    requires ready { IsReady run.old }
+    requires goes { run.old.end ≡ None }
+    ensures ready { OnOk result (IsReady run.new) }
+    ensures adds { IfOk result (λ found. Adds (kind_of (P.parts program.now)) (P.held program.now) run.old found run.new) }
+    ensures limit { OnOk result (run.new.limit ≡ run.old.limit) }
+    ensures falls { IfOk result (λ found. EventSeenFalls until found run.old run.new) }
+    ensures stays { IfOk result (λ found. StaysBefore until run.old.shared found run.new.shared) }
+{
+    // Each tick leaves its goroutine fewer of them up to the limit.
+    'ticks: loop {
+        let made = tick_before(alloc, program, run, until)?;
+        if !made.is_tick() {
+            return Ok(made.event());
+        }
+    }
+}
+
+/// Makes the moves of a run that goes on up to one that is no slide, which is returned; none if the run has ended, or has come as far
+/// as `until`.
+fn tick_before<P: Interpreter>(
+    alloc: Global,
+    program: &P,
+    run: &mut OpenRun<P::State>,
+    until: Option<Until>,
+) -> Result<MoveSeen, Memory>
+    requires ready { IsReady run.old }
+    requires goes { run.old.end ≡ None }
+    ensures ready { OnOk result (IsReady run.new) }
+    ensures adds { IfOk result (λ made. Adds (kind_of (P.parts program.now)) (P.held program.now) run.old (event_in made) run.new) }
+    ensures limit { OnOk result (run.new.limit ≡ run.old.limit) }
+    ensures falls { IfOk result (λ made. TickSeenFalls until made run.old run.new) }
+    ensures stays { IfOk result (λ made. StaysBefore until run.old.shared (event_in made) run.new.shared) }
+{
+    // After each slide the goroutines' states weigh less.
+    'slides: loop {
+        let made = make_move(alloc, program, run, until)?;
+        if !made.is_slide() {
+            return Ok(made);
+        }
+    }
+}
+
+/// Makes the next move of a run that goes on; none if no goroutine is awake, with which the run ends, or it has come as far as `until`.
 fn make_move<P: Interpreter>(
     alloc: Global,
     program: &P,
     run: &mut OpenRun<P::State>,
-) -> Result<Option<Event>, Memory>
+    until: Option<Until>,
+) -> Result<MoveSeen, Memory>
     requires ready { IsReady run.old }
     requires goes { run.old.end ≡ None }
     ensures ready { OnOk result (IsReady run.new) }
-    ensures adds { IfOk result (λ found. Adds (kind_of (P.parts program.now)) (P.held program.now) run.old found run.new) }
+    ensures adds { IfOk result (λ made. Adds (kind_of (P.parts program.now)) (P.held program.now) run.old (event_in made) run.new) }
     ensures limit { OnOk result (run.new.limit ≡ run.old.limit) }
+    ensures falls { IfOk result (λ made. SeenFalls (λ state. P.weight program.now (P.held program.now state)) until made run.old run.new) }
+    ensures stays { IfOk result (λ made. StaysBefore until run.old.shared (event_in made) run.new.shared) }
 {
     let Some(turn) = run.goroutines.least() else {
         run.end = Some(End::Deadlock);
-        return Ok(None);
+        return Ok(MoveSeen::Nothing);
     };
+    if is_reached(until, run.shared.events(), &turn) {
+        return Ok(MoveSeen::Nothing);
+    }
     take_turn(alloc, program, run, turn)
 }
 
-/// Makes the move of the goroutine whose turn it is. Returns the event, if it was one.
-pub(crate) fn take_turn<P: Interpreter>(
+/// Makes the move of the goroutine whose turn it is.
+fn take_turn<P: Interpreter>(
     alloc: Global,
     program: &P,
     run: &mut OpenRun<P::State>,
     turn: Key,
-) -> Result<Option<Event>, Memory>
+) -> Result<MoveSeen, Memory>
     requires ready { IsReady run.old }
     requires goes { run.old.end ≡ None }
     requires turn { least (keys clock_of 0 run.old.places) ≡ Some turn }
     ensures ready { OnOk result (IsReady run.new) }
-    ensures adds { IfOk result (λ found. Adds (kind_of (P.parts program.now)) (P.held program.now) run.old found run.new) }
-    ensures counts { IfOk result (λ found. Counts turn.clock run.old.shared found run.new.shared) }
+    ensures adds { IfOk result (λ made. Adds (kind_of (P.parts program.now)) (P.held program.now) run.old (event_in made) run.new) }
+    ensures counts { IfOk result (λ made. Counts turn.clock run.old.shared (event_in made) run.new.shared) }
     ensures limit { OnOk result (run.new.limit ≡ run.old.limit) }
+    ensures falls { IfOk result (λ made. SeenFalls (λ state. P.weight program.now (P.held program.now state)) None made run.old run.new) }
 {
     let place = turn.number as usize;
     match advance_at(program, alloc, &mut run.goroutines, place, run.limit)? {
-        Turn::Slid => Ok(None),
-        Turn::Ticked => Ok(None),
+        Turn::Slid => Ok(MoveSeen::Slide),
+        Turn::Ticked => Ok(MoveSeen::Tick),
         Turn::Exhausted => {
             let (_, event) = run.shared.perform_seen(turn, Request::Exhausted)?;
             run.end = Some(End::Exhausted);
-            Ok(Some(event))
+            Ok(MoveSeen::Event(event))
         }
         Turn::Asks(request, clock) => {
             let event = make_request(alloc, program, run, place, clock, request)?;
-            Ok(Some(event))
+            Ok(MoveSeen::Event(event))
         }
     }
 }
@@ -208,6 +265,7 @@ fn make_request<P: Interpreter>(
     ensures adds { IfOk result (λ event. IsAsked (kind_of (P.parts program.now)) (P.held program.now) run.old.limit run.old.places place clock (request_of request) → Adds (kind_of (P.parts program.now)) (P.held program.now) run.old (Some event) run.new) }
     ensures counts { IfOk result (λ event. Counts clock run.old.shared (Some event) run.new.shared) }
     ensures limit { OnOk result (run.new.limit ≡ run.old.limit) }
+    ensures room { OnOk result (run.new.end ≡ None → run.new.shared.events < 2 ^ 62) }
 {
     let actor = Key {
         clock,

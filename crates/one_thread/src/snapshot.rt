@@ -3,10 +3,10 @@
 ghost use Rattle.std.specs.Prelude.{◌≡◌, ◌↔◌, ◌^◌, ◌≤◌, IfOk, IsTrue, None, option_map};
 ghost use Rattle.word.specs.Related.{kind_of};
 ghost use Rattle.word.specs.Views.{event_of};
-ghost use Rattle.one_thread.specs.Snapshots.{IsFar, IsNotPast, IsReached, IsSeen};
+ghost use Rattle.one_thread.specs.Snapshots.{IsFarBefore, IsNotPast, IsReached, IsSeen};
 
 use crate::goroutine::Goroutine;
-use crate::history::{OpenRun, open_run, take_turn};
+use crate::history::{OpenRun, event_before, open_run};
 use crate::interpreter::Interpreter;
 use go_text::Memory;
 use logical_clock::Key;
@@ -24,15 +24,14 @@ pub enum Until {
     Clock(u64),
 }
 
-impl Until {
-    /// Whether a run has come so far, after this many events, before this turn.
-    fn is_reached(self, events: u64, turn: &Key) -> bool
-        ensures { IsTrue result ↔ IsFar self events turn.now }
-    {
-        match self {
-            Until::Event(number) => number <= events,
-            Until::Clock(time) => time < turn.clock.time(),
-        }
+/// Whether a run has come so far, after this many events, before this turn. One that should go on to its end never has.
+pub(crate) fn is_reached(until: Option<Until>, events: u64, turn: &Key) -> bool
+    ensures { IsTrue result ↔ IsFarBefore until events turn.now }
+{
+    match until {
+        Some(Until::Event(number)) => number <= events,
+        Some(Until::Clock(time)) => time < turn.clock.time(),
+        None => false,
     }
 }
 
@@ -65,7 +64,7 @@ impl<S: Drop> Drop for Snapshot<S> {
 /// Like `run`, but only goes as far as `until`, and returns the state of all
 /// goroutines then. Their output is dropped. At the clock limit nothing is claimed about their state.
 ///
-/// Errors: out of memory, as which 2^64 moves count.
+/// Errors: out of memory.
 pub fn run_until<P: Interpreter>(
     alloc: Global,
     program: &P,
@@ -79,20 +78,16 @@ pub fn run_until<P: Interpreter>(
 {
     let mut run = open_run(alloc, program, limit)?;
     let mut event = None;
-    for _ in 0..u64::MAX {
-        let Some(turn) = run.goroutines.least() else {
-            return Ok(snapshot_of(Some(End::Deadlock), event, run));
+    // Each event leaves fewer of the 2^62 that a run can have.
+    'events: loop {
+        let Some(seen) = event_before(alloc, program, &mut run, Some(until))? else {
+            return Ok(snapshot_of(run.end(), event, run));
         };
-        if until.is_reached(run.shared.events(), &turn) {
-            return Ok(snapshot_of(None, event, run));
-        }
-        let seen = take_turn(alloc, program, &mut run, turn)?;
-        event = seen.or(event);
+        event = Some(seen);
         if let Some(end) = run.end() {
             return Ok(snapshot_of(Some(end), event, run));
         }
     }
-    Err(Memory)
 }
 
 /// A run that has come so far.

@@ -15,16 +15,16 @@ use std::alloc::Global;
 use timeline::Window;
 
 /// The events of a window of a run that has had none, and its end if it has no more after them. What else a picture shows is noted.
-pub(crate) fn keep<P: Interpreter>(
+pub(crate) fn keep<'t, P: Interpreter>(
     alloc: Global,
     program: &P,
-    noting: &mut Noting<'_>,
+    noting: &mut Noting<'_, 't>,
     run: &mut OpenRun<P::State>,
     window: Window,
     most: usize,
 ) -> Result<Kept, Memory>
 where
-    P::State: Sited,
+    P::State: Sited<'t>,
     requires ready { IsReady run.old }
     requires opened { HasHad (kind_of (P.parts program.now)) (P.held program.now) run.old [] [] }
     ensures next { IfOk result (λ kept. AreNext (kind_of (P.parts program.now)) run.old.limit kept.before (map event_of kept.events.items)) }
@@ -47,16 +47,16 @@ where
 }
 
 /// The events after the first `skip` of a run that has had none, at most `most`.
-fn keep_from<P: Interpreter>(
+fn keep_from<'t, P: Interpreter>(
     alloc: Global,
     program: &P,
-    noting: &mut Noting<'_>,
+    noting: &mut Noting<'_, 't>,
     run: &mut OpenRun<P::State>,
     skip: u64,
     most: usize,
 ) -> Result<Kept, Memory>
 where
-    P::State: Sited,
+    P::State: Sited<'t>,
     requires ready { IsReady run.old }
     requires opened { HasHad (kind_of (P.parts program.now)) (P.held program.now) run.old [] [] }
     ensures next { IfOk result (λ kept. AreNext (kind_of (P.parts program.now)) run.old.limit kept.before (map event_of kept.events.items)) }
@@ -66,7 +66,8 @@ where
     ensures cut { IfOk result (λ kept. IfNone kept.end (most ≤ length kept.events.items)) }
 {
     let mut kept = Kept::new(alloc)?;
-    for _ in 0..u64::MAX {
+    // Each event leaves fewer of the 2^62 that a run can have.
+    'events: loop {
         if kept.before >= skip && kept.events.len() >= most {
             return Ok(kept);
         }
@@ -76,19 +77,18 @@ where
         let site = noting.follow(run, &event)?;
         kept.take(event, site, skip)?;
     }
-    Err(Memory)
 }
 
 /// The last events of a run that has had none, at most `most`, and its end.
-fn keep_last<P: Interpreter>(
+fn keep_last<'t, P: Interpreter>(
     alloc: Global,
     program: &P,
-    noting: &mut Noting<'_>,
+    noting: &mut Noting<'_, 't>,
     run: &mut OpenRun<P::State>,
     most: usize,
 ) -> Result<Kept, Memory>
 where
-    P::State: Sited,
+    P::State: Sited<'t>,
     requires ready { IsReady run.old }
     requires opened { HasHad (kind_of (P.parts program.now)) (P.held program.now) run.old [] [] }
     ensures next { IfOk result (λ kept. AreNext (kind_of (P.parts program.now)) run.old.limit kept.before (map event_of kept.events.items)) }
@@ -98,12 +98,12 @@ where
     ensures ends { IfOk result (λ kept. IsTrue (is_some kept.end)) }
 {
     let mut latest = Latest::new(alloc)?;
-    for _ in 0..u64::MAX {
+    // Each event leaves fewer of the 2^62 that a run can have.
+    'events: loop {
         let Some(event) = next_event(alloc, program, run)? else {
             return Ok(latest.ended(run.ending()));
         };
         let site = noting.follow(run, &event)?;
         latest.push(event, site, most)?;
     }
-    Err(Memory)
 }

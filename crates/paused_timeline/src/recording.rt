@@ -82,7 +82,7 @@ fn recorded(
     let program = Watched::new(alloc, typed)?;
     let paused = Paused { program, plan };
     let mut run = open_run(alloc, &paused, limit)?;
-    let mut noting = Noting::new(alloc, &functions);
+    let mut noting = Noting::new(alloc, &functions, &paused.program);
     noting.note(&run, 1, 0)?;
     let kept = keep(alloc, &paused, &mut noting, &mut run, window, most)?;
     let recording = kept.recording(alloc, names(alloc, tree)?);

@@ -5,23 +5,22 @@ use go_text::Memory;
 use one_thread::OpenRun;
 use paused_goroutine::PausedState;
 use std::alloc::Global;
-use syntax::NodeId;
 use timeline::{Pause, Site};
-use watched_goroutine::Placed;
-use word::request::{Event, Request};
+use watched_goroutine::{Placed, Watched};
+use word::request::{Event, EventOutcome, Request};
 
 /// A goroutine that is known to be at a statement.
-pub(crate) trait Sited {
-    /// The node of that statement.
-    fn node(&self) -> NodeId;
+pub(crate) trait Sited<'t> {
+    /// The goroutine with its statements.
+    fn placed(&self) -> &Placed<'t>;
 
     /// For how many ticks it waits, since the plan says so.
     fn left(&self) -> u64;
 }
 
-impl<'t> Sited for PausedState<Placed<'t>> {
-    fn node(&self) -> NodeId {
-        self.state.trail.site().node
+impl<'t> Sited<'t> for PausedState<Placed<'t>> {
+    fn placed(&self) -> &Placed<'t> {
+        &self.state
     }
 
     fn left(&self) -> u64 {
@@ -31,17 +30,25 @@ impl<'t> Sited for PausedState<Placed<'t>> {
 
 /// What is noted of a run while it goes on.
 #[derive(Drop)]
-pub(crate) struct Noting<'f> {
+pub(crate) struct Noting<'f, 't> {
+    alloc: Global,
     functions: &'f Functions,
+    program: &'f Watched<'t>,
     /// The pauses that have begun.
     pauses: Vec<Pause>,
 }
 
-impl<'f> Noting<'f> {
-    /// Nothing was noted of a run whose program has these functions.
-    pub(crate) fn new(alloc: Global, functions: &'f Functions) -> Noting<'f> {
+impl<'f, 't> Noting<'f, 't> {
+    /// Nothing was noted of a run of the program, which has these functions.
+    pub(crate) fn new(
+        alloc: Global,
+        functions: &'f Functions,
+        program: &'f Watched<'t>,
+    ) -> Noting<'f, 't> {
         Noting {
+            alloc,
             functions,
+            program,
             pauses: Vec::new(alloc),
         }
     }
@@ -49,16 +56,18 @@ impl<'f> Noting<'f> {
     /// The pauses that have begun.
     pub(crate) fn into_pauses(self) -> Vec<Pause> {
         let Noting {
+            alloc: _,
             functions: _,
+            program: _,
             pauses,
         } = self;
         pauses
     }
 
-    /// Notes the pauses that begin after the last event of a run, and returns the statement that made its request.
+    /// Notes the pauses that begin after the last event of a run, and returns what made its request.
     ///
     /// Errors: out of memory.
-    pub(crate) fn follow<S: Sited + Drop>(
+    pub(crate) fn follow<S: Sited<'t> + Drop>(
         &mut self,
         run: &OpenRun<S>,
         event: &Event,
@@ -68,13 +77,13 @@ impl<'f> Noting<'f> {
         for partner in event.partners.iter() {
             self.note(run, *partner, later)?;
         }
-        Ok(site_of(self.functions, run, event))
+        self.site_of(run, event)
     }
 
     /// Notes the pause that a goroutine begins at this clock, if it does.
     ///
     /// Errors: out of memory.
-    pub(crate) fn note<S: Sited + Drop>(
+    pub(crate) fn note<S: Sited<'t> + Drop>(
         &mut self,
         run: &OpenRun<S>,
         number: u64,
@@ -93,17 +102,29 @@ impl<'f> Noting<'f> {
         }
         Ok(())
     }
-}
 
-/// The statement that made the request of the last event of a run; none of an end.
-fn site_of<S: Sited + Drop>(
-    functions: &Functions,
-    run: &OpenRun<S>,
-    event: &Event,
-) -> Option<Site> {
-    if matches!(&event.request, Request::End | Request::Exit) {
-        return None;
+    /// The operation that made a channel, or the statement that made another request, if it is that of the last event of a run; none of
+    /// an end.
+    ///
+    /// Errors: out of memory.
+    fn site_of<S: Sited<'t> + Drop>(
+        &self,
+        run: &OpenRun<S>,
+        event: &Event,
+    ) -> Result<Option<Site>, Memory> {
+        if matches!(&event.request, Request::End | Request::Exit) {
+            return Ok(None);
+        }
+        let Some(goroutine) = run.goroutine(event.number) else {
+            return Ok(None);
+        };
+        let placed = goroutine.state.placed();
+        let node = match (&event.request, &event.outcome) {
+            (Request::Make(_, _), EventOutcome::Done(_)) => {
+                self.program.asking_node(self.alloc, placed)?
+            }
+            _ => placed.trail.site().node,
+        };
+        Ok(self.functions.site(node))
     }
-    let goroutine = run.goroutine(event.number)?;
-    functions.site(goroutine.state.node())
 }

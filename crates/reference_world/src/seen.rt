@@ -1,6 +1,6 @@
 //! Requests that are performed with their events.
 
-ghost use Rattle.std.specs.Prelude.{◌≡◌, ℕ, ◌+◌, IfOk, None, OnOk, map};
+ghost use Rattle.std.specs.Prelude.{◌≡◌, ℕ, ◌+◌, ◌<◌, ◌^◌, IfOk, None, OnOk, map};
 ghost use Rattle.word.specs.Values.{Reply as AnyReply};
 ghost use Rattle.word.specs.Views.{event_of, outcome_of, reply_of, request_of};
 ghost use Rattle.reference_world.specs.Deeds.{Performs};
@@ -24,6 +24,7 @@ impl Shared {
         ensures performs { IfOk result (λ both. Performs self.old actor.number actor.clock (request_of request) both.0 self.new) }
         ensures event { IfOk result (λ both. event_of both.1 ≡ event_by actor.number actor.clock (meant_after self.old.events actor.number (request_of request)) self.new.made both.0) }
         ensures counts { OnOk result (self.new.events ≡ self.old.events + 1) }
+        ensures room { OnOk result (self.new.ending ≡ None → self.new.events < 2 ^ 62) }
     {
         let Key { clock, number } = actor;
         let meant = self.meant(number, &request)?;

@@ -1,15 +1,16 @@
 //! From bytes and a plan to the values of the run.
 
-ghost use Rattle.std.specs.Prelude.{◌≡◌, ◌⊎◌, ◌≤◌, ◌^◌, IfErr, IfOk, IsErrOf, OnOk, true};
+ghost use Rattle.std.specs.Prelude.{◌≡◌, ◌⊎◌, ◌↔◌, ◌≤◌, ◌^◌, IfErr, IfOk, IsErrOf, OnOk, true};
 ghost use Rattle.std.specs.Io.KnownBytes.{Appends};
 ghost use Rattle.checker.specs.Trees.{tree_in};
-ghost use Rattle.kendo_reading.specs.Reading.{IsRefusal, Reads};
+ghost use Rattle.kendo_reading.specs.Reading.{HasNoReading, IsRefusal, IsWhy, Reads};
 ghost use Rattle.meaning.specs.Source.{source_kind};
 ghost use Rattle.pauses.specs.Paused.{paused};
 ghost use Rattle.pauses.specs.Plans.{pauses_of};
 ghost use Rattle.run_values.specs.Values.{HasLines};
 ghost use Rattle.syntax.specs.Spans.{tree_of};
 ghost use Rattle.syntax.specs.Tree.{File};
+ghost use Rattle.whole_run.specs.Runs.{IsLimit};
 ghost use Rattle.word.specs.Related.{kind_of};
 
 use crate::forms::Forms;
@@ -37,7 +38,12 @@ pub fn write_values<W: Write>(
     limit: u64,
     values: &mut W,
 ) -> Result<(), Fault>
+    ensures limit { IsErrOf result Fault.BadLimit ↔ (IsLimit limit → ⊥) }
+    ensures refused { IfErr result (λ fault. IsRefusal fault → HasNoReading bytes.items) }
+    ensures why { IfErr result (λ fault. IsRefusal fault → IsWhy bytes.items fault) }
     ensures only { IfErr result (λ fault. IsRefusal fault ⊎ ((fault ≡ Fault.Memory) ⊎ ((fault ≡ Fault.Write) ⊎ (fault ≡ Fault.BadLimit)))) }
+    ensures nothing { IfErr result (λ fault. (fault ≡ Fault.Memory → ⊥) → (fault ≡ Fault.Write → ⊥) → W.contents values.new ≡ W.contents values.old) }
+    ensures reading { IsErrOf result Fault.Write → (file : File) × Reads bytes.items file }
     ensures write { IsErrOf result Fault.Write → W.has_failed values.new ≡ true }
     ensures lines { IfOk result (λ _. (file : File) × Reads bytes.items file × HasLines (paused (source_kind file) (pauses_of plan.now.pauses.items)) limit (W.contents values.old) (W.contents values.new)) }
 {
@@ -85,7 +91,8 @@ where
     ensures lines { IfOk result (λ _. HasLines (kind_of (P.parts program.now)) limit (W.contents values.old) (W.contents values.new)) }
 {
     let mut run = open_run(alloc, program, limit)?;
-    for _ in 0..u64::MAX {
+    // Each event leaves fewer of the 2^62 that a run can have.
+    'events: loop {
         let Some(event) = next_event(alloc, program, &mut run)? else {
             return Ok(());
         };
@@ -94,7 +101,6 @@ where
         let line = line_of(alloc, &forms, &event)?;
         put(values, line.as_slice())?;
     }
-    Err(Fault::Memory)
 }
 
 /// A goroutine that is known to be at a statement.

@@ -12,8 +12,8 @@ use Rattle.kendo_inspect.proofs.inspecting.inspect_paused.Goals as goal
 pub returns-clause-world : goal.returns-clause-world
 returns-clause-world c =
     let seen = c.in_ok-seen.ensures in
-    ok_so c.inspected_moment.result (λ events end. IsAfter (paused (source_kind (tree_of (tree_in c.args.typed.now))) (pauses_of c.args.plan.now.pauses.items)) c.args.limit events end) _ _ c.inspected_moment.ensures.events c.inspected_moment.ensures.end
-    (subst (λ (file : File). IsAfter (paused (source_kind file) (pauses_of c.args.plan.now.pauses.items)) c.args.limit c.in_ok-seen.seen.shared.events c.in_ok-seen.seen.end) c.in_ok-program.ensures (after _ _ _ _ _ _ _ seen.seen))
+    ok_so c.inspected_moment.result (λ events end. IsAfter (paused (source_kind (tree_of (tree_in c.args.typed.now))) (pauses_of c.args.plan.now.pauses.items)) c.args.limit c.args.until events end) _ _ c.inspected_moment.ensures.events c.inspected_moment.ensures.end
+    (subst (λ (file : File). IsAfter (paused (source_kind file) (pauses_of c.args.plan.now.pauses.items)) c.args.limit c.args.until c.in_ok-seen.seen.shared.events c.in_ok-seen.seen.end) c.in_ok-program.ensures (after _ _ _ _ _ _ c.args.until seen.bound _ seen.reached seen.seen))
 
 pub returns-clause-wanted : goal.returns-clause-wanted
 returns-clause-wanted c =

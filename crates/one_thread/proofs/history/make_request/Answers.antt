@@ -23,3 +23,6 @@ returns-clause-adds g c =
     (performed_adds (kind_of (g.P.Interpreter.parts c.args.program.now)) (g.P.Interpreter.held c.args.program.now) _ (rw (← c.run.view_is) at c.requires.goes) (rw (← c.run.view_is) at c.requires.ready)
     c.args.place c.args.clock (request_of c.args.request) c.in_ok-deed.deed c.perform_seen.new.self done.performs c.in_ok-deed.event done.event
     c.apply.new.places c.at-later.result (c.at-later.ensures ∙ ap (λ (n : ℕ). n + 1) c.time.ensures.time) c.in_ok-apply.ensures.applies c.ending-run-inside.result c.ending-run-inside.ensures)
+
+pub returns-clause-room : goal.returns-clause-room
+returns-clause-room g c = λ none. c.in_ok-deed.ensures.room (sym c.ending-run-inside.ensures ∙ none)

@@ -1,17 +1,12 @@
-use Rattle.std.proofs.Common.{ℕ, [], refl, sym, ap, subst, ◌∙◌}
+use Rattle.std.proofs.Common.{[], Some, None, refl, sym, ap, ◌∙◌}
 use Rattle.std.specs.Prelude.{option_map}
-use Rattle.std.proofs.lemmas.Bool.{false≢true}
-use Rattle.logical_clock.specs.Order.{keys, least}
 use Rattle.word.specs.Related.{kind_of}
 use Rattle.word.specs.Views.{event_of}
-use Rattle.one_thread.proofs.Snapshots.{deserted_seen, last_more, not_past_first, not_past_more, over_seen, reached, seen_as, stopped_seen}
-use Rattle.one_thread.specs.Histories.{OpenValue}
-use Rattle.one_thread.specs.Places.{clock_of}
-use Rattle.one_thread.specs.Snapshots.{IsFar}
+use Rattle.one_thread.proofs.Snapshots.{last_more, not_past_first, over_seen, reached, rested_seen, seen_as}
 use Rattle.one_thread.proofs.snapshot.run_until.Goals as goal
 
-pub loop-init : goal.loop-init
-loop-init g c = record {
+pub events-init : goal.events-init
+events-init g c = record {
   ready = c.in_ok-run.ensures.ready;
   goes = c.in_ok-run.ensures.goes;
   limit = c.in_ok-run.ensures.limit;
@@ -21,47 +16,52 @@ loop-init g c = record {
 
 pub returns-in_default-clause-seen : goal.returns-in_default-clause-seen
 returns-in_default-clause-seen g c =
-    let none = ap (λ (r : OpenValue g.row.P-State.Denot). least (keys clock_of 0 r.places)) (sym c.run.view_is) ∙ sym c.least.ensures ∙ c.in_default.is in
-    rw (c.snapshot_of.ensures.end, c.snapshot_of.ensures.event, c.snapshot_of.ensures.goroutines, c.snapshot_of.ensures.shared)
-    (deserted_seen (kind_of (g.P.Interpreter.parts c.args.program.now)) (g.P.Interpreter.held c.args.program.now) c.loop.run c.args.limit c.loop.invariant.limit c.loop.event c.loop.invariant.last c.loop.invariant.goes c.loop.invariant.ready none)
+    let made = c.snapshot_of.ensures in
+    let falls = rw c.in_default.is at c.in_ok-seen.ensures.falls in
+    let last = last_more (kind_of (g.P.Interpreter.parts c.args.program.now)) (g.P.Interpreter.held c.args.program.now) c.events.run c.event_before.new.run None c.events.event (rw c.in_default.is at c.in_ok-seen.ensures.adds) c.events.invariant.last in
+    seen_as (kind_of (g.P.Interpreter.parts c.args.program.now)) (g.P.Interpreter.held c.args.program.now) c.args.limit _ _ _ _ _ _ _ _ made.goroutines made.shared (ap (option_map event_of) made.event) (made.end ∙ c.end.ensures)
+    (rested_seen (kind_of (g.P.Interpreter.parts c.args.program.now)) (g.P.Interpreter.held c.args.program.now) c.event_before.new.run c.args.limit (c.in_ok-seen.ensures.limit ∙ c.events.invariant.limit) c.events.event last c.in_ok-seen.ensures.ready _ refl (λ none. let there = falls none in (there.0, there.1)))
 
-pub returns-then-is_reached-clause-seen : goal.returns-then-is_reached-clause-seen
-returns-then-is_reached-clause-seen g c =
-    let first = ap (λ (r : OpenValue g.row.P-State.Denot). least (keys clock_of 0 r.places)) (sym c.run.view_is) ∙ sym c.least.ensures ∙ c.in-Some.is in
-    let made = c.snapshot_of-then-is_reached.ensures in
-    rw (made.end, made.event, made.goroutines, made.shared)
-    (stopped_seen (kind_of (g.P.Interpreter.parts c.args.program.now)) (g.P.Interpreter.held c.args.program.now) c.loop.run c.args.limit c.loop.invariant.limit c.loop.event c.loop.invariant.last c.loop.invariant.goes c.loop.invariant.ready c.in-Some.turn first)
+pub returns-in_default-clause-reached : goal.returns-in_default-clause-reached
+returns-in_default-clause-reached g c = λ none.
+    let made = c.snapshot_of.ensures in
+    let falls = rw c.in_default.is at c.in_ok-seen.ensures.falls in
+    let stays = rw c.in_default.is at c.in_ok-seen.ensures.stays in
+    let there = falls (sym (made.end ∙ c.end.ensures) ∙ none) in
+    rw (made.goroutines, made.shared)
+    (reached c.args.until there.0 c.event_before.new.run.places c.event_before.new.run.shared (option_map event_of c.events.event) there.2 (stays c.events.event c.events.invariant.bound) there.1)
 
-pub returns-then-is_reached-clause-reached : goal.returns-then-is_reached-clause-reached
-returns-then-is_reached-clause-reached g c = λ none.
-    let first = ap (λ (r : OpenValue g.row.P-State.Denot). least (keys clock_of 0 r.places)) (sym c.run.view_is) ∙ sym c.least.ensures ∙ c.in-Some.is in
-    let counted = c.events.ensures ∙ ap (λ (r : OpenValue g.row.P-State.Denot). r.shared.events) c.run.view_is in
-    rw (c.snapshot_of-then-is_reached.ensures.goroutines, c.snapshot_of-then-is_reached.ensures.shared)
-    (reached c.args.until c.in-Some.turn c.loop.run.places c.loop.run.shared (option_map event_of c.loop.event) (subst (λ (n : ℕ). IsFar c.args.until n c.in-Some.turn) counted (c.is_reached.ensures.0 c.if-is_reached.true)) c.loop.invariant.bound first)
+pub returns-in_default-clause-bound : goal.returns-in_default-clause-bound
+returns-in_default-clause-bound g c =
+    let made = c.snapshot_of.ensures in
+    let stays = rw c.in_default.is at c.in_ok-seen.ensures.stays in
+    rw (made.event, made.shared) (stays c.events.event c.events.invariant.bound)
 
 pub returns-in-Some-end-clause-seen : goal.returns-in-Some-end-clause-seen
 returns-in-Some-end-clause-seen g c =
     let made = c.snapshot_of-in-Some-end.ensures in
-    let last = last_more (kind_of (g.P.Interpreter.parts c.args.program.now)) (g.P.Interpreter.held c.args.program.now) c.loop.run c.take_turn.new.run c.in_ok-seen.seen c.loop.event c.in_ok-seen.ensures.adds c.loop.invariant.last in
-    seen_as (kind_of (g.P.Interpreter.parts c.args.program.now)) (g.P.Interpreter.held c.args.program.now) c.args.limit _ _ _ _ _ _ _ _ made.goroutines made.shared (ap (option_map event_of) (made.event ∙ c.or-event.ensures)) made.end
-    (over_seen (kind_of (g.P.Interpreter.parts c.args.program.now)) (g.P.Interpreter.held c.args.program.now) c.take_turn.new.run c.args.limit (c.in_ok-seen.ensures.limit ∙ c.loop.invariant.limit) _ last c.in-Some-end.end (sym c.end.ensures ∙ c.in-Some-end.is))
+    let last = last_more (kind_of (g.P.Interpreter.parts c.args.program.now)) (g.P.Interpreter.held c.args.program.now) c.events.run c.event_before.new.run (Some c.in-Some.seen) c.events.event (rw c.in-Some.is at c.in_ok-seen.ensures.adds) c.events.invariant.last in
+    seen_as (kind_of (g.P.Interpreter.parts c.args.program.now)) (g.P.Interpreter.held c.args.program.now) c.args.limit _ _ _ _ _ _ _ _ made.goroutines made.shared (ap (option_map event_of) made.event) made.end
+    (over_seen (kind_of (g.P.Interpreter.parts c.args.program.now)) (g.P.Interpreter.held c.args.program.now) c.event_before.new.run c.args.limit (c.in_ok-seen.ensures.limit ∙ c.events.invariant.limit) (Some c.in-Some.seen) last c.in-Some-end.end (sym c.end-in-events.ensures ∙ c.in-Some-end.is))
 
 pub returns-in-Some-end-clause-bound : goal.returns-in-Some-end-clause-bound
 returns-in-Some-end-clause-bound g c =
-    let counted = c.events.ensures ∙ ap (λ (r : OpenValue g.row.P-State.Denot). r.shared.events) c.run.view_is in
-    let far = λ (far : IsFar c.args.until c.loop.run.shared.events c.in-Some.turn). false≢true (sym c.if-is_reached.false ∙ c.is_reached.ensures.1 (subst (λ (n : ℕ). IsFar c.args.until n c.in-Some.turn) (sym counted) far)) in
     let made = c.snapshot_of-in-Some-end.ensures in
-    rw (made.event, made.shared, c.or-event.ensures)
-    (not_past_more c.args.until c.in-Some.turn c.loop.run.shared c.take_turn.new.run.shared c.loop.event c.in_ok-seen.seen far c.loop.invariant.bound c.in_ok-seen.ensures.counts)
+    let stays = rw c.in-Some.is at c.in_ok-seen.ensures.stays in
+    rw (made.event, made.shared) (stays c.events.event c.events.invariant.bound)
 
-pub loop-preserved : goal.loop-preserved
-loop-preserved g c =
-    let counted = c.events.ensures ∙ ap (λ (r : OpenValue g.row.P-State.Denot). r.shared.events) c.run.view_is in
-    let far = λ (far : IsFar c.args.until c.loop.run.shared.events c.in-Some.turn). false≢true (sym c.if-is_reached.false ∙ c.is_reached.ensures.1 (subst (λ (n : ℕ). IsFar c.args.until n c.in-Some.turn) (sym counted) far)) in
+pub events-preserved : goal.events-preserved
+events-preserved g c =
+    let stays = rw c.in-Some.is at c.in_ok-seen.ensures.stays in
     record {
       ready = c.in_ok-seen.ensures.ready;
-      goes = sym c.end.ensures ∙ c.in_default-end.is;
-      limit = c.in_ok-seen.ensures.limit ∙ c.loop.invariant.limit;
-      last = rw c.or-event.ensures (last_more (kind_of (g.P.Interpreter.parts c.args.program.now)) (g.P.Interpreter.held c.args.program.now) c.loop.run c.take_turn.new.run c.in_ok-seen.seen c.loop.event c.in_ok-seen.ensures.adds c.loop.invariant.last);
-      bound = rw c.or-event.ensures (not_past_more c.args.until c.in-Some.turn c.loop.run.shared c.take_turn.new.run.shared c.loop.event c.in_ok-seen.seen far c.loop.invariant.bound c.in_ok-seen.ensures.counts);
+      goes = sym c.end-in-events.ensures ∙ c.in_default-end.is;
+      limit = c.in_ok-seen.ensures.limit ∙ c.events.invariant.limit;
+      last = last_more (kind_of (g.P.Interpreter.parts c.args.program.now)) (g.P.Interpreter.held c.args.program.now) c.events.run c.event_before.new.run (Some c.in-Some.seen) c.events.event (rw c.in-Some.is at c.in_ok-seen.ensures.adds) c.events.invariant.last;
+      bound = stays c.events.event c.events.invariant.bound;
     }
+
+pub events-smaller : goal.events-smaller
+events-smaller g c =
+    let falls = rw c.in-Some.is at c.in_ok-seen.ensures.falls in
+    falls (sym c.end-in-events.ensures ∙ c.in_default-end.is)

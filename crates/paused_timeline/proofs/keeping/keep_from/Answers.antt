@@ -4,8 +4,8 @@ use Rattle.paused_timeline.proofs.Windows.{kept_next, kept_rest, still_kept, tak
 use Rattle.paused_timeline.proofs.keeping.keep_from.Goals as goal
 use Rattle.paused_timeline.proofs.keeping.keep_from.Goals.{else-kept-skip-via-then-kept-skip+else-len-most, else-kept-skip-via-else-kept-skip}
 
-pub loop-preserved : goal.loop-preserved
-loop-preserved g c =
+pub events-preserved : goal.events-preserved
+events-preserved g c =
     let few : length c.take.new.self.events.items ≤ c.args.most =
     elim c.else-kept-skip.branch [
       | else-kept-skip-via-then-kept-skip+else-len-most v ↦ omega (arith, v.if-len-most.false, v.len.ensures, c.in_ok-take.ensures.more)
@@ -13,25 +13,28 @@ loop-preserved g c =
     ] in
     record {
       ready = c.in_ok-event.ensures.ready;
-      limit = c.in_ok-event.ensures.limit ∙ c.loop.invariant.limit;
-      had = taken_kept (kind_of (g.P.Interpreter.parts c.args.program.now)) (g.P.Interpreter.held c.args.program.now) c.loop.run c.next_event.new.run c.loop.kept.before c.take.new.self.before c.loop.kept.events.items c.take.new.self.events.items c.in-Some.event (rw c.in-Some.is at c.in_ok-event.ensures.adds) c.loop.invariant.had c.in_ok-take.ensures.moves;
+      limit = c.in_ok-event.ensures.limit ∙ c.events.invariant.limit;
+      had = taken_kept (kind_of (g.P.Interpreter.parts c.args.program.now)) (g.P.Interpreter.held c.args.program.now) c.events.run c.next_event.new.run c.events.kept.before c.take.new.self.before c.events.kept.events.items c.take.new.self.events.items c.in-Some.event (rw c.in-Some.is at c.in_ok-event.ensures.adds) c.events.invariant.had c.in_ok-take.ensures.moves;
       few = few;
       begins = c.in_ok-take.ensures.begins;
-      unended = c.take.ensures.end ∙ c.loop.invariant.unended;
+      unended = c.take.ensures.end ∙ c.events.invariant.unended;
     }
 
 pub returns-then-len-most-clause-next : goal.returns-then-len-most-clause-next
 returns-then-len-most-clause-next g c =
-    kept_next (kind_of (g.P.Interpreter.parts c.args.program.now)) (g.P.Interpreter.held c.args.program.now) c.args.run.now.limit c.loop.run c.loop.invariant.limit c.loop.kept.before c.loop.kept.events.items c.loop.invariant.had
+    kept_next (kind_of (g.P.Interpreter.parts c.args.program.now)) (g.P.Interpreter.held c.args.program.now) c.args.run.now.limit c.events.run c.events.invariant.limit c.events.kept.before c.events.kept.events.items c.events.invariant.had
 
 pub returns-in_default-clause-next : goal.returns-in_default-clause-next
 returns-in_default-clause-next g c =
-    let still = still_kept (kind_of (g.P.Interpreter.parts c.args.program.now)) (g.P.Interpreter.held c.args.program.now) c.loop.run c.next_event.new.run c.loop.kept.before c.loop.kept.events.items (rw c.in_default.is at c.in_ok-event.ensures.adds) c.loop.invariant.had in
+    let still = still_kept (kind_of (g.P.Interpreter.parts c.args.program.now)) (g.P.Interpreter.held c.args.program.now) c.events.run c.next_event.new.run c.events.kept.before c.events.kept.events.items (rw c.in_default.is at c.in_ok-event.ensures.adds) c.events.invariant.had in
     rw (c.ended.ensures.0, c.ended.ensures.1)
-    (kept_next (kind_of (g.P.Interpreter.parts c.args.program.now)) (g.P.Interpreter.held c.args.program.now) c.args.run.now.limit c.next_event.new.run (c.in_ok-event.ensures.limit ∙ c.loop.invariant.limit) c.loop.kept.before c.loop.kept.events.items still)
+    (kept_next (kind_of (g.P.Interpreter.parts c.args.program.now)) (g.P.Interpreter.held c.args.program.now) c.args.run.now.limit c.next_event.new.run (c.in_ok-event.ensures.limit ∙ c.events.invariant.limit) c.events.kept.before c.events.kept.events.items still)
 
 pub returns-in_default-clause-rest : goal.returns-in_default-clause-rest
 returns-in_default-clause-rest g c =
-    let still = still_kept (kind_of (g.P.Interpreter.parts c.args.program.now)) (g.P.Interpreter.held c.args.program.now) c.loop.run c.next_event.new.run c.loop.kept.before c.loop.kept.events.items (rw c.in_default.is at c.in_ok-event.ensures.adds) c.loop.invariant.had in
+    let still = still_kept (kind_of (g.P.Interpreter.parts c.args.program.now)) (g.P.Interpreter.held c.args.program.now) c.events.run c.next_event.new.run c.events.kept.before c.events.kept.events.items (rw c.in_default.is at c.in_ok-event.ensures.adds) c.events.invariant.had in
     rw (c.ended.ensures.0, c.ended.ensures.1, c.ended.ensures.2)
-    (kept_rest (kind_of (g.P.Interpreter.parts c.args.program.now)) (g.P.Interpreter.held c.args.program.now) c.args.run.now.limit c.next_event.new.run (c.in_ok-event.ensures.limit ∙ c.loop.invariant.limit) c.loop.kept.before c.loop.kept.events.items still c.ending.result c.ending.ensures)
+    (kept_rest (kind_of (g.P.Interpreter.parts c.args.program.now)) (g.P.Interpreter.held c.args.program.now) c.args.run.now.limit c.next_event.new.run (c.in_ok-event.ensures.limit ∙ c.events.invariant.limit) c.events.kept.before c.events.kept.events.items still c.ending.result c.ending.ensures)
+
+pub events-smaller : goal.events-smaller
+events-smaller g c = rw c.in-Some.is at c.in_ok-event.ensures.falls
