@@ -1,10 +1,14 @@
 //! The new comments of a program.
 
+ghost use Rattle.std.specs.Prelude.{◌≡◌, IfOk, IfSome, map, true};
+ghost use Rattle.go_text.specs.Source.{bytes_of};
+ghost use Rattle.output_update.specs.Tokens.{HaveSameTokens, piece_of, spelt_in};
+
 use crate::groups::{Group, groups_of};
 use crate::wording::Comment;
 use diagnostic_words::words::Words;
 use expected_output::{Expectation, ExpectationError};
-use go_text::{Fault, Memory, Source};
+use go_text::{Fault, Memory, Source, Span};
 use scanner::{Token, scan};
 use std::alloc::Global;
 use word::end::End;
@@ -22,7 +26,9 @@ pub fn rewritten(
     source: &Source,
     end: End,
     output: &[u8],
-) -> Result<Option<Vec<u8>>, Fault> {
+) -> Result<Option<Vec<u8>>, Fault>
+    ensures { IfOk result (λ text. IfSome text (λ text. HaveSameTokens text.items (bytes_of source.now))) }
+{
     let Ok(output) = str::from_utf8(output) else {
         return Ok(None);
     };
@@ -175,7 +181,9 @@ fn indent_of(text: &str, at: usize) -> &str {
 }
 
 /// Whether the text has the same tokens as the program: comments and white space apart, it is the same.
-fn has_tokens_of(alloc: Global, text: &[u8], program: &Source) -> Result<bool, Fault> {
+fn has_tokens_of(alloc: Global, text: &[u8], program: &Source) -> Result<bool, Fault>
+    ensures { IfOk result (λ is_same. is_same ≡ true → HaveSameTokens text.now (bytes_of program.now)) }
+{
     let text = match Source::new(Vec::from_slice(alloc, text)?) {
         Ok(text) => text,
         Err(_) => return Ok(false),
@@ -186,18 +194,41 @@ fn has_tokens_of(alloc: Global, text: &[u8], program: &Source) -> Result<bool, F
         Err(_) => return Ok(false),
     };
     let wanted = scan(alloc, program)?;
-    if tokens.len() != wanted.len() {
-        return Ok(false);
-    }
-    let mut pairs = tokens.iter().zip(wanted.iter());
-    Ok(pairs.all(|(token, wanted)| {
-        token.kind == wanted.kind && bytes_of(&text, token) == bytes_of(program, wanted)
-    }))
+    let (text, program) = (text.as_bytes(), program.as_bytes());
+    Ok(are_same(text, tokens.as_slice(), program, wanted.as_slice()))
 }
 
-/// The bytes of a token.
-fn bytes_of<'s>(source: &'s Source, token: &Token) -> Option<&'s [u8]> {
-    source
-        .as_bytes()
-        .get(token.span.from as usize..token.span.to as usize)
+/// Whether the tokens of a text are those of another one, by kinds and bytes.
+fn are_same(text: &[u8], tokens: &[Token], other: &[u8], wanted: &[Token]) -> bool
+    ensures { result ≡ true → map (spelt_in text.now) tokens.now ≡ map (spelt_in other.now) wanted.now }
+{
+    let mut tokens = tokens;
+    let mut wanted = wanted;
+    'tokens: while let Some((token, more)) = tokens.split_first() {
+        let Some((want, others)) = wanted.split_first() else {
+            return false;
+        };
+        if !is_same(text, token, other, want) {
+            return false;
+        }
+        tokens = more;
+        wanted = others;
+    }
+    wanted.is_empty()
+}
+
+/// Whether a token of a text is that of another one, by its kind and its bytes.
+fn is_same(text: &[u8], token: &Token, other: &[u8], wanted: &Token) -> bool
+    ensures { result ≡ true → spelt_in text.now token.now ≡ spelt_in other.now wanted.now }
+{
+    token.kind == wanted.kind && piece(text, token.span) == piece(other, wanted.span)
+}
+
+/// The bytes of a text at a span; those that the text has, if the span reaches beyond its end.
+fn piece(text: &[u8], span: Span) -> &[u8]
+    ensures { result.now ≡ piece_of text.now span }
+{
+    let rest = &text[(span.from as usize).min(text.len())..];
+    let count = span.to.saturating_sub(span.from) as usize;
+    &rest[..count.min(rest.len())]
 }
