@@ -16,7 +16,7 @@ use std::thread::{Threads, available_parallelism};
 use word::end::End;
 use worker_pool::Gate;
 
-/// A gate that holds nobody.
+/// A gate that does nothing.
 pub struct Open;
 
 impl Gate for Open {
@@ -25,6 +25,8 @@ impl Gate for Open {
     fn at_lent(&self, _worker: u64, _number: u64) {}
 
     fn at_end(&self, _worker: u64) {}
+
+    fn at_progress(&self, _clock: u64) {}
 }
 
 /// Runs the program: its output goes to standard output, the lines of its events to the file of the trace, if there is one. No more
@@ -37,6 +39,7 @@ pub fn run_text(
     bytes: Vec<u8>,
     workers: u64,
     limit: u64,
+    gate: &(impl Gate + Sync),
     outputs: &mut Outputs,
 ) -> Result<End, Fault>
     ensures found { Finds (subcommands.Run workers limit) bytes.items result }
@@ -48,7 +51,7 @@ pub fn run_text(
         file,
         values: _,
     } = outputs;
-    let end = run_bytes(leave, alloc, bytes, limit, started, &Open, standard, file)?;
+    let end = run_bytes(leave, alloc, bytes, limit, started, gate, standard, file)?;
     Ok(end)
 }
 

@@ -17,6 +17,9 @@ use word::request::{Event, EventOutcome, Request};
 /// How many local steps a goroutine makes before it is checked whether the next event is there.
 const QUANTUM: u32 = 65_536;
 
+/// How many bytes of the output are kept at most between two steps. Nobody reads them.
+const MOST_UNREAD: usize = 1 << 20;
+
 /// Commits `skip` events of a book that has committed none, and keeps the next ones, at most `most`.
 #[tactic(auto, using(crate::proofs::Books::taken, crate::proofs::Books::waiting, crate::proofs::Books::all_there))]
 pub(crate) fn keep_from<B: BookName>(
@@ -105,11 +108,23 @@ fn next<B: BookName>(book: &mut Book<B>) -> Result<Settled, Memory>
 {
     match book.settle()? {
         Settled::Waiting(number) => {
+            drop_output(book)?;
             go_on(book)?;
             Ok(Settled::Waiting(number))
         }
         settled => Ok(settled),
     }
+}
+
+/// Drops the output that was committed, once it is much.
+fn drop_output<B: BookName>(book: &mut Book<B>) -> Result<(), Memory>
+    ensures { OnOk result (IsLater book.old book.new 0) }
+{
+    if book.unwritten() > MOST_UNREAD {
+        let piece = book.take_output()?;
+        drop(piece);
+    }
+    Ok(())
 }
 
 /// The goroutine of least key makes local steps, up to a request.

@@ -46,6 +46,8 @@ impl Gate for Meet {
     }
 
     fn at_end(&self, _worker: u64) {}
+
+    fn at_progress(&self, _clock: u64) {}
 }
 
 /// 64 workers wait at their start for all.
@@ -85,4 +87,6 @@ impl Gate for All {
     fn at_end(&self, _worker: u64) {
         self.ended.fetch_add(1, Ordering::SeqCst);
     }
+
+    fn at_progress(&self, _clock: u64) {}
 }

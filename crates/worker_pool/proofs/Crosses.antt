@@ -196,7 +196,10 @@ shared_sync B g s =
     let m : IsSync (Mutex.the_row (Locked.the_row B g)) = search (sendable, crosses, d) depth 20 in
     recorded_sync (Shared.the_field B g).row _ _ (Shared.the_type B g).to_one (struct_sync (shape (Shared.the_type B g)) (
       m,
-      (search (sendable, crosses) depth 20, (search (sendable, crosses) depth 20, (search (sendable, crosses) depth 20, (search (sendable, crosses) depth 20, tt)))),
+      (
+        search (sendable, crosses) depth 20,
+        (search (sendable, crosses) depth 20, (search (sendable, crosses) depth 20, (search (sendable, crosses) depth 20, (search (sendable, crosses) depth 20, tt)))),
+      ),
     ))
 
 lease_inside : (B : RattleType) (g : BookGhosts B.Denot) → IsSend (lease.the_row B g)

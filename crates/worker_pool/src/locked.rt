@@ -15,7 +15,10 @@ use std::sync::ledger::{Book, Share};
 use workers::{Back, CAPACITY, Signals, Turn, WorkQueues};
 
 /// How many local steps a goroutine that talks makes at most between two requests.
-const FEW_STEPS: u32 = 512;
+const FEW_STEPS: u32 = 8192;
+
+/// How many bytes of the output and the trace together may be committed and not yet handed out before no worker goes on.
+const MOST_UNWRITTEN: usize = 8 << 20;
 
 /// How many turns of goroutines that talk follow one another at most before a lease is given out again.
 const TALKS: u32 = 256;
@@ -58,6 +61,22 @@ impl<B: RunName> Locked<B> {
             Back::Talking(lease) | Back::Asking(lease) | Back::Running(lease) => self.bring(lease),
             Back::NoMemory => self.signals.stop(),
         }
+    }
+
+    /// Whether the workers are to wait until more is written. Once the run is over nobody waits.
+    pub fn is_full(&self) -> bool {
+        self.has_much() && !self.signals.is_over()
+    }
+
+    /// Whether more is committed and not yet handed out than is to be kept.
+    #[inline(always)]
+    fn has_much(&self) -> bool {
+        self.run.unwritten() > MOST_UNWRITTEN
+    }
+
+    /// The clock of the last committed event.
+    pub fn clock(&self) -> u64 {
+        self.run.clock().time()
     }
 
     /// Whether a worker watches, and there is a lease for it: in the book, or in a queue that was reported as filled.
@@ -190,13 +209,13 @@ impl<B: RunName> Locked<B> {
 
     /// Goroutines that talk make their steps under the lock, one after the other and without a lease, and their requests are
     /// committed. That ends if one computes, if there is none, if another worker whose goroutines talk is out, if a thread
-    /// comes to the lock, or after some turns.
+    /// comes to the lock, if much is to be written, or after some turns.
     pub fn talk(&mut self, coming: &AtomicU64) {
         if self.signals.is_over() || self.signals.is_talking() {
             return;
         }
         for _ in 0..TALKS {
-            if coming.load(Ordering::SeqCst) > 0 {
+            if coming.load(Ordering::SeqCst) > 0 || self.has_much() {
                 break;
             }
             match self.talk_once() {

@@ -138,6 +138,7 @@ fn run_named<B: RunName + Send, R: Threads + Wait + Sync, G: Gate + Sync, O: Wri
     let writing = Writing {
         rt,
         shared: &shared,
+        gate,
         printed: Reach::new(printed, printed_share),
         traced: Reach::new(traced, traced_share),
         out,
@@ -165,16 +166,18 @@ trait Task: Drop {
 
 /// To write what the workers commit.
 #[derive(Drop)]
-struct Writing<'a, 'o, 't, B: RunName, R, O, T> {
+struct Writing<'a, 'o, 't, B: RunName, R, G, O, T> {
     rt: &'a R,
     shared: &'a Shared<B>,
+    gate: &'a G,
     printed: Reach<Printed<B>>,
     traced: Reach<Traced<B>>,
     out: &'o mut O,
     trace: &'t mut T,
 }
 
-impl<'a, 'o, 't, B: RunName, R: Wait, O: Write, T: Write> Task for Writing<'a, 'o, 't, B, R, O, T> {
+impl<'a, 'o, 't, B: RunName, R: Wait, G: Gate, O: Write, T: Write> Task
+    for Writing<'a, 'o, 't, B, R, G, O, T> {
     type Output = (&'o mut O, &'t mut T, Result<End, Fault>);
 
     ghost use Rattle.std.specs.Prelude.{◌≡◌, ◌⊎◌, IfErr, IsErrOf, true};
@@ -196,12 +199,13 @@ impl<'a, 'o, 't, B: RunName, R: Wait, O: Write, T: Write> Task for Writing<'a, '
         let Writing {
             rt,
             shared,
+            gate,
             mut printed,
             mut traced,
             out,
             trace,
         } = self;
-        let result = write_run(rt, shared, &mut printed, &mut traced, out, trace);
+        let result = write_run(rt, shared, gate, &mut printed, &mut traced, out, trace);
         shared.close(rt);
         (out, trace, result)
     }

@@ -11,7 +11,7 @@ use std::sync::atomic::{AtomicU64, Ordering};
 use std::sync::ledger::{Book, Share};
 use std::sync::{Condvar, Mutex, MutexGuard, Wait};
 use std::time::Duration;
-use workers::{Back, Pace, Turn, WorkQueues};
+use workers::{Back, Gate, Pace, Turn, WorkQueues};
 
 /// How long the thread that writes sleeps, if nothing wakes it, in milliseconds.
 const WRITING_NAP: u64 = 5;
@@ -26,8 +26,10 @@ pub(crate) struct Shared<B: RunName> {
     waiting: Condvar,
     /// The worker that watches: it is to look at once.
     watching: Condvar,
-    /// The thread that writes: the run is over.
+    /// The thread that writes: the run is over, or much is to be written.
     writing: Condvar,
+    /// The workers that wait since much is to be written.
+    held: Condvar,
 }
 
 impl<B: RunName> Shared<B> {
@@ -42,6 +44,7 @@ impl<B: RunName> Shared<B> {
             waiting: Condvar::new(),
             watching: Condvar::new(),
             writing: Condvar::new(),
+            held: Condvar::new(),
         }
     }
 
@@ -53,7 +56,8 @@ impl<B: RunName> Shared<B> {
         locked
     }
 
-    /// Takes what a worker comes back with, and gives it its next lease, as soon as there is one; none once the run is over.
+    /// Takes what a worker comes back with, and gives it its next lease, as soon as there is one and not too much is to be written;
+    /// none once the run is over.
     pub fn next_lease<R: Wait>(
         &self,
         rt: &R,
@@ -69,6 +73,7 @@ impl<B: RunName> Shared<B> {
             locked.talk(&self.coming);
         }
         for _ in rt.forever() {
+            locked = self.held_back(rt, locked);
             match locked.turn(rt, pace.yields(), queues) {
                 Turn::Work(lease) => {
                     pace.go(&mut locked.signals);
@@ -97,10 +102,43 @@ impl<B: RunName> Shared<B> {
         unreachable!()
     }
 
-    /// What there is to write, after a nap that the end of the run cuts short.
-    pub fn next<R: Wait>(
+    /// Waits while too much is to be written, so that a slow reader slows the run down. The thread that writes waits for no worker,
+    /// and wakes those that wait here each time it has taken what there is, and when the run is over.
+    #[inline(always)]
+    fn held_back<'a, R: Wait>(
         &self,
         rt: &R,
+        locked: MutexGuard<'a, Locked<B>>,
+    ) -> MutexGuard<'a, Locked<B>> {
+        if locked.is_full() {
+            return self.hold(rt, locked);
+        }
+        locked
+    }
+
+    /// Waits until not too much is to be written. It is a call, so that other workers skip what they don't need.
+    #[inline(never)]
+    fn hold<'a, R: Wait>(
+        &self,
+        rt: &R,
+        locked: MutexGuard<'a, Locked<B>>,
+    ) -> MutexGuard<'a, Locked<B>> {
+        let mut locked = locked;
+        for _ in rt.forever() {
+            if !locked.is_full() {
+                return locked;
+            }
+            self.writing.notify_one();
+            locked = self.held.wait(rt, locked);
+        }
+        unreachable!()
+    }
+
+    /// What there is to write, after a nap that the end of the run cuts short.
+    pub fn next<R: Wait, G: Gate>(
+        &self,
+        rt: &R,
+        gate: &G,
         printed: &mut Share<Printed<B>>,
         traced: &mut Share<Traced<B>>,
     ) -> Result<Handed<B>, Memory>
@@ -110,7 +148,7 @@ impl<B: RunName> Shared<B> {
         ensures trace { IfOk result (λ h. (h.trace.from ≡ traced.old.amount) × (traced.new.amount ≡ traced.old.amount + length h.trace.bytes.items)) }
     {
         let mut locked = self.lock(rt);
-        if !locked.signals.is_over() {
+        if !locked.signals.is_over() && !locked.is_full() {
             locked = sleep(
                 rt,
                 &self.writing,
@@ -118,7 +156,12 @@ impl<B: RunName> Shared<B> {
                 Duration::from_millis(WRITING_NAP),
             );
         }
-        locked.next(printed, traced)
+        let handed = locked.next(printed, traced);
+        let clock = locked.clock();
+        drop(locked);
+        self.held.notify_all();
+        gate.at_progress(clock);
+        handed
     }
 
     /// The run stops because it is out of memory, unless it has ended.
@@ -138,6 +181,7 @@ impl<B: RunName> Shared<B> {
         self.waiting.notify_all();
         self.watching.notify_all();
         self.writing.notify_all();
+        self.held.notify_all();
     }
 }
 

@@ -12,6 +12,7 @@ use std::sync::Wait;
 use std::sync::ledger::{Ledger, Share};
 use word::Write;
 use word::end::End;
+use workers::Gate;
 
 /// How far the bytes of one kind are written, and the share of those that were handed out.
 #[derive(Drop)]
@@ -30,9 +31,10 @@ impl<L: Ledger> Reach<L> {
 }
 
 /// Writes what the workers of a run commit, until its end.
-pub(crate) fn write_run<B: RunName, R: Wait, O: Write, T: Write>(
+pub(crate) fn write_run<B: RunName, R: Wait, G: Gate, O: Write, T: Write>(
     rt: &R,
     shared: &Shared<B>,
+    gate: &G,
     printed: &mut Reach<Printed<B>>,
     traced: &mut Reach<Traced<B>>,
     out: &mut O,
@@ -47,7 +49,7 @@ pub(crate) fn write_run<B: RunName, R: Wait, O: Write, T: Write>(
     ensures only { IfErr result (λ fault. (fault ≡ Fault.Memory) ⊎ (fault ≡ Fault.Write)) }
 {
     for _ in rt.forever() {
-        let handed = shared.next(rt, &mut printed.share, &mut traced.share)?;
+        let handed = shared.next(rt, gate, &mut printed.share, &mut traced.share)?;
         let (output, lines, end) = handed.into_parts();
         write_piece(&mut printed.progress, output, out)?;
         write_piece(&mut traced.progress, lines, trace)?;

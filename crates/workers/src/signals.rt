@@ -48,7 +48,7 @@ impl Signals {
         ensures { self.new ≡ record self.old { stopped = self.old.stopped || not self.old.over; over = true } }
     {
         self.stopped = self.stopped || !self.over;
-        self.over = true;
+        self.close();
     }
 
     /// All that can be committed is committed, up to this end of the run, if there is one.
