@@ -53,9 +53,9 @@ pub asked : (found : Option (Text × List Row)) (name : Text) (rows : List Row) 
     → option_map (λ path. path.now) invocation.out ≡ first_of (codes "out") rows
     → IsSet (codes "ends") rows invocation.ends → IsSet (codes "unordered") rows invocation.unordered → IsSet (codes "ordered") rows invocation.ordered → IsSet (codes "leaks") rows invocation.leaks
     → IsSet (codes "whole") rows invocation.whole → IsSet (codes "orders") rows invocation.orders
-    → IsSet (codes "update") rows invocation.update → IsSet (codes "json") rows invocation.json → IsSet (codes "explain") rows invocation.explains → IsAsked found (Some invocation)
-asked found name rows invocation is does file files from last event clock seconds trace values pauses against strict out ends unordered ordered leaks whole orders update json explains =
-    subst (λ x. IsAsked x (Some invocation)) (sym is) (does, sym file, sym files, from, last, event, clock, seconds, sym trace, sym values, sym pauses, sym against, strict, sym out, ends, unordered, ordered, leaks, whole, orders, update, json, explains)
+    → IsSet (codes "update") rows invocation.update → IsSet (codes "json") rows invocation.json → IsSet (codes "explain") rows invocation.explains → invocation.asks_to_explain ≡ invocation.explains → IsAsked found (Some invocation)
+asked found name rows invocation is does file files from last event clock seconds trace values pauses against strict out ends unordered ordered leaks whole orders update json explains typed =
+    subst (λ x. IsAsked x (Some invocation)) (sym is) (does, sym file, sym files, from, last, event, clock, seconds, sym trace, sym values, sym pauses, sym against, strict, sym out, ends, unordered, ordered, leaks, whole, orders, update, json, explains, typed)
 
 -- without a file it requests nothing
 pub not_asked : (found : Option (Text × List Row)) (name : Text) (rows : List Row) → found ≡ Some (name, rows)

@@ -272,8 +272,9 @@ Does name rows (subcommands.Test limit tries states) =
     (name ≡ codes "test") × IsNumber (one_of (codes "limit") rows) limit × IsNumber (one_of (codes "tries") rows) tries
     × IsNumber (one_of (codes "states") rows) states
 Does name rows (subcommands.Inspect limit) = (name ≡ codes "inspect") × IsNumber (one_of (codes "limit") rows) limit
-Does name rows (subcommands.Paused limit) =
-    ((name ≡ codes "run") ⊎ (name ≡ codes "reference")) × (is_paused rows ≡ true) × IsNumber (one_of (codes "limit") rows) limit
+Does name rows (subcommands.Paused workers limit) =
+    (((name ≡ codes "run") × IsNumber (one_of (codes "workers") rows) workers) ⊎ ((name ≡ codes "reference") × (workers ≡ 1)))
+    × (is_paused rows ≡ true) × IsNumber (one_of (codes "limit") rows) limit
 Does name rows (subcommands.Run workers limit) =
     (name ≡ codes "run") × (is_paused rows ≡ false) × IsNumber (one_of (codes "workers") rows) workers × IsNumber (one_of (codes "limit") rows) limit
 
@@ -311,6 +312,7 @@ Asks (name, rows) invocation =
     × IsSet (codes "update") rows invocation.update
     × IsSet (codes "json") rows invocation.json
     × IsSet (codes "explain") rows invocation.explains
+    × (invocation.asks_to_explain ≡ invocation.explains)
 
 -- what the command does, or none if it does nothing
 abbrev pub IsDone : (name : Text) → List Row → Option Subcommand → Type 0

@@ -77,6 +77,8 @@ pub struct Invocation<'m, 'a> {
     pub json: bool,
     /// Whether errors in the program and the end of its run are explained.
     pub explains: bool,
+    /// Whether `--explain` was typed.
+    pub asks_to_explain: bool,
     /// What is done with the program.
     pub subcommand: Subcommand,
 }
@@ -123,6 +125,8 @@ pub enum Subcommand {
     },
     /// Its source is interpreted by a plan of pauses.
     Paused {
+        /// How many workers `run` names; the program judges whether it is 1 to 64. 1 for `reference`, which has one thread.
+        workers: u64,
         /// The last logical time; the interpreter judges whether it is 1 to 2^62.
         limit: u64,
     },
@@ -606,6 +610,7 @@ fn is_named(matches: &ArgMatches<'_>, name: &str) -> bool
 fn subcommand_named(name: &str, matches: &ArgMatches<'_>) -> Option<Subcommand>
     ensures { IsDone name.now (rows_of (found_of matches.now)) result }
 {
+    let workers = option_number(matches, "workers");
     let limit = option_number(matches, "limit");
     let tries = option_number(matches, "tries");
     let states = option_number(matches, "states");
@@ -613,7 +618,10 @@ fn subcommand_named(name: &str, matches: &ArgMatches<'_>) -> Option<Subcommand>
     match name {
         "check" => Some(Subcommand::Check),
         "list" => Some(Subcommand::List),
-        "reference" if paused => Some(Subcommand::Paused { limit: limit? }),
+        "reference" if paused => Some(Subcommand::Paused {
+            workers: 1,
+            limit: limit?,
+        }),
         "reference" => Some(Subcommand::Reference { limit: limit? }),
         "timeline" => Some(Subcommand::Timeline { limit: limit? }),
         "explore" => Some(Subcommand::Explore {
@@ -627,9 +635,12 @@ fn subcommand_named(name: &str, matches: &ArgMatches<'_>) -> Option<Subcommand>
             states: states?,
         }),
         "inspect" => Some(Subcommand::Inspect { limit: limit? }),
-        "run" if paused => Some(Subcommand::Paused { limit: limit? }),
+        "run" if paused => Some(Subcommand::Paused {
+            workers: workers?,
+            limit: limit?,
+        }),
         "run" => Some(Subcommand::Run {
-            workers: option_number(matches, "workers")?,
+            workers: workers?,
             limit: limit?,
         }),
         _ => None,
@@ -666,6 +677,7 @@ pub fn invocation_of<'m, 'a>(matches: &'m ArgMatches<'a>) -> Option<Invocation<'
     let update = is_set(matches, "update");
     let json = is_set(matches, "json");
     let explains = is_set(matches, "explain");
+    let asks_to_explain = explains;
     let files = matches.get_strs("FILE")?;
     Some(Invocation {
         file: matches.get_str("FILE")?,
@@ -690,6 +702,7 @@ pub fn invocation_of<'m, 'a>(matches: &'m ArgMatches<'a>) -> Option<Invocation<'
         update,
         json,
         explains,
+        asks_to_explain,
         subcommand,
     })
 }

@@ -2,3 +2,4 @@
 #![tactic(auto)]
 
 pub mod arguments;
+pub mod numbers;

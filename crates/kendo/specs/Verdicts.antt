@@ -12,7 +12,7 @@ use Rattle.kendo_explore.specs.Explored.{AreShown}
 use Rattle.kendo_explore.specs.declared.exploring.Explored.{Explored}
 use Rattle.kendo_reading.specs.Reading.{Reads}
 use Rattle.kendo_report.specs.Outcome.{report_status}
-use Rattle.kendo_shell.specs.Answers.{Finds, IsOfAll, IsReason}
+use Rattle.kendo_shell.specs.Answers.{EndsPaused, Finds, IsOfAll, IsReason}
 use Rattle.kendo_test.specs.Passing.{IsRight}
 use Rattle.kendo_test.specs.declared.testing.Verdict.{Verdict as TestVerdict}
 use Rattle.kendo_test.specs.declared.testing.Verdict.TheVariants as tests
@@ -20,8 +20,13 @@ use Rattle.pauses.specs.Plans.{Pause}
 use Rattle.program_states.specs.declared.space.Scope.{Scope}
 use Rattle.syntax.specs.Tree.{File}
 use Rattle.test_folders.specs.Folders.{AreTests}
-use Rattle.whole_run.specs.Runs.{IsLimit}
+use Rattle.whole_run.specs.Runs.{IsLimit, IsWorkers}
 use Rattle.word.specs.declared.end.End.{End}
+
+-- what the command finds in the text, by these pauses if it names a plan
+abbrev pub FindsBy : Subcommand → List Pause → (text : List ℕ) → Result End Fault → Type 0
+FindsBy (subcommands.Paused workers limit) pauses text (Ok end) = IsWorkers workers × IsLimit limit × EndsPaused text pauses limit end
+FindsBy subcommand pauses text outcome = Finds subcommand text outcome
 
 -- ---- explorations
 
@@ -87,7 +92,7 @@ test_status (Err fault) = report_status (Err fault)
 -- the run of the text, by these pauses if the command names a plan, ends so and has this trace
 abbrev pub IsTracedAs : Subcommand → List Pause → (text lines : List ℕ) → End → Type 0
 IsTracedAs (subcommands.Run workers limit) pauses text lines end = IsTraced text limit lines end
-IsTracedAs (subcommands.Paused limit) pauses text lines end = IsTracedBy pauses text limit lines end
+IsTracedAs (subcommands.Paused workers limit) pauses text lines end = IsTracedBy pauses text limit lines end
 IsTracedAs subcommand pauses text lines end = ⊥
 
 -- the status of a run that is compared, which is `status` if it is the recorded one
@@ -109,51 +114,56 @@ IsAgainstIfAny subcommand pauses strict recorded text (Err fault) status = statu
 -- the exit status of an invocation whose run of this program, by these pauses if it names a plan, is compared with this recorded trace
 abbrev pub Compares : Invocation → List Pause → (recorded text : List ℕ) → (status : ℕ) → Type 0
 Compares invocation pauses recorded text status =
-    (outcome : Result End Fault) × Finds invocation.subcommand text outcome
+    (outcome : Result End Fault) × FindsBy invocation.subcommand pauses text outcome
     × IsAgainstIfAny invocation.subcommand pauses invocation.strict recorded text outcome status
 
 -- ---- all commands
 
--- the status of a command that came to an end. `against` is the path of a recorded trace
-abbrev pub Says : {T : Type 0} → Subcommand → Scope → (against : Option T) → (strict whole : Bool) → (text : List ℕ) → End → (status : ℕ) → Type 0
-Says (subcommands.Explore limit tries states) scope against strict whole text end status =
+-- the status of a command that came to an end, by these pauses if it names a plan. `against` is the path of a recorded trace
+abbrev pub Says : {T : Type 0} → Subcommand → Scope → (against : Option T) → (strict whole : Bool) → List Pause → (text : List ℕ) → End → (status : ℕ) → Type 0
+Says (subcommands.Explore limit tries states) scope against strict whole pauses text end status =
     (verdict : Verdict) × IsExplored (subcommands.Explore limit tries states) scope text verdict × (status ≡ explored_status verdict whole)
-Says (subcommands.Test limit tries states) scope against strict whole text end status =
+Says (subcommands.Test limit tries states) scope against strict whole pauses text end status =
     (passed : Bool) × IsTested (subcommands.Test limit tries states) scope.leaks text passed × (status ≡ tested_status passed)
-Says subcommand scope None strict whole text end status = status ≡ report_status (Ok end)
-Says subcommand scope (Some path) strict whole text end status = (pauses : List Pause) × (recorded : List ℕ) × IsAgainst subcommand pauses strict recorded text end status
+Says subcommand scope None strict whole pauses text end status = status ≡ report_status (Ok end)
+Says subcommand scope (Some path) strict whole pauses text end status = (recorded : List ℕ) × IsAgainst subcommand pauses strict recorded text end status
 
 -- or the status of why it did not
-abbrev pub SaysIfAny : {T : Type 0} → Subcommand → Scope → (against : Option T) → (strict whole : Bool) → (text : List ℕ) → Result End Fault → (status : ℕ) → Type 0
-SaysIfAny subcommand scope against strict whole text (Ok end) status = Says subcommand scope against strict whole text end status
-SaysIfAny subcommand scope against strict whole text (Err fault) status = status ≡ report_status (Err fault)
+abbrev pub SaysIfAny : {T : Type 0} → Subcommand → Scope → (against : Option T) → (strict whole : Bool) → List Pause → (text : List ℕ) → Result End Fault → (status : ℕ) → Type 0
+SaysIfAny subcommand scope against strict whole pauses text (Ok end) status = Says subcommand scope against strict whole pauses text end status
+SaysIfAny subcommand scope against strict whole pauses text (Err fault) status = status ≡ report_status (Err fault)
 
 -- the status of what the invocation finds
-abbrev pub IsSaid : Invocation → (text : List ℕ) → Result End Fault → (status : ℕ) → Type 0
-IsSaid invocation text outcome status = SaysIfAny invocation.subcommand (scope_of invocation) invocation.against invocation.strict invocation.whole text outcome status
+abbrev pub IsSaid : Invocation → List Pause → (text : List ℕ) → Result End Fault → (status : ℕ) → Type 0
+IsSaid invocation pauses text outcome status =
+    SaysIfAny invocation.subcommand (scope_of invocation) invocation.against invocation.strict invocation.whole pauses text outcome status
 
--- the exit status of what the invocation finds in this program
-abbrev pub IsJudged : Invocation → (text : List ℕ) → (status : ℕ) → Type 0
-IsJudged invocation text status = (outcome : Result End Fault) × Finds invocation.subcommand text outcome × IsSaid invocation text outcome status
+-- the exit status of what the invocation finds in this program, by these pauses if it names a plan
+abbrev pub IsJudged : Invocation → List Pause → (text : List ℕ) → (status : ℕ) → Type 0
+IsJudged invocation pauses text status =
+    (outcome : Result End Fault) × FindsBy invocation.subcommand pauses text outcome × IsSaid invocation pauses text outcome status
 
--- the exit status of what it finds in some program, as a file's bytes are in no contract
+-- the exit status of what it finds in some program, by some pauses, as the bytes of a source file and of a plan are in no contract
 abbrev pub Judges : Invocation → (status : ℕ) → Type 0
-Judges invocation status = (text : List ℕ) × IsJudged invocation text status
+Judges invocation status = (text : List ℕ) × (pauses : List Pause) × IsJudged invocation pauses text status
 
--- the exit status of tests, of which `Reports` says that of one, of the programs that the paths stand for, at least one, or if the line that says how many passed can't be written
-abbrev pub JudgesTests : Subcommand → (Reports : (status : ℕ) → Type 0) → (paths : List (List ℕ)) → (status : ℕ) → Type 0
-JudgesTests (subcommands.Test limit tries states) Reports paths status =
+-- the exit status of what a command finds in its files, one after the other, if `Reports` says that of one. Tests are of the programs that the paths stand for, at least one; their status is 6 if the line that says how many passed can't be written
+abbrev pub JudgesEach : Subcommand → (Reports : (status : ℕ) → Type 0) → (paths : List (List ℕ)) → (status : ℕ) → Type 0
+JudgesEach (subcommands.Test limit tries states) Reports paths status =
     (programs : List (List ℕ)) × AreTests paths programs × (1 ≤ length programs) × (IsOfAll Reports (length programs) status ⊎ (status ≡ 6))
-JudgesTests subcommand Reports paths status = ⊥
+JudgesEach subcommand Reports paths status = IsOfAll Reports (length paths) status
 
--- the exit status of what the invocation finds in its files, or of its tests
+-- the exit status of what the invocation finds in its files
 abbrev pub JudgesAll : Invocation → (status : ℕ) → Type 0
-JudgesAll invocation status =
-    IsOfAll (Judges invocation) (length invocation.files.now) status
-    ⊎ JudgesTests invocation.subcommand (Judges invocation) (map (λ path. path.now) invocation.files.now) status
+JudgesAll invocation status = JudgesEach invocation.subcommand (Judges invocation) (map (λ path. path.now) invocation.files.now) status
+
+-- whether a command tests
+abbrev pub is_test : Subcommand → Bool
+is_test (subcommands.Test limit tries states) = true
+is_test subcommand = false
 
 -- what a command finds that neither explores nor tests
-abbrev pub FindsPlainly : Subcommand → (text : List ℕ) → Result End Fault → Type 0
-FindsPlainly (subcommands.Explore limit tries states) text (Ok end) = ⊥
-FindsPlainly (subcommands.Test limit tries states) text (Ok end) = ⊥
-FindsPlainly subcommand text outcome = Finds subcommand text outcome
+abbrev pub FindsPlainly : Subcommand → List Pause → (text : List ℕ) → Result End Fault → Type 0
+FindsPlainly (subcommands.Explore limit tries states) pauses text (Ok end) = ⊥
+FindsPlainly (subcommands.Test limit tries states) pauses text (Ok end) = ⊥
+FindsPlainly subcommand pauses text outcome = FindsBy subcommand pauses text outcome

@@ -1,14 +1,15 @@
 //! Runs that are compared with recorded traces.
 
 ghost use Rattle.std.specs.Prelude.{◌≡◌, ◌⊎◌, IfOk};
-ghost use Rattle.kendo.specs.Verdicts.{Compares, IsTracedAs, Judges, compared_status};
+ghost use Rattle.kendo.specs.Verdicts.{Compares, FindsBy, IsTracedAs, Judges, compared_status};
 ghost use Rattle.kendo_compare.specs.Comparing.{IsCompared};
-ghost use Rattle.kendo_shell.specs.Answers.{Finds};
+ghost use Rattle.kendo_compare.specs.Traces.{IsTracedBy};
 ghost use Rattle.pauses.specs.Plans.{pauses_of};
 
+use crate::bounds::{has_workers, is_in_bounds};
 use crate::explaining::{explain, kept_program};
 use crate::exploring::Task;
-use crate::plans::GivenPlan;
+use crate::plans::plan_of;
 use command_line::arguments::{Invocation, Subcommand};
 use go_text::{Fault, Memory};
 use kendo_compare::{
@@ -16,8 +17,9 @@ use kendo_compare::{
     run_with_trace,
 };
 use kendo_shell::USAGE;
-use kendo_shell::files::{all_bytes, opened};
-use kendo_shell::streams::{tell, told};
+use kendo_shell::files::{SourceFile, all_bytes, source_file};
+use kendo_shell::names::{Shown, shown_name};
+use kendo_shell::streams::{tell, told_of_refusal};
 use kendo_shell::tracing::{Outputs, Trace};
 use pauses::Plan;
 use std::alloc::Global;
@@ -29,13 +31,12 @@ use word::end::End;
 const OTHER: u8 = 8;
 
 /// Runs the program of a file, by the plan if one is named, and reports on standard error how its run compares with the trace that the
-/// command names.
+/// command names. The file is read before the plan and the trace.
 pub(crate) fn compare_file(
     rt: &HostRuntime,
     threads: &(impl Threads + Wait + Sync),
     alloc: Global,
     invocation: &Invocation<'_, '_>,
-    plan: &GivenPlan<'_>,
     file: &str,
 ) -> Result<u8, Memory>
     ensures { IfOk result (λ status. (status ≡ USAGE) ⊎ Judges invocation.now status) }
@@ -43,12 +44,16 @@ pub(crate) fn compare_file(
     let Some(path) = invocation.against else {
         return Ok(USAGE);
     };
-    let Some(recorded) = recorded_trace(rt, alloc, path, invocation.explains)? else {
+    let Some(source) = source_file(rt, alloc, invocation, file, None)? else {
         return Ok(USAGE);
     };
-    let Some((bytes, _no_trace)) = opened(rt, alloc, invocation, file, None)? else {
+    let Some(plan) = plan_of(rt, alloc, invocation)? else {
         return Ok(USAGE);
     };
+    let Some(recorded) = recorded_trace(rt, alloc, path, invocation)? else {
+        return Ok(USAGE);
+    };
+    let SourceFile { bytes, .. } = source;
     plan.compare_source(rt, alloc, file, bytes.as_slice())?;
     let recorded = Recorded {
         path,
@@ -94,10 +99,12 @@ fn compare_run(
         &mut outputs,
         &mut trace,
     );
-    let status = told(rt, alloc, None, &outcome)?;
+    let refused = outputs.refused();
+    let status = told_of_refusal(rt, alloc, None, &outcome, refused)?;
     let kept = kept_program(rt, alloc, invocation, file, Some(plan), text.as_slice());
-    explain(rt, alloc, invocation, kept, outcome, outputs.refused());
-    let program = program_of(invocation, plan, file, text.as_slice());
+    explain(rt, alloc, invocation, kept, outcome, refused);
+    let name = shown_name(alloc, file)?;
+    let program = program_of(invocation, plan, name.as_str(), text.as_slice());
     match outcome {
         Ok(_) => {
             let is_same = compare(rt, alloc, &program, recorded, trace.as_slice())?;
@@ -107,15 +114,20 @@ fn compare_run(
     }
 }
 
-/// The trace in a file. `None` if it can't be read or is no trace: standard error says so, and, if the command explains, why.
+/// The trace in a file; an empty one if the command is out of its bounds, since nothing runs then. `None` if the file can't be read or is no
+/// trace: standard error says so, and, if the command explains, why.
 ///
 /// Errors: `Memory`.
 fn recorded_trace(
     rt: &HostRuntime,
     alloc: Global,
     path: &str,
-    explains: bool,
+    invocation: &Invocation<'_, '_>,
 ) -> Result<Option<Vec<u8>>, Memory> {
+    if !is_in_bounds(invocation.subcommand) {
+        return Ok(Some(Vec::new(alloc)));
+    }
+    let explains = invocation.explains;
     let Some(bytes) = all_bytes(rt, alloc, path, explains)? else {
         return Ok(None);
     };
@@ -137,6 +149,7 @@ fn refuse(
     line: u64,
     explains: bool,
 ) -> Result<(), Memory> {
+    let path = Shown(path);
     let told = format!(in alloc; "kendo: broken trace at {path}:{line}\n")?;
     tell(rt, told.as_bytes());
     if explains {
@@ -157,7 +170,7 @@ fn program_of<'p>(
 ) -> Program<'p> {
     let (plan, limit) = match invocation.subcommand {
         Subcommand::Run { limit, .. } => (None, limit),
-        Subcommand::Paused { limit } => (Some(plan), limit),
+        Subcommand::Paused { limit, .. } => (Some(plan), limit),
         _ => (None, 0),
     };
     Program {
@@ -178,7 +191,7 @@ fn find(
     outputs: &mut Outputs,
     trace: &mut Vec<u8>,
 ) -> Result<End, Fault>
-    ensures found { Finds invocation.now.subcommand bytes.items result }
+    ensures found { FindsBy invocation.now.subcommand (pauses_of plan.now.pauses.items) bytes.items result }
     ensures traced { IfOk result (IsTracedAs invocation.now.subcommand (pauses_of plan.now.pauses.items) bytes.items trace.new.items) }
 {
     match invocation.subcommand {
@@ -191,11 +204,30 @@ fn find(
             &mut outputs.standard,
             trace,
         ),
-        Subcommand::Paused { limit } => {
-            run_paused_with_trace(alloc, bytes, plan, limit, &mut outputs.standard, trace)
+        Subcommand::Paused { workers, limit } => {
+            pause(alloc, bytes, plan, workers, limit, outputs, trace)
         }
         _ => Err(Fault::Memory),
     }
+}
+
+/// Interprets the program by the plan, whatever the number of workers is, but a wrong one. Its trace goes to `trace`.
+fn pause(
+    alloc: Global,
+    bytes: Vec<u8>,
+    plan: &Plan,
+    workers: u64,
+    limit: u64,
+    outputs: &mut Outputs,
+    trace: &mut Vec<u8>,
+) -> Result<End, Fault>
+    ensures found { FindsBy (Subcommand.Paused workers limit) (pauses_of plan.now.pauses.items) bytes.items result }
+    ensures traced { IfOk result (IsTracedBy (pauses_of plan.now.pauses.items) bytes.items limit trace.new.items) }
+{
+    if !has_workers(workers) {
+        return Err(Fault::BadWorkers);
+    }
+    run_paused_with_trace(alloc, bytes, plan, limit, &mut outputs.standard, trace)
 }
 
 /// Reports how a run's trace compares with a recorded one. Returns whether they are said to be the same.

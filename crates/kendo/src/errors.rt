@@ -7,8 +7,8 @@ use command_line::arguments::Invocation;
 use go_text::{Fault, Memory};
 use json_report::error_lines;
 use kendo_report::report;
-use kendo_shell::streams::told;
-use kendo_shell::tracing::{Outputs, Trace};
+use kendo_shell::streams::told_of_refusal;
+use kendo_shell::tracing::{Outputs, Refused, Trace};
 use std::alloc::Global;
 use word::end::End;
 use word::write_all;
@@ -40,7 +40,7 @@ impl<'a> Reported<'a> {
 }
 
 /// Reports an outcome, and returns its exit status: the errors of a program that is reported as JSON on standard output, an object a
-/// line; else, as `told` does, on standard error.
+/// line; else, as `told_of_refusal` does, on standard error.
 ///
 /// Errors: `Memory`.
 pub(crate) fn told_of(
@@ -49,14 +49,15 @@ pub(crate) fn told_of(
     name: Option<&str>,
     reported: Option<&Reported<'_>>,
     outcome: &Result<End, Fault>,
+    refused: Option<Refused>,
 ) -> Result<u8, Memory>
     ensures { IfOk result (λ status. status ≡ report_status outcome.now) }
 {
     let (Some(reported), Err(fault)) = (reported, outcome) else {
-        return told(rt, alloc, name, outcome);
+        return told_of_refusal(rt, alloc, name, outcome, refused);
     };
     if !is_error(fault) {
-        return told(rt, alloc, name, outcome);
+        return told_of_refusal(rt, alloc, name, outcome, refused);
     }
     let (_line, status) = report(alloc, outcome)?;
     let lines = error_lines(alloc, reported.file, reported.text.as_slice(), fault)?;

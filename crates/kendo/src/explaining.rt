@@ -1,11 +1,13 @@
 //! The explanation that follows the line of an outcome.
 
+use crate::bounds::{MOST_WORKERS, has_workers};
 use command_line::arguments::{Invocation, Subcommand};
 use diagnostic::explanations;
 use go_text::Fault;
 use kendo_explore::{Explored, PlanFile};
 use kendo_front::{explain_end, explain_end_by_plan};
-use kendo_shell::streams::tell;
+use kendo_shell::names::{Shown, shown_name};
+use kendo_shell::streams::{is_unread, tell};
 use kendo_shell::tracing::Refused;
 use kendo_shell::words::has_colors;
 use pauses::Plan;
@@ -15,20 +17,17 @@ use std::time::Instant;
 use terminal_style::styled;
 use word::end::End;
 
-/// How many milliseconds a run takes before a terminal is told that it is run again.
+/// How many milliseconds a run takes before a terminal is told that it is run again, and before one that finished is not.
 const LONG: u128 = 1_000;
 
 /// The line that tells that.
 const AGAIN: &[u8] = b"kendo: running again to explain; KENDO_EXPLAIN=0 turns this off\n";
 
-/// How many workers a run has at most.
-const MOST_WORKERS: u64 = 64;
-
 /// A program that is explained.
 #[derive(Drop)]
 pub(crate) struct Kept<'a> {
-    /// The path as it was typed.
-    file: &'a str,
+    /// The path as it is shown.
+    file: String,
     /// The plan by which it is run, if its run has one.
     plan: Option<&'a Plan>,
     text: Vec<u8>,
@@ -41,13 +40,14 @@ pub(crate) fn kept_program<'a>(
     rt: &HostRuntime,
     alloc: Global,
     invocation: &Invocation<'_, '_>,
-    file: &'a str,
+    file: &str,
     plan: Option<&'a Plan>,
     bytes: &[u8],
 ) -> Option<Kept<'a>> {
     if !invocation.explains || invocation.json {
         return None;
     }
+    let file = shown_name(alloc, file).ok()?;
     let text = bytes.to_vec(alloc).ok()?;
     Some(Kept {
         file,
@@ -70,16 +70,18 @@ pub(crate) fn explain(
     let Some(kept) = kept else {
         return;
     };
-    let file = kept.file;
+    if !kept.is_told(rt, invocation, outcome, refused) {
+        return;
+    }
     kept.tell_second_run(rt, invocation, outcome);
     let explained = match (outcome, refused) {
-        (Ok(end), _) => end_explained(alloc, invocation, kept, end),
+        (Ok(end), _) => end_explained(alloc, invocation, &kept, end),
         (Err(Fault::Write), Some(refused)) => refusal_explained(alloc, invocation, refused),
         (Err(Fault::BadWorkers | Fault::BadLimit), _) => bounds_explained(alloc, invocation),
-        (Err(fault), _) => fault_explained(alloc, kept, &fault),
+        (Err(fault), _) => fault_explained(alloc, &kept, &fault),
     };
     if let Ok(explained) = explained {
-        tell_styled(rt, alloc, file, explained.as_slice());
+        tell_styled(rt, alloc, kept.file.as_str(), explained.as_slice());
     }
 }
 
@@ -142,8 +144,25 @@ impl Kept<'_> {
         }
         if let Ok(line) = format!(in alloc; "{title}:\n") {
             tell(rt, line.as_bytes());
-            tell_styled(rt, alloc, self.file, explained.as_slice());
+            tell_styled(rt, alloc, self.file.as_str(), explained.as_slice());
         }
+    }
+
+    /// Whether the outcome is explained. If `--explain` was not typed, the reader of standard output may go away without a word, and on a
+    /// terminal a run that finished after some time is not run again to look for goroutines that wait forever.
+    fn is_told(
+        &self,
+        rt: &HostRuntime,
+        invocation: &Invocation<'_, '_>,
+        outcome: Result<End, Fault>,
+        refused: Option<Refused>,
+    ) -> bool {
+        let is_terminal = rt.stderr().is_terminal();
+        if is_unread(&outcome, refused) {
+            return invocation.asks_to_explain && !is_terminal;
+        }
+        let is_finished = matches!(outcome, Ok(End::Finished)) && runs(invocation);
+        invocation.asks_to_explain || !is_terminal || !is_finished || self.elapsed(rt) < LONG
     }
 
     /// Tells on a terminal that the program runs again, if its first run took long and a second one explains how it ended.
@@ -153,12 +172,11 @@ impl Kept<'_> {
         invocation: &Invocation<'_, '_>,
         outcome: Result<End, Fault>,
     ) {
-        let runs_again = outcome.is_ok()
-            && matches!(
-                invocation.subcommand,
-                Subcommand::Paused { .. } | Subcommand::Reference { .. } | Subcommand::Run { .. }
-            );
-        if runs_again && self.elapsed(rt) >= LONG && rt.stderr().is_terminal() {
+        if outcome.is_ok()
+            && runs(invocation)
+            && self.elapsed(rt) >= LONG
+            && rt.stderr().is_terminal()
+        {
             tell(rt, AGAIN);
         }
     }
@@ -172,7 +190,7 @@ impl Kept<'_> {
     /// Explains an end of the run without pauses.
     fn explained(&self, alloc: Global, limit: u64, end: End) -> Result<Vec<u8>, Fault> {
         let text = Vec::from_slice(alloc, self.text.as_slice())?;
-        explain_end(alloc, self.file, text, limit, end)
+        explain_end(alloc, self.file.as_str(), text, limit, end)
     }
 
     /// Explains the end of the run by a plan.
@@ -181,7 +199,7 @@ impl Kept<'_> {
             return Err(Fault::Memory);
         };
         let text = Vec::from_slice(alloc, self.text.as_slice())?;
-        explain_end_by_plan(alloc, self.file, text, &plan, limit, one.end)
+        explain_end_by_plan(alloc, self.file.as_str(), text, &plan, limit, one.end)
     }
 }
 
@@ -189,18 +207,14 @@ impl Kept<'_> {
 fn end_explained(
     alloc: Global,
     invocation: &Invocation<'_, '_>,
-    kept: Kept<'_>,
+    kept: &Kept<'_>,
     end: End,
 ) -> Result<Vec<u8>, Fault> {
-    let Kept {
-        file,
-        plan,
-        text,
-        begun: _,
-    } = kept;
-    match (invocation.subcommand, plan) {
+    let file = kept.file.as_str();
+    let text = Vec::from_slice(alloc, kept.text.as_slice())?;
+    match (invocation.subcommand, kept.plan) {
         (Subcommand::Test { .. }, _) if end == End::Finished => Ok(Vec::new(alloc)),
-        (Subcommand::Paused { limit }, Some(plan)) => {
+        (Subcommand::Paused { limit, .. }, Some(plan)) => {
             explain_end_by_plan(alloc, file, text, plan, limit, end)
         }
         (
@@ -222,11 +236,11 @@ fn refusal_explained(
     let line = match refused {
         Refused::Standard(reason) => format!(in alloc; "standard output: {reason}\n"),
         Refused::File(reason) => {
-            let path = invocation.trace.or(invocation.out).unwrap_or("");
+            let path = Shown(invocation.trace.or(invocation.out).unwrap_or(""));
             format!(in alloc; "{path}: {reason}\n")
         }
         Refused::Values(reason) => {
-            let path = invocation.values.unwrap_or("");
+            let path = Shown(invocation.values.unwrap_or(""));
             format!(in alloc; "{path}: {reason}\n")
         }
     };
@@ -239,12 +253,13 @@ fn refusal_explained(
 /// Explains which option is out of its bounds: `--workers`, which comes first, or `--limit`.
 fn bounds_explained(alloc: Global, invocation: &Invocation<'_, '_>) -> Result<Vec<u8>, Fault> {
     let line = match invocation.subcommand {
-        Subcommand::Run { workers, .. } if workers == 0 || workers > MOST_WORKERS => {
+        Subcommand::Run { workers, .. } | Subcommand::Paused { workers, .. }
+            if !has_workers(workers) => {
             format!(in alloc; "--workers: {workers} is not 1 to {MOST_WORKERS}\n")
         }
         Subcommand::Run { limit, .. }
         | Subcommand::Reference { limit }
-        | Subcommand::Paused { limit }
+        | Subcommand::Paused { limit, .. }
         | Subcommand::Timeline { limit }
         | Subcommand::Inspect { limit }
         | Subcommand::Explore { limit, .. }
@@ -260,12 +275,16 @@ fn bounds_explained(alloc: Global, invocation: &Invocation<'_, '_>) -> Result<Ve
 }
 
 /// Explains the errors in a program, the given one first.
-fn fault_explained(alloc: Global, kept: Kept<'_>, fault: &Fault) -> Result<Vec<u8>, Fault> {
-    let file = kept.file;
-    let text = match String::from_utf8(kept.text) {
-        Ok(text) => text,
-        Err(_) => String::new(alloc),
-    };
-    let explained = explanations(alloc, file, text.as_str(), fault)?;
+fn fault_explained(alloc: Global, kept: &Kept<'_>, fault: &Fault) -> Result<Vec<u8>, Fault> {
+    let text = str::from_utf8(kept.text.as_slice()).unwrap_or("");
+    let explained = explanations(alloc, kept.file.as_str(), text, fault)?;
     Ok(explained)
+}
+
+/// Whether the command runs a program, so that a second run explains how it ended.
+fn runs(invocation: &Invocation<'_, '_>) -> bool {
+    matches!(
+        invocation.subcommand,
+        Subcommand::Paused { .. } | Subcommand::Reference { .. } | Subcommand::Run { .. }
+    )
 }

@@ -1,6 +1,6 @@
 //! The exploration of a program in other orders of its events.
 
-ghost use Rattle.std.specs.Prelude.{◌≡◌, ◌⊎◌, IfErr, IfOk};
+ghost use Rattle.std.specs.Prelude.{◌≡◌, ◌⊎◌, [], IfErr, IfOk};
 ghost use Rattle.command_line.specs.declared.arguments.Subcommand.TheVariants as subcommands;
 ghost use Rattle.kendo.specs.Verdicts.{Explores, IsJudged, Judges, exploration_status, explored_status, scope_of};
 
@@ -14,7 +14,7 @@ use json_report::exploration_lines;
 use kendo_explore::{Explored, Options, Scope, Verdict, explore_bytes};
 use kendo_shell::USAGE;
 use kendo_shell::files::opened;
-use kendo_shell::tracing::{Outputs, Trace};
+use kendo_shell::tracing::{Outputs, Refused, Trace};
 use std::alloc::Global;
 use word::write_all;
 
@@ -76,7 +76,7 @@ fn explore(
     file: &str,
     bytes: Vec<u8>,
 ) -> Result<u8, Memory>
-    ensures { IfOk result (IsJudged invocation.now bytes.items) }
+    ensures { IfOk result (IsJudged invocation.now [] bytes.items) }
 {
     let reported = Reported::of(alloc, invocation, file, bytes.as_slice())?;
     let kept = kept_program(rt, alloc, invocation, file, None, bytes.as_slice());
@@ -88,9 +88,17 @@ fn explore(
         file,
     };
     let found = find(task, invocation, bytes, kept.as_ref(), &mut outputs);
-    let status = report(rt, alloc, reported.as_ref(), found, invocation.whole)?;
+    let refused = outputs.refused();
+    let status = report(
+        rt,
+        alloc,
+        reported.as_ref(),
+        found,
+        refused,
+        invocation.whole,
+    )?;
     if let Err(fault) = found {
-        explain(rt, alloc, invocation, kept, Err(fault), outputs.refused());
+        explain(rt, alloc, invocation, kept, Err(fault), refused);
     }
     Ok(status)
 }
@@ -101,13 +109,14 @@ fn report(
     alloc: Global,
     reported: Option<&Reported<'_>>,
     found: Result<Verdict, Fault>,
+    refused: Option<Refused>,
     whole: bool,
 ) -> Result<u8, Memory>
     ensures { IfOk result (λ status. status ≡ exploration_status found whole) }
 {
     match found {
         Ok(verdict) => Ok(status_of(verdict, whole)),
-        Err(fault) => told_of(rt, alloc, None, reported, &Err(fault)),
+        Err(fault) => told_of(rt, alloc, None, reported, &Err(fault), refused),
     }
 }
 

@@ -1,9 +1,10 @@
 //! Moments of runs.
 
-ghost use Rattle.std.specs.Prelude.{◌≡◌, ◌⊎◌, ◌↔◌, IfErr, IfOk, IsErrOf};
+ghost use Rattle.std.specs.Prelude.{◌≡◌, ◌⊎◌, ◌↔◌, IfErr, IfOk, IsErr, IsErrOf, true};
 ghost use Rattle.command_line.specs.declared.arguments.Subcommand.TheVariants as subcommands;
 ghost use Rattle.kendo_reading.specs.Reading.{HasNoReading, IsRefusal, IsWhy, Reads};
 ghost use Rattle.kendo_shell.specs.Answers.{Finds};
+ghost use Rattle.kendo_shell.specs.Streams.{has_refused};
 ghost use Rattle.syntax.specs.Tree.{File};
 ghost use Rattle.whole_run.specs.Runs.{IsLimit};
 
@@ -41,7 +42,8 @@ pub(crate) fn inspect(
     invocation: &Invocation<'_, '_>,
     outputs: &mut Outputs,
 ) -> Result<End, Fault>
-    ensures { Finds (subcommands.Inspect limit) bytes.items result }
+    ensures found { Finds (subcommands.Inspect limit) bytes.items result }
+    ensures write { IsErrOf result Fault.Write → has_refused outputs.new.standard ≡ true }
 {
     let seen = inspected(alloc, bytes, plan, limit, invocation)?;
     show(&seen, rest_of(&seen, invocation), outputs)?;
@@ -88,7 +90,8 @@ fn rest_of(seen: &Inspected, invocation: &Invocation<'_, '_>) -> &'static [u8] {
 
 /// Writes what is shown of a moment, and the line below it, to standard output.
 fn show(seen: &Inspected, rest: &[u8], outputs: &mut Outputs) -> Result<(), Fault>
-    ensures { IfErr result (λ fault. fault ≡ Fault.Write) }
+    ensures only { IfErr result (λ fault. fault ≡ Fault.Write) }
+    ensures write { IsErr result → has_refused outputs.new.standard ≡ true }
 {
     write(seen.text.as_slice(), outputs)?;
     write(rest, outputs)
@@ -96,7 +99,8 @@ fn show(seen: &Inspected, rest: &[u8], outputs: &mut Outputs) -> Result<(), Faul
 
 /// Writes these bytes to standard output.
 fn write(bytes: &[u8], outputs: &mut Outputs) -> Result<(), Fault>
-    ensures { IfErr result (λ fault. fault ≡ Fault.Write) }
+    ensures only { IfErr result (λ fault. fault ≡ Fault.Write) }
+    ensures write { IsErr result → has_refused outputs.new.standard ≡ true }
 {
     match write_all(&mut outputs.standard, bytes) {
         Ok(()) => Ok(()),

@@ -1,10 +1,14 @@
 //! The program: its command line, its files, and the standard streams.
 #![tactic(auto)]
 
-ghost use Rattle.std.specs.Prelude.{◌≡◌, ◌⊎◌, IfOk, length, map, None, string_bytes};
-ghost use Rattle.kendo.specs.Verdicts.{FindsPlainly, IsJudged, Judges, JudgesAll};
+ghost use Rattle.std.specs.Prelude.{◌≡◌, ◌⊎◌, IfOk, IsErrOf, length, map, None, string_bytes, true};
+ghost use Rattle.kendo.specs.Verdicts.{FindsBy, FindsPlainly, IsJudged, Judges, JudgesAll, is_test};
 ghost use Rattle.kendo_shell.specs.Answers.{Finds, IsOfAll, IsOfOne, IsStatus, Obeys};
+ghost use Rattle.kendo_shell.specs.Streams.{has_refused};
+ghost use Rattle.kendo_shell.specs.Traces.{IsLost, has_lost};
+ghost use Rattle.pauses.specs.Plans.{pauses_of};
 
+mod bounds;
 mod comparing;
 mod errors;
 mod explaining;
@@ -18,6 +22,7 @@ mod running;
 mod testing;
 mod updating;
 
+use bounds::has_workers;
 use command_line::arguments::{Invocation, Subcommand, command, invocation_of};
 use comparing::compare_file;
 use errors::{Reported, told_of};
@@ -29,7 +34,7 @@ use kendo_code::list_bytes;
 use kendo_front::{paused_bytes_noting, reference_bytes, traced_bytes_noting};
 use kendo_shell::USAGE;
 use kendo_shell::checking::check;
-use kendo_shell::files::{opened, values_file};
+use kendo_shell::files::{SourceFile, output_conflict, output_files, source_file};
 use kendo_shell::streams::{Stream, exit, tell};
 use kendo_shell::tracing::{Outputs, Trace};
 use kendo_shell::words::{first_failure, name_of, show, with_environment, words_in};
@@ -93,14 +98,18 @@ fn perform(
         return Ok(USAGE);
     }
     let invocation = &with_environment(rt, invocation);
-    if let Subcommand::Test { .. } = invocation.subcommand {
+    if is_test(invocation.subcommand) {
         return test_files(rt, threads, alloc, invocation);
     }
-    let Some(plan) = plan_of(rt, alloc, invocation)? else {
-        return Ok(USAGE);
-    };
-    let status = perform_each(rt, threads, alloc, invocation, &plan)?;
+    let status = perform_each(rt, threads, alloc, invocation)?;
     Ok(status)
+}
+
+/// Whether the command tests programs.
+fn is_test(subcommand: Subcommand) -> bool
+    ensures { result ≡ is_test subcommand }
+{
+    matches!(subcommand, Subcommand::Test { .. })
 }
 
 /// The line on standard error if two options can't be used together.
@@ -123,7 +132,7 @@ fn conflict(invocation: &Invocation<'_, '_>) -> Option<&'static [u8]> {
     match invocation.subcommand {
         Subcommand::Test { .. } => test_conflict(invocation),
         Subcommand::Inspect { .. } => moment_conflict(invocation),
-        _ => None,
+        _ => output_conflict(invocation),
     }
 }
 
@@ -141,19 +150,18 @@ fn test_conflict(invocation: &Invocation<'_, '_>) -> Option<&'static [u8]> {
     None
 }
 
-/// Like `perform`, with the plan that the command names.
+/// Like `perform`, for a command that is no test.
 fn perform_each(
     rt: &HostRuntime,
     threads: &(impl Threads + Wait + Sync),
     alloc: Global,
     invocation: &Invocation<'_, '_>,
-    plan: &GivenPlan<'_>,
 ) -> Result<u8, Memory>
     ensures { IfOk result (IsOfAll (Judges invocation.now) (length invocation.now.files.now)) }
 {
     let mut status = 0;
     for file in invocation.files {
-        let next = perform_on(rt, threads, alloc, invocation, plan, file)?;
+        let next = perform_on(rt, threads, alloc, invocation, file)?;
         status = first_failure(status, next);
     }
     Ok(status)
@@ -165,7 +173,6 @@ fn perform_on(
     threads: &(impl Threads + Wait + Sync),
     alloc: Global,
     invocation: &Invocation<'_, '_>,
-    plan: &GivenPlan<'_>,
     file: &str,
 ) -> Result<u8, Memory>
     ensures { IfOk result (IsOfOne (Judges invocation.now)) }
@@ -174,35 +181,38 @@ fn perform_on(
         return explore_file(rt, alloc, invocation, file);
     }
     match invocation.against {
-        Some(_) => compare_file(rt, threads, alloc, invocation, plan, file),
-        None => answer_file(rt, threads, alloc, invocation, plan, file),
+        Some(_) => compare_file(rt, threads, alloc, invocation, file),
+        None => answer_file(rt, threads, alloc, invocation, file),
     }
 }
 
-/// Like `perform`, for a file that is neither explored nor compared with a trace. A picture is drawn apart.
+/// Like `perform`, for a file that is neither explored nor compared with a trace. A picture is drawn apart. The file is read before any
+/// other.
 fn answer_file(
     rt: &HostRuntime,
     threads: &(impl Threads + Wait + Sync),
     alloc: Global,
     invocation: &Invocation<'_, '_>,
-    plan: &GivenPlan<'_>,
     file: &str,
 ) -> Result<u8, Memory>
     requires { invocation.now.against ≡ None }
     ensures { IfOk result (IsOfOne (Judges invocation.now)) }
 {
     if let Subcommand::Timeline { limit } = invocation.subcommand {
-        return draw_file(rt, alloc, invocation, plan, limit, file);
+        return draw_file(rt, alloc, invocation, limit, file);
     }
-    let Some((bytes, trace)) = opened(rt, alloc, invocation, file, name_of(invocation, file))?
-    else {
+    let Some(source) = source_file(rt, alloc, invocation, file, name_of(invocation, file))? else {
         return Ok(USAGE);
     };
-    let Some(values) = values_file(rt, alloc, invocation, file)? else {
+    let Some(plan) = plan_of(rt, alloc, invocation)? else {
+        return Ok(USAGE);
+    };
+    let Some((trace, values)) = output_files(rt, alloc, invocation, &source)? else {
         return Ok(USAGE);
     };
     let outputs = Outputs::new(rt, trace).with_values(values);
-    answer(rt, threads, alloc, invocation, plan, file, bytes, outputs)
+    let SourceFile { bytes, .. } = source;
+    answer(rt, threads, alloc, invocation, &plan, file, bytes, outputs)
 }
 
 /// Does with a program what the command says, and reports the outcome. If the command explains, an explanation follows: line and
@@ -219,7 +229,7 @@ fn answer(
     mut outputs: Outputs,
 ) -> Result<u8, Memory>
     requires { invocation.now.against ≡ None }
-    ensures { IfOk result (IsJudged invocation.now bytes.items) }
+    ensures { IfOk result (IsJudged invocation.now (pauses_of plan.now.plan.pauses.items) bytes.items) }
 {
     plan.compare_source(rt, alloc, file, bytes.as_slice())?;
     let reported = Reported::of(alloc, invocation, file, bytes.as_slice())?;
@@ -231,16 +241,18 @@ fn answer(
         Some(&plan.plan),
         bytes.as_slice(),
     );
-    let outcome = find(threads, alloc, invocation, plan, bytes, &mut outputs);
+    let outcome = find(rt, threads, alloc, invocation, plan, bytes, &mut outputs);
     let name = name_of(invocation, file);
-    let status = told_of(rt, alloc, name, reported.as_ref(), &outcome)?;
+    let refused = outputs.refused();
+    let status = told_of(rt, alloc, name, reported.as_ref(), &outcome, refused)?;
     plan.report_unused(rt, alloc, invocation, &outcome)?;
-    explain(rt, alloc, invocation, kept, outcome, outputs.refused());
+    explain(rt, alloc, invocation, kept, outcome, refused);
     Ok(status)
 }
 
 /// What the command finds in the program, which it checks, lists, interprets, inspects or runs.
 fn find(
+    rt: &HostRuntime,
     threads: &(impl Threads + Wait + Sync),
     alloc: Global,
     invocation: &Invocation<'_, '_>,
@@ -248,27 +260,32 @@ fn find(
     bytes: Vec<u8>,
     outputs: &mut Outputs,
 ) -> Result<End, Fault>
-    ensures { FindsPlainly invocation.now.subcommand bytes.items result }
+    ensures { FindsPlainly invocation.now.subcommand (pauses_of given.now.plan.pauses.items) bytes.items result }
 {
     let plan = &given.plan;
     match invocation.subcommand {
         Subcommand::Check => check(alloc, bytes),
         Subcommand::List => list(alloc, bytes, outputs),
         Subcommand::Reference { limit } => interpret(alloc, bytes, limit, outputs),
-        Subcommand::Paused { limit } => pause(alloc, bytes, given, limit, invocation, outputs),
+        Subcommand::Paused { workers, limit } => {
+            pause(alloc, bytes, given, workers, limit, invocation, outputs)
+        }
         Subcommand::Timeline { .. } | Subcommand::Explore { .. } | Subcommand::Test { .. } => {
             Err(Fault::Memory)
         }
         Subcommand::Inspect { limit } => inspect(alloc, bytes, plan, limit, invocation, outputs),
         Subcommand::Run { workers, limit } => {
-            run_valued(threads, alloc, bytes, workers, limit, invocation, outputs)
+            run_valued(
+                rt, threads, alloc, bytes, workers, limit, invocation, outputs,
+            )
         }
     }
 }
 
 /// Lists the code of the program on standard output.
 fn list(alloc: Global, bytes: Vec<u8>, outputs: &mut Outputs) -> Result<End, Fault>
-    ensures { Finds Subcommand.List bytes.items result }
+    ensures found { Finds Subcommand.List bytes.items result }
+    ensures write { IsErrOf result Fault.Write → has_refused outputs.new.standard ≡ true }
 {
     list_bytes(alloc, bytes, &mut outputs.standard)?;
     Ok(End::Finished)
@@ -276,15 +293,35 @@ fn list(alloc: Global, bytes: Vec<u8>, outputs: &mut Outputs) -> Result<End, Fau
 
 /// Interprets the source of the program, which prints to standard output.
 fn interpret(alloc: Global, bytes: Vec<u8>, limit: u64, outputs: &mut Outputs) -> Result<End, Fault>
-    ensures { Finds (Subcommand.Reference limit) bytes.items result }
+    ensures found { Finds (Subcommand.Reference limit) bytes.items result }
+    ensures write { IsErrOf result Fault.Write → has_refused outputs.new.standard ≡ true }
 {
     let end = reference_bytes(alloc, bytes, limit, &mut outputs.standard)?;
     Ok(end)
 }
 
-/// Interprets the source of the program by the plan. It prints to standard output, and its trace goes to its file, if it has one. If the
-/// command names a file for the values, they are written after the run.
+/// Interprets the source of the program by the plan, whatever the number of workers is, but a wrong one. It prints to standard output, and
+/// its trace goes to its file, if it has one.
 fn pause(
+    alloc: Global,
+    bytes: Vec<u8>,
+    plan: &GivenPlan<'_>,
+    workers: u64,
+    limit: u64,
+    invocation: &Invocation<'_, '_>,
+    outputs: &mut Outputs,
+) -> Result<End, Fault>
+    ensures found { FindsBy (Subcommand.Paused workers limit) (pauses_of plan.now.plan.pauses.items) bytes.items result }
+    ensures write { IsErrOf result Fault.Write → IsLost outputs.new }
+{
+    if !has_workers(workers) {
+        return Err(Fault::BadWorkers);
+    }
+    pause_valued(alloc, bytes, plan, limit, invocation, outputs)
+}
+
+/// Like `pause`, on one thread. If the command names a file for the values, they are written after the run.
+fn pause_valued(
     alloc: Global,
     bytes: Vec<u8>,
     plan: &GivenPlan<'_>,
@@ -292,7 +329,8 @@ fn pause(
     invocation: &Invocation<'_, '_>,
     outputs: &mut Outputs,
 ) -> Result<End, Fault>
-    ensures { Finds (Subcommand.Paused limit) bytes.items result }
+    ensures found { FindsBy (Subcommand.Paused 1 limit) (pauses_of plan.now.plan.pauses.items) bytes.items result }
+    ensures write { IsErrOf result Fault.Write → IsLost outputs.new }
 {
     if invocation.values.is_none() {
         return pause_plainly(alloc, bytes, plan, limit, outputs);
@@ -303,7 +341,7 @@ fn pause(
     Ok(end)
 }
 
-/// Like `pause`, without values.
+/// Like `pause_valued`, without values.
 fn pause_plainly(
     alloc: Global,
     bytes: Vec<u8>,
@@ -311,7 +349,8 @@ fn pause_plainly(
     limit: u64,
     outputs: &mut Outputs,
 ) -> Result<End, Fault>
-    ensures { Finds (Subcommand.Paused limit) bytes.items result }
+    ensures found { FindsBy (Subcommand.Paused 1 limit) (pauses_of plan.now.plan.pauses.items) bytes.items result }
+    ensures write { IsErrOf result Fault.Write → (has_refused outputs.new.standard ≡ true) ⊎ (has_lost outputs.new.file ≡ true) }
 {
     if let Trace::Kept(trace) = &mut outputs.file {
         return pause_traced(alloc, bytes, plan, limit, &mut outputs.standard, trace);
@@ -330,7 +369,8 @@ fn pause_traced(
     standard: &mut Stream<Stdout>,
     trace: &mut Stream<File>,
 ) -> Result<End, Fault>
-    ensures { Finds (Subcommand.Paused limit) bytes.items result }
+    ensures found { FindsBy (Subcommand.Paused 1 limit) (pauses_of plan.now.plan.pauses.items) bytes.items result }
+    ensures write { IsErrOf result Fault.Write → (has_refused standard.new ≡ true) ⊎ (has_refused trace.new ≡ true) }
 {
     let end = traced_bytes_noting(alloc, bytes, &plan.plan, &plan.uses, limit, standard, trace)?;
     Ok(end)

@@ -1,22 +1,24 @@
 //! Pictures of runs.
 
-ghost use Rattle.std.specs.Prelude.{◌≡◌, ◌⊎◌, ◌↔◌, IfErr, IfOk, IfSome, IsErrOf, None};
+ghost use Rattle.std.specs.Prelude.{◌≡◌, ◌⊎◌, ◌↔◌, IfErr, IfOk, IfSome, IsErr, IsErrOf, None, true};
 ghost use Rattle.command_line.specs.declared.arguments.Subcommand.TheVariants as subcommands;
 ghost use Rattle.kendo.specs.Verdicts.{Judges};
 ghost use Rattle.kendo_reading.specs.Reading.{HasNoReading, IsRefusal, IsWhy, Reads};
 ghost use Rattle.kendo_shell.specs.Answers.{Finds, IsOfOne};
+ghost use Rattle.kendo_shell.specs.Streams.{has_refused};
+ghost use Rattle.kendo_shell.specs.Traces.{has_lost};
 ghost use Rattle.syntax.specs.Tree.{File};
 ghost use Rattle.whole_run.specs.Runs.{IsLimit};
 
 use crate::explaining::{explain, kept_program};
 use crate::exploring::Task;
-use crate::plans::GivenPlan;
+use crate::plans::plan_of;
 use command_line::arguments::Invocation;
 use go_text::{Fault, Memory};
 use kendo_code::timeline_window;
 use kendo_shell::USAGE;
 use kendo_shell::files::{SourceFile, output_file, source_file};
-use kendo_shell::streams::{tell, told};
+use kendo_shell::streams::{tell, told_of_refusal};
 use kendo_shell::tracing::{Outputs, Trace};
 use paused_timeline::timeline_paused;
 use pauses::Plan;
@@ -26,12 +28,11 @@ use word::end::End;
 use word::{Write, write_all};
 
 /// Writes a picture of the run of the program of a file, by the plan if one is named, to the file that the command names, or to standard
-/// output if it names none. A picture of no events, since the run has fewer, is refused.
+/// output if it names none, or `-`. A picture of no events, since the run has fewer, is refused. The source file is read before the plan.
 pub(crate) fn draw_file(
     rt: &HostRuntime,
     alloc: Global,
     invocation: &Invocation<'_, '_>,
-    plan: &GivenPlan<'_>,
     limit: u64,
     file: &str,
 ) -> Result<u8, Memory>
@@ -40,6 +41,9 @@ pub(crate) fn draw_file(
     ensures { IfOk result (IsOfOne (Judges invocation.now)) }
 {
     let Some(source) = source_file(rt, alloc, invocation, file, None)? else {
+        return Ok(USAGE);
+    };
+    let Some(plan) = plan_of(rt, alloc, invocation)? else {
         return Ok(USAGE);
     };
     plan.compare_source(rt, alloc, file, source.bytes.as_slice())?;
@@ -61,9 +65,10 @@ pub(crate) fn draw_file(
     let Some(outcome) = draw(task, &source, &plan.plan, limit, &mut outputs)? else {
         return Ok(USAGE);
     };
-    let status = told(rt, alloc, None, &outcome)?;
+    let refused = outputs.refused();
+    let status = told_of_refusal(rt, alloc, None, &outcome, refused)?;
     plan.report_unused(rt, alloc, invocation, &outcome)?;
-    explain(rt, alloc, invocation, kept, outcome, outputs.refused());
+    explain(rt, alloc, invocation, kept, outcome, refused);
     Ok(status)
 }
 
@@ -76,7 +81,8 @@ fn draw(
     limit: u64,
     outputs: &mut Outputs,
 ) -> Result<Option<Result<End, Fault>>, Memory>
-    ensures { IfOk result (λ drawn. IfSome drawn (Finds (subcommands.Timeline limit) source.now.bytes.items)) }
+    ensures found { IfOk result (λ drawn. IfSome drawn (Finds (subcommands.Timeline limit) source.now.bytes.items)) }
+    ensures write { IfOk result (λ drawn. IfSome drawn (λ outcome. IsErrOf outcome Fault.Write → (has_refused outputs.new.standard ≡ true) ⊎ (has_lost outputs.new.file ≡ true))) }
 {
     let Task {
         rt,
@@ -94,7 +100,7 @@ fn draw(
         tell(rt, line.as_bytes());
         return Ok(None);
     }
-    let Some(file) = output_file(rt, alloc, invocation, source, None)? else {
+    let Some(file) = picture_file(rt, alloc, invocation, source)? else {
         return Ok(None);
     };
     outputs.file = file;
@@ -102,6 +108,19 @@ fn draw(
         Ok(()) => Ok(Some(Ok(End::Finished))),
         Err(fault) => Ok(Some(Err(fault))),
     }
+}
+
+/// The file that the picture goes to, if that is not standard output. `None` if it can't be used: standard error says why.
+fn picture_file(
+    rt: &HostRuntime,
+    alloc: Global,
+    invocation: &Invocation<'_, '_>,
+    source: &SourceFile,
+) -> Result<Option<Trace>, Memory> {
+    if invocation.out == Some("-") {
+        return Ok(Some(Trace::Dropped));
+    }
+    output_file(rt, alloc, invocation, source, None)
 }
 
 /// The line on standard error if the picture would show no events, since the run has fewer than the command names.
@@ -160,7 +179,8 @@ fn show(
     format: Format,
     outputs: &mut Outputs,
 ) -> Result<(), Fault>
-    ensures { IfErr result (λ fault. (fault ≡ Fault.Memory) ⊎ (fault ≡ Fault.Write)) }
+    ensures only { IfErr result (λ fault. (fault ≡ Fault.Memory) ⊎ (fault ≡ Fault.Write)) }
+    ensures write { IsErrOf result Fault.Write → (has_refused outputs.new.standard ≡ true) ⊎ (has_lost outputs.new.file ≡ true) }
 {
     let text = format.picture(alloc, recording)?;
     match &mut outputs.file {
@@ -171,7 +191,8 @@ fn show(
 
 /// Writes a text.
 fn put<W: Write>(out: &mut W, text: &str) -> Result<(), Fault>
-    ensures { IfErr result (λ fault. fault ≡ Fault.Write) }
+    ensures only { IfErr result (λ fault. fault ≡ Fault.Write) }
+    ensures write { IsErr result → W.has_failed out.new ≡ true }
 {
     match write_all(out, text.as_bytes()) {
         Ok(()) => Ok(()),

@@ -4,6 +4,8 @@ ghost use Rattle.std.specs.Prelude.{◌≡◌, ◌⊎◌, IfErr};
 
 use go_text::source::MAX_LENGTH;
 use go_text::{Fault, Memory};
+use kendo_shell::files::is_standard;
+use kendo_shell::names::Shown;
 use kendo_shell::reason::Reason;
 use kendo_shell::streams::tell;
 use pauses::{Plan, PlanError, PlanHeader};
@@ -19,7 +21,7 @@ const TRIES: u64 = 1_000;
 /// Writes the plan that `bytes` are, and of which `header` is the header, to a file in `folder`, or in the current folder. Returns the
 /// name of the file, without the folder: `STEM.NUMBER.pauses`, or the first of `STEM-2.NUMBER.pauses`, `STEM-3.NUMBER.pauses` and so
 /// on that is free. A name is free if there is no such file, or if the file is a plan for the program of the same path as in
-/// `header`. All else of that name stays as it is, and so does what a link leads to.
+/// `header`, and standard output and standard error go elsewhere. All else of that name stays as it is, and so does what a link leads to.
 ///
 /// Errors: `Memory`; `Write` if the folder or the file refuses bytes, or if none of 1,000 names is free.
 pub(crate) fn write_plan_file(
@@ -147,11 +149,11 @@ fn own_file(
     }
 }
 
-/// The file at the path, if it is a regular one and no link, for reading and writing. What was opened is what was looked at, so a
+/// The file at the path, if it is a regular one and no link, and no standard stream goes there, for reading and writing. What was opened is what was looked at, so a
 /// link that took its place in between isn't followed.
 fn regular_file(rt: &HostRuntime, path: &str) -> io::Result<Option<File>> {
     let seen = fs::symlink_metadata(rt, path)?;
-    if !seen.is_file() {
+    if !seen.is_file() || is_standard(rt, &seen) {
         return Ok(None);
     }
     let file = File::options().read(true).write(true).open(rt, path)?;
@@ -199,6 +201,7 @@ pub(crate) fn check_folder(
     if reason == Reason::OutOfMemory {
         return Err(Memory);
     }
+    let folder = Shown(folder);
     let line = format!(in alloc; "kendo: cannot create {folder}\n")?;
     tell(rt, line.as_bytes());
     if explains {

@@ -1,8 +1,10 @@
 //! The plan of pauses by which a program is run.
 
+use crate::bounds::is_in_bounds;
 use command_line::arguments::{Invocation, Subcommand};
 use go_text::{Fault, Memory};
 use kendo_shell::files::other_bytes;
+use kendo_shell::names::Shown;
 use kendo_shell::streams::tell;
 use paused_goroutine::PauseUses;
 use pauses::{Plan, PlanError, PlanHeader};
@@ -29,8 +31,8 @@ struct GivenFile<'a> {
     lines: Vec<u64>,
 }
 
-/// The plan in the file that the command names, or one without pauses if it names none. `None` if the file can't be used: standard
-/// error says so, and, if the command explains, why.
+/// The plan in the file that the command names; one without pauses if it names none, or is out of its bounds, since nothing runs then. `None`
+/// if the file can't be used: standard error says so, and, if the command explains, why.
 ///
 /// Errors: `Memory`.
 pub(crate) fn plan_of<'a>(
@@ -38,7 +40,10 @@ pub(crate) fn plan_of<'a>(
     alloc: Global,
     invocation: &Invocation<'_, 'a>,
 ) -> Result<Option<GivenPlan<'a>>, Memory> {
-    let Some(path) = invocation.pauses else {
+    let path = invocation
+        .pauses
+        .filter(|_| is_in_bounds(invocation.subcommand));
+    let Some(path) = path else {
         let pauses = Vec::new(alloc);
         return Ok(Some(GivenPlan::new(alloc, Plan { pauses }, None)?));
     };
@@ -119,10 +124,12 @@ impl<'a> GivenPlan<'a> {
         if header.checksum.is_of(source) {
             return Ok(());
         }
-        let path = given.path;
+        let path = Shown(given.path);
         let line = if header.path.as_slice() == file.as_bytes() {
+            let file = Shown(file);
             format!(in alloc; "kendo: {path} was made for another version of {file}\n")?
         } else {
+            let file = Shown(file);
             let other = shown_path(alloc, header.path.as_slice())?;
             format!(in alloc; "kendo: {path} was made for {other}, not {file}\n")?
         };
@@ -149,7 +156,7 @@ impl<'a> GivenPlan<'a> {
         if outcome.is_err() {
             return Ok(());
         }
-        let path = given.path;
+        let path = Shown(given.path);
         let mut index = 0usize;
         for pause in &self.plan.pauses {
             if let Some(why) = self.uses.why_unused(alloc, index, pause)? {
@@ -183,6 +190,7 @@ fn refuse(
     line: u64,
     explains: bool,
 ) -> Result<(), Memory> {
+    let path = Shown(path);
     let told = format!(in alloc; "kendo: broken plan at {path}:{line}\n")?;
     tell(rt, told.as_bytes());
     if explains {

@@ -7,6 +7,7 @@ use command_line::arguments::Invocation;
 use go_text::{Fault, Memory};
 use kendo_explore::{Extent, PlanFile, Progress};
 use kendo_report::report;
+use kendo_shell::names::Shown;
 use kendo_shell::streams::tell;
 use pauses::PlanHeader;
 use std::alloc::Global;
@@ -101,7 +102,7 @@ impl<'r> Follower<'r> {
             waiting,
             walks,
         } = extent;
-        let (file, seconds) = (self.file, elapsed / 1_000);
+        let (file, seconds) = (Shown(self.file), elapsed / 1_000);
         let line = format!(in self.alloc;
             "\r{file}: {states} states, {waiting} waiting, {walks} walks, {seconds} s\x1b[K"
         );
@@ -121,7 +122,7 @@ impl<'r> Follower<'r> {
         let (line, _status) = report(self.alloc, &Ok(plan.end))?;
         let end = line.as_slice().strip_prefix(b"kendo: ".as_slice());
         let end = end.and_then(|end| str::from_utf8(end.trim_ascii_end()).ok());
-        let (file, end) = (self.file, end.unwrap_or("error"));
+        let (file, end, name) = (Shown(self.file), end.unwrap_or("error"), Shown(name));
         let line = format!(in self.alloc; "{file}: found a {end}: {name}\n")?;
         tell(self.rt, line.as_bytes());
         Ok(())

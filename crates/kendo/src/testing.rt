@@ -1,10 +1,11 @@
 //! The tests of programs whose comments say what they print, or how they end.
 
-ghost use Rattle.std.specs.Prelude.{◌≡◌, ◌⊎◌, IfErr, IfOk};
+ghost use Rattle.std.specs.Prelude.{◌≡◌, ◌⊎◌, [], IfErr, IfOk};
 ghost use Rattle.command_line.specs.declared.arguments.Subcommand.TheVariants as subcommands;
 ghost use Rattle.kendo.specs.Verdicts.{IsJudged, Judges, JudgesAll, Tests, passes, test_status, tested_status};
 ghost use Rattle.kendo_shell.specs.Answers.{IsOfOne};
 
+use crate::bounds::has_limit;
 use crate::explaining::{explain, kept_program};
 use crate::exploring::{Task, has_folder, write};
 use crate::progress::Follower;
@@ -13,8 +14,9 @@ use command_line::arguments::{Invocation, Subcommand};
 use go_text::{Fault, Memory};
 use json_report::{Record, SearchRecord};
 use kendo_shell::files::opened;
-use kendo_shell::streams::{tell, told};
-use kendo_shell::tracing::{Outputs, Trace};
+use kendo_shell::names::{Shown, shown_name};
+use kendo_shell::streams::{tell, told, told_of_refusal};
+use kendo_shell::tracing::{Outputs, Refused, Trace};
 use kendo_shell::words::first_failure;
 use kendo_shell::{USAGE, WRITE};
 use kendo_test::{OrderSearch, TestOptions, Tested, Verdict, test_bytes};
@@ -84,7 +86,7 @@ pub(crate) fn test_files(
     let Subcommand::Test { limit, .. } = invocation.subcommand else {
         return Ok(USAGE);
     };
-    if limit < 1 || limit > 1 << 62 {
+    if !has_limit(limit) {
         return bad_limit(rt, alloc);
     }
     if !has_folder(rt, alloc, invocation)? {
@@ -109,6 +111,7 @@ pub(crate) fn test_files(
 /// Reports the folders that have no tests.
 fn report_without(rt: &HostRuntime, alloc: Global, folders: &[&str]) -> Result<(), Memory> {
     for folder in folders {
+        let folder = Shown(folder);
         let line = format!(in alloc; "kendo: no tests in {folder}\n")?;
         tell(rt, line.as_bytes());
     }
@@ -136,7 +139,7 @@ fn write_counts(
     let mut outputs = Outputs::new(rt, Trace::Dropped);
     match write_all(&mut outputs.standard, line.as_slice()) {
         Ok(()) => Ok(status),
-        Err(_) => told(rt, alloc, None, &Err(Fault::Write)),
+        Err(_) => told_of_refusal(rt, alloc, None, &Err(Fault::Write), outputs.refused()),
     }
 }
 
@@ -189,11 +192,11 @@ fn test_program(
     invocation: &Invocation<'_, '_>,
     bytes: Vec<u8>,
 ) -> Result<u8, Memory>
-    ensures { IfOk result (IsJudged invocation.now bytes.items) }
+    ensures { IfOk result (IsJudged invocation.now [] bytes.items) }
 {
     let mut outputs = Outputs::new(task.rt, Trace::Dropped);
     let found = find(task, threads, invocation, bytes, &mut outputs);
-    report(task.rt, task.alloc, found)
+    report(task.rt, task.alloc, found, outputs.refused())
 }
 
 /// Reports on standard error why a program was not tested. Returns the exit status of the test.
@@ -201,12 +204,13 @@ pub(crate) fn report(
     rt: &HostRuntime,
     alloc: Global,
     found: Result<bool, Fault>,
+    refused: Option<Refused>,
 ) -> Result<u8, Memory>
     ensures { IfOk result (λ status. status ≡ test_status found) }
 {
     match found {
         Ok(passes) => Ok(status_of(passes)),
-        Err(fault) => told(rt, alloc, None, &Err(fault)),
+        Err(fault) => told_of_refusal(rt, alloc, None, &Err(fault), refused),
     }
 }
 
@@ -317,7 +321,7 @@ pub(crate) fn report_of(
         return record_of(alloc, file, tested, took)?.line(alloc);
     }
     let took = took.filter(|_| rt.stdout().is_terminal());
-    tested.report(alloc, file, took)
+    tested.report(alloc, shown_name(alloc, file)?.as_str(), took)
 }
 
 /// The object of a test that took this long.

@@ -9,6 +9,7 @@ use crate::testing::{is_passed, report, report_of};
 use command_line::arguments::{Invocation, Subcommand};
 use go_text::{Fault, Memory};
 use kendo_shell::USAGE;
+use kendo_shell::names::Shown;
 use kendo_shell::streams::tell;
 use kendo_shell::tracing::{Outputs, Trace};
 use kendo_test::{TestOptions, Tested, Updated, update_bytes};
@@ -53,11 +54,8 @@ pub(crate) fn update_program(
     let took = start.and_then(|start| start.elapsed(task.rt).ok());
     let lines = report_of(task, &updated.tested, took)?;
     let mut outputs = Outputs::new(task.rt, Trace::Dropped);
-    report(
-        task.rt,
-        task.alloc,
-        written(&updated.tested, lines.as_slice(), &mut outputs),
-    )
+    let passed = written(&updated.tested, lines.as_slice(), &mut outputs);
+    report(task.rt, task.alloc, passed, outputs.refused())
 }
 
 /// Whether the program passes, once the lines that say so are written.
@@ -85,6 +83,7 @@ fn is_written(task: Task<'_, '_, '_>, updated: &Updated) -> Result<bool, Memory>
         Ok(()) => Ok(true),
         Err(error) if error.kind() == ErrorKind::OutOfMemory => Err(Memory),
         Err(_) => {
+            let file = Shown(file);
             let line = format!(in alloc; "kendo: cannot rewrite {file}\n")?;
             tell(rt, line.as_bytes());
             Ok(false)

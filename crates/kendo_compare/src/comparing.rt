@@ -1,10 +1,15 @@
 //! Runs whose traces are kept.
 
-ghost use Rattle.std.specs.Prelude.{◌≡◌, IfErr, IfOk};
+ghost use Rattle.std.specs.Prelude.{◌≡◌, ◌⊎◌, IfErr, IfOk};
 ghost use Rattle.command_line.specs.declared.arguments.Subcommand.TheVariants as subcommands;
 ghost use Rattle.kendo_compare.specs.Traces.{IsTraced, IsTracedBy};
+ghost use Rattle.kendo_reading.specs.Reading.{Reads};
 ghost use Rattle.kendo_shell.specs.Answers.{Finds};
+ghost use Rattle.meaning.specs.Source.{source_kind};
+ghost use Rattle.pauses.specs.Paused.{paused};
 ghost use Rattle.pauses.specs.Plans.{pauses_of};
+ghost use Rattle.syntax.specs.Tree.{File};
+ghost use Rattle.whole_run.specs.Runs.{BeginsOutput, IsWhole};
 
 use go_text::Fault;
 use kendo_base::{Open, run_bytes};
@@ -29,6 +34,9 @@ pub fn run_with_trace<R: Threads + Wait + Sync, O: Write>(
     trace: &mut Vec<u8>,
 ) -> Result<End, Fault>
     ensures found { Finds (subcommands.Run workers limit) bytes.items result }
+    ensures begins { (O.contents out.new ≡ O.contents out.old) ⊎ ((file : File) × Reads bytes.items file × BeginsOutput (source_kind file) limit (O.contents out.old) (O.contents out.new)) }
+    ensures nothing { IfErr result (λ fault. (fault ≡ Fault.Memory → ⊥) → (fault ≡ Fault.Write → ⊥) → O.contents out.new ≡ O.contents out.old) }
+    ensures whole { IfOk result (λ end. (file : File) × Reads bytes.items file × IsWhole (source_kind file) limit (O.contents out.old) (O.contents out.new) end) }
     ensures traced { IfOk result (IsTraced bytes.items limit trace.new.items) }
     ensures kept { IfErr result (λ _. trace.new ≡ trace.old) }
 {
@@ -49,7 +57,10 @@ pub fn run_paused_with_trace<O: Write>(
     out: &mut O,
     trace: &mut Vec<u8>,
 ) -> Result<End, Fault>
-    ensures found { Finds (subcommands.Paused limit) bytes.items result }
+    ensures found { Finds (subcommands.Paused 1 limit) bytes.items result }
+    ensures begins { (O.contents out.new ≡ O.contents out.old) ⊎ ((file : File) × Reads bytes.items file × BeginsOutput (paused (source_kind file) (pauses_of plan.now.pauses.items)) limit (O.contents out.old) (O.contents out.new)) }
+    ensures nothing { IfErr result (λ fault. (fault ≡ Fault.Memory → ⊥) → (fault ≡ Fault.Write → ⊥) → O.contents out.new ≡ O.contents out.old) }
+    ensures whole { IfOk result (λ end. (file : File) × Reads bytes.items file × IsWhole (paused (source_kind file) (pauses_of plan.now.pauses.items)) limit (O.contents out.old) (O.contents out.new) end) }
     ensures traced { IfOk result (IsTracedBy (pauses_of plan.now.pauses.items) bytes.items limit trace.new.items) }
     ensures kept { IfErr result (λ _. trace.new ≡ trace.old) }
 {

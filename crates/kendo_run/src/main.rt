@@ -13,8 +13,9 @@ use go_text::{Fault, Memory};
 use kendo_base::run_text;
 use kendo_shell::USAGE;
 use kendo_shell::checking::check;
-use kendo_shell::files::opened;
-use kendo_shell::streams::{exit, tell, told};
+use kendo_shell::files::{opened, output_conflict};
+use kendo_shell::notice::Notice;
+use kendo_shell::streams::{exit, tell, told_of_refusal};
 use kendo_shell::tracing::{Outputs, Trace};
 use kendo_shell::words::{first_failure, name_of, show, with_variable, words_in};
 use std::alloc::Global;
@@ -61,6 +62,22 @@ fn obey(
 /// Checks or runs the files, and reports each outcome. The status is that of the first file whose status is not 0. No file is read
 /// of what this program doesn't do.
 fn perform(
+    rt: &HostRuntime,
+    threads: &(impl Threads + Wait + Sync),
+    alloc: Global,
+    invocation: &Invocation<'_, '_>,
+) -> Result<u8, Memory>
+    ensures { IfOk result (λ status. (status ≡ USAGE) ⊎ ReportsAll invocation.now status) }
+{
+    if let Some(line) = output_conflict(invocation) {
+        tell(rt, line);
+        return Ok(USAGE);
+    }
+    perform_task(rt, threads, alloc, invocation)
+}
+
+/// Like `perform`, for options that go together.
+fn perform_task(
     rt: &HostRuntime,
     threads: &(impl Threads + Wait + Sync),
     alloc: Global,
@@ -129,12 +146,13 @@ fn answer(
     ensures { IfOk result (IsReported (subcommand_of task) bytes.items) }
 {
     let mut outputs = Outputs::new(rt, trace);
-    let outcome = find(threads, alloc, task, bytes, &mut outputs);
-    told(rt, alloc, name, &outcome)
+    let outcome = find(rt, threads, alloc, task, bytes, &mut outputs);
+    told_of_refusal(rt, alloc, name, &outcome, outputs.refused())
 }
 
 /// What is found in the program, which is checked or run.
 fn find(
+    rt: &HostRuntime,
     threads: &(impl Threads + Wait + Sync),
     alloc: Global,
     task: Task,
@@ -145,6 +163,9 @@ fn find(
 {
     match task {
         Task::Check => check(alloc, bytes),
-        Task::Run { workers, limit } => run_text(threads, alloc, bytes, workers, limit, outputs),
+        Task::Run { workers, limit } => {
+            let notice = Notice::new(rt, alloc, limit);
+            run_text(threads, alloc, bytes, workers, limit, &notice, outputs)
+        }
     }
 }

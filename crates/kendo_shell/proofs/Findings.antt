@@ -117,18 +117,46 @@ reference_stops limit text fault bad (inr (inr (inl is))) refused why read =
 reference_stops limit text fault bad (inr (inr (inr is))) refused why read =
     subst (IsReason (subcommands.Reference limit) text) (sym is) (bad.0 (ap (λ (f : Fault). Err f) is))
 
-pub paused_loses : (limit : ℕ) (text : List ℕ) (fault : Fault) → fault ≡ faults.Write → IsLimit limit → HasReading text → IsReason (subcommands.Paused limit) text fault
-paused_loses limit text fault is bounds read = subst (IsReason (subcommands.Paused limit) text) (sym is) (bounds, read)
+-- one thread is a number of workers
+one_thread : IsWorkers 1
+one_thread = (omega arith, omega arith)
+
+pub paused_loses : (limit : ℕ) (text : List ℕ) (fault : Fault) → fault ≡ faults.Write → IsLimit limit → HasReading text → IsReason (subcommands.Paused 1 limit) text fault
+paused_loses limit text fault is bounds read = subst (IsReason (subcommands.Paused 1 limit) text) (sym is) ((one_thread, bounds), read)
 
 pub paused_stops : (limit : ℕ) (text : List ℕ) (fault : Fault) → IsErrOf {T = End} (Err fault) faults.BadLimit ↔ (IsLimit limit → ⊥)
     → IsRefusal fault ⊎ ((fault ≡ faults.Memory) ⊎ ((fault ≡ faults.Write) ⊎ (fault ≡ faults.BadLimit))) → (IsRefusal fault → HasNoReading text)
-    → (IsRefusal fault → IsWhy text fault) → (IsErrOf {T = End} (Err fault) faults.Write → HasReading text) → IsReason (subcommands.Paused limit) text fault
-paused_stops limit text fault bad (inl is) refused why read = unreadable (subcommands.Paused limit) text fault (limit_before limit fault bad (inl is)) is (refused is) (why is)
-paused_stops limit text fault bad (inr (inl is)) refused why read = no_memory (subcommands.Paused limit) text fault is
+    → (IsRefusal fault → IsWhy text fault) → (IsErrOf {T = End} (Err fault) faults.Write → HasReading text) → IsReason (subcommands.Paused 1 limit) text fault
+paused_stops limit text fault bad (inl is) refused why read =
+    unreadable (subcommands.Paused 1 limit) text fault (one_thread, limit_before limit fault bad (inl is)) is (refused is) (why is)
+paused_stops limit text fault bad (inr (inl is)) refused why read = no_memory (subcommands.Paused 1 limit) text fault is
 paused_stops limit text fault bad (inr (inr (inl is))) refused why read =
     paused_loses limit text fault is (limit_before limit fault bad (inr is)) (read (ap (λ (f : Fault). Err f) is))
 paused_stops limit text fault bad (inr (inr (inr is))) refused why read =
-    subst (IsReason (subcommands.Paused limit) text) (sym is) (bad.0 (ap (λ (f : Fault). Err f) is))
+    subst (IsReason (subcommands.Paused 1 limit) text) (sym is) (one_thread, bad.0 (ap (λ (f : Fault). Err f) is))
+
+-- what ended a run by a plan on one thread
+pub paused_ended : {T : Type 0} (limit : ℕ) (made : T) → IsErrOf {T = T} (Ok made) faults.BadLimit ↔ (IsLimit limit → ⊥) → IsWorkers 1 × IsLimit limit
+paused_ended limit made bad = (one_thread, limit_ended limit made bad)
+
+-- why a run by a plan does not end on one thread is why it does not with other workers
+pub more_reason : (workers limit : ℕ) (text : List ℕ) (fault : Fault) → IsWorkers workers → IsReason (subcommands.Paused 1 limit) text fault → IsReason (subcommands.Paused workers limit) text fault
+more_reason workers limit text faults.TooLong many why = ((many, why.0.1), why.1, why.2)
+more_reason workers limit text faults.NotUtf8 many why = ((many, why.0.1), why.1, why.2)
+more_reason workers limit text (faults.BadCharacter place) many why = ((many, why.0.1), why.1, why.2)
+more_reason workers limit text (faults.BadNumber place) many why = ((many, why.0.1), why.1, why.2)
+more_reason workers limit text (faults.OpenString place) many why = ((many, why.0.1), why.1, why.2)
+more_reason workers limit text (faults.OpenComment place) many why = ((many, why.0.1), why.1, why.2)
+more_reason workers limit text (faults.Syntax place) many why = ((many, why.0.1), why.1, why.2)
+more_reason workers limit text (faults.TooDeep place) many why = ((many, why.0.1), why.1, why.2)
+more_reason workers limit text (faults.Typing rule at place) many why = ((many, why.0.1), why.1, why.2)
+more_reason workers limit text (faults.Limit kind at place) many why = ((many, why.0.1), why.1, why.2)
+more_reason workers limit text (faults.Unverified rule function at) many why = why
+more_reason workers limit text faults.NotYours many why = why
+more_reason workers limit text faults.BadWorkers many why = absurd (why one_thread)
+more_reason workers limit text faults.BadLimit many why = (many, why.1)
+more_reason workers limit text faults.Memory many why = tt
+more_reason workers limit text faults.Write many why = ((many, why.0.1), why.1)
 
 timeline_loses : (limit : ℕ) (text : List ℕ) (fault : Fault) → fault ≡ faults.Write → IsLimit limit → HasReading text → IsReason (subcommands.Timeline limit) text fault
 timeline_loses limit text fault is bounds read = subst (IsReason (subcommands.Timeline limit) text) (sym is) (bounds, read)
@@ -247,8 +275,8 @@ verdict_is subcommands.List outcome status is = absurd is
 verdict_is (subcommands.Reference limit) outcome status is = absurd is
 verdict_is (subcommands.Timeline limit) outcome status is = absurd is
 verdict_is (subcommands.Inspect limit) outcome status is = absurd is
-verdict_is (subcommands.Paused limit) (Ok end) status is = inr (inr (inl is))
-verdict_is (subcommands.Paused limit) (Err fault) status is = absurd is
+verdict_is (subcommands.Paused workers limit) (Ok end) status is = inr (inr (inl is))
+verdict_is (subcommands.Paused workers limit) (Err fault) status is = absurd is
 verdict_is (subcommands.Run workers limit) (Ok end) status is = inr (inr (inl is))
 verdict_is (subcommands.Run workers limit) (Err fault) status is = absurd is
 

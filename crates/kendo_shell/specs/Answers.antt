@@ -31,9 +31,9 @@ HasReading text = (file : File) × Reads text file
 abbrev pub EndsAs : List ℕ → ℕ → End → Type 0
 EndsAs text limit end = (file : File) × (n : ℕ) × Reads text file × (end_of (moment (source_kind file) limit n) ≡ Some end)
 
--- that of goroutines that keep to a plan does
-abbrev pub EndsPaused : List ℕ → ℕ → End → Type 0
-EndsPaused text limit end = (ps : List Pause) × (file : File) × (n : ℕ) × Reads text file × (end_of (moment (paused (source_kind file) ps) limit n) ≡ Some end)
+-- that of goroutines that keep to these pauses does
+abbrev pub EndsPaused : List ℕ → List Pause → ℕ → End → Type 0
+EndsPaused text pauses limit end = (file : File) × (n : ℕ) × Reads text file × (end_of (moment (paused (source_kind file) pauses) limit n) ≡ Some end)
 
 -- the command's workers and its limit are within their bounds
 abbrev pub IsInBounds : Subcommand → Type 0
@@ -43,7 +43,7 @@ IsInBounds (subcommands.Timeline limit) = IsLimit limit
 IsInBounds (subcommands.Explore limit tries states) = IsLimit limit
 IsInBounds (subcommands.Test limit tries states) = IsLimit limit
 IsInBounds (subcommands.Inspect limit) = IsLimit limit
-IsInBounds (subcommands.Paused limit) = IsLimit limit
+IsInBounds (subcommands.Paused workers limit) = IsWorkers workers × IsLimit limit
 IsInBounds subcommand = Unit {0}
 
 -- Why the command finds no end: out of memory; workers or a limit out of their bounds, the workers first; else a writer that
@@ -52,6 +52,7 @@ IsInBounds subcommand = Unit {0}
 abbrev pub IsReason : Subcommand → List ℕ → Fault → Type 0
 IsReason subcommand text faults.Memory = Unit {0}
 IsReason (subcommands.Run workers limit) text faults.BadWorkers = IsWorkers workers → ⊥
+IsReason (subcommands.Paused workers limit) text faults.BadWorkers = IsWorkers workers → ⊥
 IsReason subcommand text faults.BadWorkers = ⊥
 IsReason (subcommands.Run workers limit) text faults.BadLimit = IsWorkers workers × (IsLimit limit → ⊥)
 IsReason (subcommands.Reference limit) text faults.BadLimit = IsLimit limit → ⊥
@@ -59,7 +60,7 @@ IsReason (subcommands.Timeline limit) text faults.BadLimit = IsLimit limit → �
 IsReason (subcommands.Explore limit tries states) text faults.BadLimit = IsLimit limit → ⊥
 IsReason (subcommands.Test limit tries states) text faults.BadLimit = IsLimit limit → ⊥
 IsReason (subcommands.Inspect limit) text faults.BadLimit = IsLimit limit → ⊥
-IsReason (subcommands.Paused limit) text faults.BadLimit = IsLimit limit → ⊥
+IsReason (subcommands.Paused workers limit) text faults.BadLimit = IsWorkers workers × (IsLimit limit → ⊥)
 IsReason subcommand text faults.BadLimit = ⊥
 IsReason subcommands.Check text faults.Write = ⊥
 IsReason (subcommands.Test limit tries states) text faults.Write = Unit {0}
@@ -78,7 +79,7 @@ Finds (subcommands.Timeline limit) text (Ok end) = (end ≡ Finished) × IsLimit
 Finds (subcommands.Explore limit tries states) text (Ok end) = (end ≡ Finished) × IsLimit limit × HasReading text
 Finds (subcommands.Test limit tries states) text (Ok end) = (end ≡ Finished) × IsLimit limit
 Finds (subcommands.Inspect limit) text (Ok end) = (end ≡ Finished) × IsLimit limit × HasReading text
-Finds (subcommands.Paused limit) text (Ok end) = IsLimit limit × EndsPaused text limit end
+Finds (subcommands.Paused workers limit) text (Ok end) = IsWorkers workers × IsLimit limit × ((pauses : List Pause) × EndsPaused text pauses limit end)
 Finds (subcommands.Run workers limit) text (Ok end) = IsWorkers workers × IsLimit limit × EndsAs text limit end
 Finds subcommand text (Err fault) = IsReason subcommand text fault
 
@@ -87,7 +88,7 @@ abbrev pub IsVerdict : Subcommand → Result End Fault → ℕ → Type 0
 IsVerdict (subcommands.Explore limit tries states) (Ok end) status = (status ≡ 8) ⊎ (status ≡ 9)
 IsVerdict (subcommands.Test limit tries states) (Ok end) status = status ≡ 1
 IsVerdict (subcommands.Run workers limit) (Ok end) status = status ≡ 8
-IsVerdict (subcommands.Paused limit) (Ok end) status = status ≡ 8
+IsVerdict (subcommands.Paused workers limit) (Ok end) status = status ≡ 8
 IsVerdict subcommand outcome status = ⊥
 
 -- the exit status of what the command finds in this program

@@ -3,6 +3,7 @@
 ghost use Rattle.std.specs.Prelude.{◌≡◌, IfOk, IfSome};
 ghost use Rattle.kendo_shell.specs.Traces.{IsKept, has_file, is_named};
 
+use crate::names::Shown;
 use crate::reason::Reason;
 use crate::streams::{Stream, tell, tell_as};
 use crate::tracing::Trace;
@@ -15,8 +16,15 @@ use std::io::Read;
 use std::os::unix::fs::MetadataExt;
 use std::{fs, io};
 
-/// The path that means standard input.
-const STANDARD_INPUT: &str = "-";
+/// The path that means standard input, or standard output.
+const STANDARD: &str = "-";
+
+/// The paths of the standard streams.
+const INPUT: &str = "/dev/stdin";
+
+const OUTPUT: &str = "/dev/stdout";
+
+const ERROR: &str = "/dev/stderr";
 
 /// A regular file, whatever names and links lead to it.
 #[derive(Clone, Copy, PartialEq, Eq)]
@@ -33,6 +41,58 @@ impl Identity {
             inode: metadata.ino(),
         })
     }
+}
+
+/// The regular files that no output may be, since it would overwrite them.
+#[derive(Clone, Copy)]
+struct Taken {
+    source: Option<Identity>,
+    /// The file of the plan.
+    plan: Option<Identity>,
+    /// The file of the trace, for the file of its values.
+    trace: Option<Identity>,
+    standard_output: Option<Identity>,
+    standard_error: Option<Identity>,
+}
+
+impl Taken {
+    /// The source file, the plan of the command, and where the standard streams go.
+    fn of(rt: &HostRuntime, invocation: &Invocation<'_, '_>, source: &SourceFile) -> Taken {
+        Taken {
+            source: source.identity,
+            plan: invocation.pauses.and_then(|plan| identity_at(rt, plan)),
+            trace: None,
+            standard_output: identity_at(rt, OUTPUT),
+            standard_error: identity_at(rt, ERROR),
+        }
+    }
+
+    /// Why an output must not be this file; `None` if it may.
+    fn refusal(self, file: Identity) -> Option<Reason> {
+        let file = Some(file);
+        if file == self.source {
+            Some(Reason::IsSource)
+        } else if file == self.plan || file == self.trace {
+            Some(Reason::IsNamedTwice)
+        } else if file == self.standard_output {
+            Some(Reason::IsStandardOutput)
+        } else if file == self.standard_error {
+            Some(Reason::IsStandardError)
+        } else {
+            None
+        }
+    }
+}
+
+/// The line on standard error if the trace, or its values, would go to standard output.
+pub fn output_conflict(invocation: &Invocation<'_, '_>) -> Option<&'static [u8]> {
+    if invocation.trace == Some(STANDARD) {
+        return Some(b"kendo: --trace can't be -, standard output, where the program prints\n");
+    }
+    if invocation.values == Some(STANDARD) {
+        return Some(b"kendo: --values can't be -, standard output, where the program prints\n");
+    }
+    None
 }
 
 /// A source file that was read.
@@ -105,7 +165,8 @@ pub fn output_file(
     let Some(path) = invocation.trace.or(invocation.out) else {
         return Ok(Some(Trace::Dropped));
     };
-    match create(rt, path, source.identity) {
+    let taken = Taken::of(rt, invocation, source);
+    match create(rt, path, &taken) {
         Ok(trace) => Ok(Some(trace)),
         Err(reason) => {
             let unusable = Unusable::new("create", path, reason);
@@ -115,22 +176,86 @@ pub fn output_file(
     }
 }
 
-/// The file of the values of a trace, which is created, if one is named. `None` if it can't be used, or is the source file, the file of
-/// the trace or that of the plan: standard error says so, as for `opened`.
+/// The files of the trace and of its values, each created if it is named. `None` if one of them can't be used, or is a file that must not be
+/// overwritten: standard error says so, as for `opened`, and no file is changed.
 ///
 /// Errors: `Memory`.
-pub fn values_file(
+pub fn output_files(
     rt: &HostRuntime,
     alloc: Global,
     invocation: &Invocation<'_, '_>,
-    source: &str,
+    source: &SourceFile,
+) -> Result<Option<(Trace, Trace)>, Memory>
+    ensures { IfOk result (λ found. IfSome found (λ files. has_file files.0 ≡ is_named invocation.now.trace invocation.now.out)) }
+{
+    if !are_apart(rt, alloc, invocation, source)? {
+        return Ok(None);
+    }
+    let is_new = is_missing(rt, invocation.trace);
+    let Some(trace) = output_file(rt, alloc, invocation, source, None)? else {
+        return Ok(None);
+    };
+    match values_file(rt, alloc, invocation, source)? {
+        Some(values) => Ok(Some((trace, values))),
+        None => {
+            if is_new {
+                remove(rt, invocation.trace);
+            }
+            Ok(None)
+        }
+    }
+}
+
+/// Whether the file of the values is none that must not be overwritten, as far as that is known before the trace's file is created; else
+/// standard error says so.
+fn are_apart(
+    rt: &HostRuntime,
+    alloc: Global,
+    invocation: &Invocation<'_, '_>,
+    source: &SourceFile,
+) -> Result<bool, Memory> {
+    let Some(path) = invocation.values else {
+        return Ok(true);
+    };
+    let taken = Taken::of(rt, invocation, source);
+    let trace = invocation.trace.and_then(|trace| identity_at(rt, trace));
+    if trace.and_then(|trace| taken.refusal(trace)).is_some() {
+        // The trace's own file is refused, which comes first.
+        return Ok(true);
+    }
+    let reason = if invocation.trace == Some(path) {
+        Some(Reason::IsNamedTwice)
+    } else {
+        let values = identity_at(rt, path);
+        values.and_then(|values| Taken { trace, ..taken }.refusal(values))
+    };
+    match reason {
+        Some(reason) => {
+            let unusable = Unusable::new("create", path, reason);
+            unusable.report(rt, alloc, None, invocation.explains)?;
+            Ok(false)
+        }
+        None => Ok(true),
+    }
+}
+
+/// The file of the values of a trace, which is created, if one is named. The file of the trace is there.
+fn values_file(
+    rt: &HostRuntime,
+    alloc: Global,
+    invocation: &Invocation<'_, '_>,
+    source: &SourceFile,
 ) -> Result<Option<Trace>, Memory> {
     let Some(path) = invocation.values else {
         return Ok(Some(Trace::Dropped));
     };
-    let others = [Some(source), invocation.trace, invocation.pauses];
-    match create_apart(rt, path, &others) {
-        Ok(trace) => Ok(Some(trace)),
+    let trace = invocation.trace.and_then(|trace| identity_at(rt, trace));
+    let taken = Taken {
+        trace,
+        ..Taken::of(rt, invocation, source)
+    };
+    match create(rt, path, &taken) {
+        Ok(values) => Ok(Some(values)),
         Err(reason) => {
             let unusable = Unusable::new("create", path, reason);
             unusable.report(rt, alloc, None, invocation.explains)?;
@@ -139,25 +264,35 @@ pub fn values_file(
     }
 }
 
-/// Like `create`, of a file that is none of those at the other paths.
-fn create_apart(rt: &HostRuntime, path: &str, others: &[Option<&str>]) -> Result<Trace, Reason> {
-    for other in others.iter().flatten() {
-        if let (Some(here), Some(there)) = (identity_at(rt, path), identity_at(rt, other)) {
-            if here == there {
-                return Err(Reason::IsNamedTwice);
-            }
-        }
+/// Whether a path is named at which there is nothing.
+fn is_missing(rt: &HostRuntime, path: Option<&str>) -> bool {
+    match path {
+        Some(path) => fs::symlink_metadata(rt, path).is_err(),
+        None => false,
     }
-    create(rt, path, None)
+}
+
+/// Removes the file at a path, if one is named.
+fn remove(rt: &HostRuntime, path: Option<&str>) {
+    if let Some(path) = path {
+        let _removed = fs::remove_file(rt, path);
+    }
+}
+
+/// Whether the file at the path is a regular one to which standard output or standard error goes.
+pub fn is_standard(rt: &HostRuntime, file: &Metadata) -> bool {
+    match Identity::of(file) {
+        Some(identity) => {
+            let streams = [identity_at(rt, OUTPUT), identity_at(rt, ERROR)];
+            streams.iter().any(|stream| *stream == Some(identity))
+        }
+        None => false,
+    }
 }
 
 /// Which file is at a path; `None` if there is none.
 fn identity_at(rt: &HostRuntime, path: &str) -> Option<Identity> {
-    let path = if path == STANDARD_INPUT {
-        "/dev/stdin"
-    } else {
-        path
-    };
+    let path = if path == STANDARD { INPUT } else { path };
     match fs::metadata(rt, path) {
         Ok(metadata) => Identity::of(&metadata),
         Err(_) => None,
@@ -218,11 +353,8 @@ fn read_file(rt: &HostRuntime, alloc: Global, path: &str) -> io::Result<Vec<u8>>
 
 /// The bytes of a source file, and which file it is.
 fn read(rt: &HostRuntime, alloc: Global, path: &str) -> io::Result<(Vec<u8>, Option<Identity>)> {
-    if path == STANDARD_INPUT {
-        let identity = match fs::metadata(rt, "/dev/stdin") {
-            Ok(metadata) => Identity::of(&metadata),
-            Err(_) => None,
-        };
+    if path == STANDARD {
+        let identity = identity_at(rt, INPUT);
         return Ok((read_source(alloc, rt.stdin())?, identity));
     }
     let file = File::open(rt, path)?;
@@ -237,36 +369,31 @@ fn read_source<R: Read + Drop>(alloc: Global, reader: R) -> io::Result<Vec<u8>> 
     Ok(bytes)
 }
 
-/// The file of this path, which is created, or emptied if it is there and is not the source file.
-fn create(rt: &HostRuntime, path: &str, source: Option<Identity>) -> Result<Trace, Reason>
+/// The file of this path, which is created, or emptied if it is there and is none of those that are taken.
+fn create(rt: &HostRuntime, path: &str, taken: &Taken) -> Result<Trace, Reason>
     ensures { IfOk result IsKept }
 {
-    match create_other(rt, path, source) {
-        Ok(Some(file)) => Ok(Trace::Kept(Stream::new(file))),
-        Ok(None) => Err(Reason::IsSource),
+    match create_other(rt, path, taken) {
+        Ok(Ok(file)) => Ok(Trace::Kept(Stream::new(rt, file))),
+        Ok(Err(reason)) => Err(reason),
         Err(error) => Err(Reason::of(&error)),
     }
 }
 
-/// Like `create`; `None` if it is the source file, which stays as it is. A file that is opened while a standard stream is closed
-/// gets the stream's descriptor, and would get what is written to the stream. Its clone gets a descriptor above these.
-fn create_other(
-    rt: &HostRuntime,
-    path: &str,
-    source: Option<Identity>,
-) -> io::Result<Option<File>> {
+/// Like `create`; or why the file is one of those that are taken, which stays as it is. A file that is opened while a standard stream is
+/// closed gets the stream's descriptor, and would get what is written to the stream. Its clone gets a descriptor above these.
+fn create_other(rt: &HostRuntime, path: &str, taken: &Taken) -> io::Result<Result<File, Reason>> {
     let first = File::options().write(true).create(true).open(rt, path)?;
     let file = first.try_clone()?;
     drop(first);
-    let identity = Identity::of(&file.metadata()?);
-    if identity.is_none() {
-        return Ok(Some(file));
-    }
-    if identity == source {
-        return Ok(None);
+    let Some(identity) = Identity::of(&file.metadata()?) else {
+        return Ok(Ok(file));
+    };
+    if let Some(reason) = taken.refusal(identity) {
+        return Ok(Err(reason));
     }
     file.set_len(0)?;
-    Ok(Some(file))
+    Ok(Ok(file))
 }
 
 /// A file that can't be used.
@@ -297,6 +424,7 @@ impl<'a> Unusable<'a> {
         if reason == Reason::OutOfMemory {
             return Err(Memory);
         }
+        let path = Shown(path);
         let line = format!(in alloc; "kendo: cannot {verb} {path}\n")?;
         tell_as(rt, alloc, name, line.as_bytes())?;
         if explains {

@@ -3,6 +3,8 @@
 
 pub mod checking;
 pub mod files;
+pub mod names;
+pub mod notice;
 pub mod reason;
 pub mod streams;
 mod suggestion;

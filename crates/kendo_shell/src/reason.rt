@@ -28,6 +28,10 @@ pub enum Reason {
     IsSource,
     /// It is another file that the command names.
     IsNamedTwice,
+    /// It is the file that standard output goes to.
+    IsStandardOutput,
+    /// It is the file that standard error goes to.
+    IsStandardError,
     /// It is longer than a source file may be.
     TooLong,
     /// Another error of the system.
@@ -67,6 +71,8 @@ impl fmt::Display for Reason {
             Reason::TookNothing => "no byte was taken",
             Reason::IsSource => "is the source file, which would be overwritten",
             Reason::IsNamedTwice => "is named twice, and would be overwritten",
+            Reason::IsStandardOutput => "is where standard output goes, which would be overwritten",
+            Reason::IsStandardError => "is where standard error goes, which would be overwritten",
             Reason::TooLong => "is longer than 1,048,576 bytes",
             Reason::Other => "input or output error",
         })

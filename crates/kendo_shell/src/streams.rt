@@ -1,24 +1,31 @@
 //! The standard streams, and the exit status.
 
-ghost use Rattle.std.specs.Prelude.{◌≡◌, IfOk, IsErr, IsTrue};
+ghost use Rattle.std.specs.Prelude.{◌≡◌, ◌≤◌, IfOk, IsErr, IsTrue, length};
 ghost use Rattle.std.specs.Process.{exit_status};
 ghost use Rattle.kendo_report.specs.Outcome.{report_status};
 
 use crate::MEMORY;
+use crate::names::shown_name;
 use crate::reason::Reason;
+use crate::tracing::Refused;
 use go_text::{Fault, Memory};
 use kendo_report::report;
 use std::alloc::Global;
-use std::io;
-use std::io::Write as _;
+use std::io::{ErrorKind, IsTerminal};
 use std::process::ExitCode;
+use std::time::Duration;
+use std::{io, thread};
 use word::end::End;
-use word::{Write, WriteFault};
+use word::{Write, WriteFault, write_all};
 
-/// A writer that hands bytes on at once, so that they are seen at once and nothing is lost however the process ends. It
-/// remembers why it first refused bytes.
+/// How many milliseconds a stream that takes nothing for now is left alone.
+const NAP: u64 = 1;
+
+/// A writer that hands bytes on at once, so that they are seen at once and nothing is lost however the process ends. It waits for what
+/// takes no bytes for now, as a pipe that another program set not to block. It remembers why it first refused bytes.
 #[derive(Drop)]
 pub struct Stream<W: Drop> {
+    rt: HostRuntime,
     inner: W,
     refusal: Option<Reason>,
 }
@@ -28,10 +35,11 @@ impl<W: io::Write + Drop> Stream<W> {
     ghost use Rattle.kendo_shell.specs.Streams.{has_refused};
 
     /// A stream to this writer, which has refused nothing.
-    pub fn new(inner: W) -> Stream<W>
+    pub fn new(rt: &HostRuntime, inner: W) -> Stream<W>
         ensures { has_refused result ≡ false }
     {
         Stream {
+            rt: *rt,
             inner,
             refusal: None,
         }
@@ -58,7 +66,7 @@ impl<W: io::Write + Drop> Write for Stream<W> {
     ghost has_failed = { λ stream. has_refused stream };
 
     fn write(&mut self, piece: &[u8]) -> Result<usize, WriteFault> {
-        match self.inner.write(piece) {
+        match write_when_ready(&self.rt, &mut self.inner, piece) {
             Ok(taken) => {
                 if taken == 0 && !piece.is_empty() {
                     self.refuse(Reason::TookNothing);
@@ -74,9 +82,55 @@ impl<W: io::Write + Drop> Write for Stream<W> {
     }
 }
 
+/// Writes a beginning of the piece, and returns how many bytes of it were taken. As long as the writer says that it would block, it is
+/// asked again.
+fn write_when_ready<W: io::Write>(
+    rt: &HostRuntime,
+    writer: &mut W,
+    piece: &[u8],
+) -> io::Result<usize>
+    ensures { IfOk result (λ taken. taken ≤ length piece.now) }
+{
+    for _ in 0..u64::MAX {
+        match writer.write(piece) {
+            Ok(taken) => return Ok(taken),
+            Err(error) if error.kind() != ErrorKind::WouldBlock => return Err(error),
+            Err(_) => thread::sleep(rt, Duration::from_millis(NAP)),
+        }
+    }
+    Err(io::Error::from(ErrorKind::WouldBlock))
+}
+
 /// Writes a line to standard error. The exit status says what happened even if the line is lost.
 pub fn tell(rt: &HostRuntime, line: &[u8]) {
-    let _told = rt.stderr().write_all(line);
+    let mut stream = Stream::new(rt, rt.stderr());
+    let _told = write_all(&mut stream, line);
+}
+
+/// Like `told`, for a command whose output was refused so. If the reader of standard output went away, as `head` does once it has its
+/// lines, a terminal is told nothing.
+///
+/// Errors: `Memory`.
+pub fn told_of_refusal(
+    rt: &HostRuntime,
+    alloc: Global,
+    name: Option<&str>,
+    outcome: &Result<End, Fault>,
+    refused: Option<Refused>,
+) -> Result<u8, Memory>
+    ensures { IfOk result (λ status. status ≡ report_status outcome.now) }
+{
+    if !is_unread(outcome, refused) || !rt.stderr().is_terminal() {
+        return told(rt, alloc, name, outcome);
+    }
+    let (_line, status) = report(alloc, outcome)?;
+    Ok(status)
+}
+
+/// Whether a command ended because the reader of its standard output went away.
+pub fn is_unread(outcome: &Result<End, Fault>, refused: Option<Refused>) -> bool {
+    matches!(outcome, Err(Fault::Write))
+        && matches!(refused, Some(Refused::Standard(Reason::ClosedPipe)))
 }
 
 /// Writes the line that reports this outcome to standard error, and returns its exit status. The line begins with `name` if there
@@ -107,7 +161,7 @@ pub(crate) fn tell_as(
 ) -> Result<(), Memory> {
     match (name, line.strip_prefix(b"kendo".as_slice())) {
         (Some(name), Some(rest)) => {
-            let mut named = name.as_bytes().to_vec(alloc)?;
+            let mut named = shown_name(alloc, name)?.into_bytes();
             named.extend_from_slice(rest)?;
             tell(rt, named.as_slice());
         }

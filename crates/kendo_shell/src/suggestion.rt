@@ -1,5 +1,6 @@
 //! What to type instead of a command line that lacks its command.
 
+use crate::names::Shown;
 use crate::streams::tell;
 use clap::error::ErrorKind;
 use std::alloc::Global;
@@ -19,6 +20,7 @@ fn suggest_run(rt: &HostRuntime, alloc: Global, word: &str) {
     if !word.ends_with(".go") {
         return;
     }
+    let word = Shown(word);
     if let Ok(line) = format!(in alloc; "\nTo run the program: kendo run {word}\n") {
         tell(rt, line.as_bytes());
     }

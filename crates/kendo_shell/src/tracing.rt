@@ -78,7 +78,7 @@ impl Outputs {
     /// Standard output, and this file.
     pub fn new(rt: &HostRuntime, file: Trace) -> Outputs {
         Outputs {
-            standard: Stream::new(rt.stdout()),
+            standard: Stream::new(rt, rt.stdout()),
             file,
             values: Trace::Dropped,
         }

@@ -9,21 +9,22 @@ use crate::suggestion::suggest;
 use crate::{USAGE, WRITE};
 use clap::error::ErrorKind;
 use command_line::arguments::Invocation;
+use command_line::numbers::plain_words;
 use go_text::Memory;
 use std::alloc::Global;
 use std::env::VarError;
 use std::io::IsTerminal;
 use std::{env, io};
 
-/// The words of the command line, the first of which is the program's name. `None` if one is not UTF-8, which is reported on standard
-/// error.
+/// The words of the command line, the first of which is the program's name, with numbers of options as digits alone. `None` if one is not
+/// UTF-8, which is reported on standard error.
 ///
 /// Errors: `Memory`.
 pub fn words_in(rt: &HostRuntime, alloc: Global) -> Result<Option<Vec<String>>, Memory> {
     match env::args(rt) {
         Ok(words) => {
             let words: Vec<String> = words.collect(alloc)?;
-            Ok(Some(words))
+            Ok(Some(plain_words(alloc, words.as_slice())?))
         }
         Err(error) if error.kind() == io::ErrorKind::OutOfMemory => Err(Memory),
         Err(_) => {
@@ -131,8 +132,10 @@ pub fn show(
     }
     match printed {
         Ok(()) => Ok(0),
-        Err(_) => {
-            tell(rt, b"kendo: 14 Write\n".as_slice());
+        Err(error) => {
+            if error.kind() != io::ErrorKind::BrokenPipe || !rt.stderr().is_terminal() {
+                tell(rt, b"kendo: 14 Write\n".as_slice());
+            }
             Ok(WRITE)
         }
     }

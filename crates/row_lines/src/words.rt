@@ -1,6 +1,7 @@
 //! Command lines, and the result of each.
 
 use command_line::arguments::{Invocation, Subcommand, command, invocation_of};
+use command_line::numbers::plain_words;
 use row_format::row_error::{RowError, same};
 use row_format::written::bytes_of;
 use std::alloc::{AllocError, Global};
@@ -36,7 +37,8 @@ fn words_of(alloc: Global, line: &str) -> Result<Vec<String>, AllocError> {
 
 /// The request that the command line makes; or the stream on which its message appears, and the message.
 fn answer(alloc: Global, words: &[String]) -> Result<String, AllocError> {
-    match command(alloc)?.try_get_matches_from(words) {
+    let words = plain_words(alloc, words)?;
+    match command(alloc)?.try_get_matches_from(words.as_slice()) {
         Ok(matches) => {
             let Some(asked) = invocation_of(&matches) else {
                 return "nothing".to_string(alloc);
@@ -72,6 +74,7 @@ fn told(alloc: Global, asked: &Invocation<'_, '_>) -> Result<String, AllocError>
         update,
         json,
         explains,
+        asks_to_explain: _,
         subcommand,
     } = *asked;
     let done = done(alloc, subcommand)?;
@@ -171,7 +174,9 @@ fn done(alloc: Global, subcommand: Subcommand) -> Result<String, AllocError> {
         Subcommand::Check => "check".to_string(alloc),
         Subcommand::List => "list".to_string(alloc),
         Subcommand::Reference { limit } => format!(in alloc; "reference to {limit}"),
-        Subcommand::Paused { limit } => format!(in alloc; "paused to {limit}"),
+        Subcommand::Paused { workers, limit } => {
+            format!(in alloc; "paused by {workers} to {limit}")
+        }
         Subcommand::Timeline { limit } => format!(in alloc; "timeline to {limit}"),
         Subcommand::Explore {
             limit,

@@ -1,4 +1,4 @@
-use Rattle.std.proofs.Common.{rules, ◌∙◌, ap, codes, map, sym, subst, option_map}
+use Rattle.std.proofs.Common.{rules, ◌∙◌, ap, codes, map, refl, sym, subst, option_map}
 use Rattle.clap.specs.Words.{found_of, rows_of}
 use Rattle.clap.proofs.WalkLemmas.{first_value-rows, raw_values-rows}
 use Rattle.command_line.specs.CommandLine.{IsAsked}
@@ -26,4 +26,4 @@ returns c =
     (c.get_str-pauses.ensures ∙ first_value-rows (found_of c.in-Some.matches.now) (codes "pauses"))
     (c.get_str-against.ensures ∙ first_value-rows (found_of c.in-Some.matches.now) (codes "against")) c.is_set-strict.ensures
     (c.get_str-out.ensures ∙ first_value-rows (found_of c.in-Some.matches.now) (codes "out"))
-    c.is_set-ends.ensures c.is_set-unordered.ensures c.is_set-ordered.ensures c.is_set-leaks.ensures c.is_set-whole.ensures c.is_set-orders.ensures c.is_set-update.ensures c.is_set-json.ensures c.is_set-explains.ensures
+    c.is_set-ends.ensures c.is_set-unordered.ensures c.is_set-ordered.ensures c.is_set-leaks.ensures c.is_set-whole.ensures c.is_set-orders.ensures c.is_set-update.ensures c.is_set-json.ensures c.is_set-explains.ensures refl

@@ -1,6 +1,6 @@
 use Rattle.std.proofs.Common.{rules}
 use Rattle.std.proofs.lemmas.Result.{err_from_is_err_and}
-use Rattle.kendo_shell.proofs.Findings.{limit_ended, paused_stops}
+use Rattle.kendo_shell.proofs.Findings.{paused_ended, paused_stops}
 use Rattle.pauses.specs.Plans.{pauses_of}
 use Rattle.kendo_compare.proofs.comparing.run_paused_with_trace.Goals as goal
 
@@ -14,9 +14,15 @@ pub returns-clause-found : goal.returns-clause-found
 returns-clause-found g c =
     let made = c.in_ok-end.ensures in
     let whole = made.whole in
-    (limit_ended c.args.limit _ made.limit, (pauses_of c.args.plan.now.pauses.items, whole.0, whole.2.0, whole.1, whole.2.2))
+    let bounds = paused_ended c.args.limit _ made.limit in
+    (bounds.0, bounds.1, (pauses_of c.args.plan.now.pauses.items, (whole.0, whole.2.0, whole.1, whole.2.2)))
 
 pub returns-clause-traced : goal.returns-clause-traced
 returns-clause-traced g c =
     let traced = c.in_ok-end.ensures.traced in
     (traced.0, traced.1, (traced.2.0, search rules, traced.2.2))
+
+pub returns-in_err-end-clause-nothing : goal.returns-in_err-end-clause-nothing
+returns-in_err-end-clause-nothing g c =
+    let p = err_from_is_err_and c.from_residual.result c.from_residual.ensures.1 in
+    rw (p.1, p.2) (λ memory write. (c.in_err-end.ensures.nothing memory write).0)

@@ -20,3 +20,8 @@ pub returns-clause-traced : goal.returns-clause-traced
 returns-clause-traced g c =
     let traced = c.in_ok-end.ensures.traced in
     (traced.0, traced.1, (traced.2.0, search rules, traced.2.2))
+
+pub returns-in_err-end-clause-nothing : goal.returns-in_err-end-clause-nothing
+returns-in_err-end-clause-nothing g c =
+    let p = err_from_is_err_and c.from_residual.result c.from_residual.ensures.1 in
+    rw (p.1, p.2) c.in_err-end.ensures.nothing
