@@ -147,6 +147,12 @@ fn typing_hint(text: &str, rule: Rule, place: Place) -> Option<&'static str> {
         },
         Rule::NewName => Some("= assigns to a variable that is there"),
         Rule::Made => Some("make(chan T) or make(chan T, size)"),
+        Rule::Nil if line_before(text, place.span.from).ends_with(":= ") => {
+            Some("the type of a nil channel has to be said: var c chan int")
+        }
+        Rule::Nil => Some(
+            "only a channel can be nil: the zero value of a struct T is T{}, and a bool can say that there is none",
+        ),
         Rule::Channel if line_before(text, place.span.from).ends_with("range ") => {
             Some("a loop over numbers counts: for i := 0; i < n; i++ { .. }")
         }

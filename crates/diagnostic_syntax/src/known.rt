@@ -21,13 +21,19 @@ const TEXTS: &str =
     "there are no packages: strings are only printed, and println also prints ints and bools";
 
 const COUNTS: &str =
-    "there is no sync.WaitGroup: let each goroutine send on a channel when it is done, and receive once for each";
+    "there is no sync.WaitGroup: let each goroutine send on a channel when it is done, and receive once for each: docs/GO.md#waitgroup";
 
 const LOCKS: &str =
-    "there is no sync.Mutex: make(chan bool, 1) is a lock; send to it to lock, receive from it to unlock";
+    "there is no sync.Mutex: make(chan bool, 1) is a lock; send to it to lock, receive from it to unlock: docs/GO.md#mutex";
+
+const CLOCK: &str =
+    "there is no time: a goroutine that counts can be the clock of a select: docs/GO.md#timeout";
+
+const CANCELS: &str =
+    "there is no package context: close a channel to cancel, and receive from it in each select: docs/GO.md#context-and-cancel";
 
 /// Packages, and what to write instead.
-pub static PACKAGES: [Known; 20] = [
+pub static PACKAGES: [Known; 21] = [
     Known("fmt", PRINTS),
     Known("log", PRINTS),
     Known(
@@ -50,9 +56,10 @@ pub static PACKAGES: [Known; 20] = [
         "errors",
         "there is no package errors: return an int or a bool that says what went wrong",
     ),
+    Known("context", CANCELS),
     Known(
-        "context",
-        "there is no package context: close a channel to cancel, and receive from it in each select",
+        "errgroup",
+        "there is no errgroup: let each goroutine send what went wrong: docs/GO.md#errgroup",
     ),
     Known("strings", TEXTS),
     Known("strconv", TEXTS),
@@ -92,6 +99,18 @@ pub static PACKAGES: [Known; 20] = [
     ),
 ];
 
+/// Types and functions of Go's packages for which there is more to say than for their package, and what to write instead.
+pub(crate) static MEMBERS: [Known; 8] = [
+    Known("WaitGroup", COUNTS),
+    Known("Mutex", LOCKS),
+    Known("RWMutex", LOCKS),
+    Known("After", CLOCK),
+    Known("AfterFunc", CLOCK),
+    Known("NewTimer", CLOCK),
+    Known("Tick", CLOCK),
+    Known("NewTicker", CLOCK),
+];
+
 /// Methods of Go's packages, and what to write instead.
 pub(crate) static METHODS: [Known; 10] = [
     Known("Wait", COUNTS),
@@ -109,7 +128,8 @@ pub(crate) static METHODS: [Known; 10] = [
     Known("Printf", PRINTS),
 ];
 
-const ONLY_INT: &str = "the only type of numbers is int, of 64 bits: there are no conversions";
+pub(crate) const ONLY_INT: &str =
+    "the only type of numbers is int, of 64 bits: there are no conversions";
 
 const NO_FLOAT: &str = "there are no floating-point numbers";
 
@@ -276,7 +296,7 @@ pub(crate) static MARKS: [Known; 10] = [
     Known("fallthrough", "loops and ifs take its place"),
     Known(
         "defer",
-        "there is no defer: write the call before each return",
+        "there is no defer: write the call before each return, and at the end",
     ),
     Known(
         "range",

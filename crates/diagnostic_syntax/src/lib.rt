@@ -9,6 +9,7 @@ mod hint;
 pub mod known;
 mod misplaced;
 mod nesting;
+mod packages;
 mod site;
 mod trouble;
 mod unexpected;

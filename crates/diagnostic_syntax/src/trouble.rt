@@ -3,13 +3,17 @@
 use crate::expected::Expected;
 use crate::hint::Hint;
 use crate::known::{
-    DECLARATIONS, MARKS, METHODS, NAMES, NO_ARRAY, OPERATORS, PACKAGES, STATEMENTS, stand_in,
+    DECLARATIONS, MARKS, NAMES, NO_ARRAY, ONLY_INT, OPERATORS, STATEMENTS, stand_in,
 };
 use crate::nesting::Nesting;
 use crate::site::{NEWLINE, Site};
 use diagnostic_words::spelling::is_near;
 
 const VALUE: &str = "a value is no statement: assign it, or print it";
+
+const NO_RANGE: &str = "there are no slices: fill a buffered channel, close it, and range over it";
+
+const ONE_RESULT: &str = "a function has at most one result: return a struct";
 
 /// A syntax error: its location, the tokens that could come next, and the brackets that are open.
 #[derive(Clone, Copy)]
@@ -128,18 +132,6 @@ impl<'s, 't> Trouble<'s, 't> {
             return Some(Hint::Plain(hint));
         }
         Some(Hint::Plain("statements stand in functions: is a } before this line one too many?"))
-    }
-
-    /// What to write instead of the package that is imported.
-    fn import_hint(&self) -> &'static str {
-        for count in 1..4 {
-            let path = self.site.after(count).trim_matches('"');
-            let name = path.rsplit('/').next().unwrap_or("");
-            if let Some(hint) = stand_in(&PACKAGES, name) {
-                return hint;
-            }
-        }
-        "there are no imports: print and println are built in"
     }
 
     /// What to write instead of a constant.
@@ -303,6 +295,10 @@ impl<'s, 't> Trouble<'s, 't> {
         }
         let site = &self.site;
         let word = site.before(1);
+        if site.found() == ":" {
+            // A label, whatever its name.
+            return None;
+        }
         if let Some(hint) = stand_in(&STATEMENTS, word) {
             return Some(Hint::Plain(hint));
         }
@@ -379,36 +375,6 @@ impl<'s, 't> Trouble<'s, 't> {
         None
     }
 
-    /// A hint for a call of `name` in a package, or on a value.
-    fn selected_hint(&self, whole: &'t str, name: &'t str) -> Hint<'t> {
-        if let Some(hint) = stand_in(&PACKAGES, whole) {
-            return Hint::Plain(hint);
-        }
-        if let Some(hint) = stand_in(&METHODS, name) {
-            return Hint::Plain(hint);
-        }
-        Hint::Naming(
-            "there are no packages and no methods: declare func ",
-            name,
-            ", and give it what it needs as arguments",
-        )
-    }
-
-    /// A hint for a misplaced `.`.
-    fn period_hint(&self) -> Option<Hint<'t>> {
-        let site = &self.site;
-        if site.after(2) == "(" {
-            return Some(self.selected_hint(site.before(1), site.after(1)));
-        }
-        if let Some(hint) = stand_in(&PACKAGES, site.before(1)) {
-            return Some(Hint::Plain(hint));
-        }
-        if site.is_name_before(1) && !self.expected.has("x") {
-            return Some(Hint::Plain("there are no packages: declare the type in this file"));
-        }
-        None
-    }
-
     /// Whether a token of the statement before the fault is one of these.
     fn statement_has(&self, one: &str, other: &str) -> bool {
         for index in self.site.statement_start()..self.site.at {
@@ -421,7 +387,7 @@ impl<'s, 't> Trouble<'s, 't> {
     }
 
     /// Whether the fault lies among the fields of a struct type.
-    fn is_in_struct(&self) -> bool {
+    pub(crate) fn is_in_struct(&self) -> bool {
         match self.nesting.innermost() {
             Some(index) => match index.checked_sub(1) {
                 Some(before) => self.site.word_at(before) == "struct",
@@ -440,7 +406,7 @@ impl<'s, 't> Trouble<'s, 't> {
     }
 
     /// The first token of the statement of the fault.
-    fn first_word(&self) -> &'t str {
+    pub(crate) fn first_word(&self) -> &'t str {
         self.site.word_at(self.site.statement_start())
     }
 
@@ -450,11 +416,11 @@ impl<'s, 't> Trouble<'s, 't> {
             return Some(Hint::Plain("each field stands on a line of its own, without a comma"));
         }
         match self.first_word() {
-            "return" => Some(Hint::Plain("a function has at most one result: return a struct")),
+            "return" => Some(Hint::Plain(ONE_RESULT)),
             "func" if self.wants_type() => Some(Hint::Plain(
                 "each parameter has a name and a type: n int",
             )),
-            "func" => Some(Hint::Plain("a function has at most one result: return a struct")),
+            "func" => Some(Hint::Plain(ONE_RESULT)),
             _ => None,
         }
     }
@@ -529,20 +495,10 @@ impl<'s, 't> Trouble<'s, 't> {
         if self.site.before(2) == "func" {
             return Hint::Plain("there are no type parameters: write a function for each type");
         }
+        if self.site.before(1) == "range" {
+            return Hint::Plain(NO_RANGE);
+        }
         Hint::Plain(NO_ARRAY)
-    }
-
-    /// A hint for a `*` or a `&` before an operand or a type.
-    fn pointer_hint(&self) -> Option<Hint<'t>> {
-        if self.site.before(1) == "*" {
-            return Some(Hint::Plain("** is no operator: multiply in a loop"));
-        }
-        if self.expected.has("x") {
-            return Some(Hint::Plain(
-                "there are no pointers: send a struct, or a channel to answer on",
-            ));
-        }
-        None
     }
 
     /// A hint for the end of a line.
@@ -644,12 +600,11 @@ impl<'s, 't> Trouble<'s, 't> {
             "var" if self.site.before(1) == "for" => {
                 Some(Hint::Plain("write := in a header: for i := 0; i < 10; i++ { .. }"))
             }
-            "struct" if self.site.before(1) == "chan" => {
-                Some(Hint::Plain("write chan bool: there is no empty struct"))
-            }
+            "struct" if self.wants_type() && self.site.after(2) == "}" => self.empty_hint(),
             "struct" if self.wants_type() => {
                 Some(Hint::Plain("a struct type has a name: type T struct { .. }"))
             }
+            "range" if self.site.after(1) == "[" => Some(Hint::Plain(NO_RANGE)),
             "type" if self.wants_statement() => {
                 Some(Hint::Plain("types are declared outside of functions"))
             }
@@ -658,6 +613,17 @@ impl<'s, 't> Trouble<'s, 't> {
                 None => None,
             },
         }
+    }
+
+    /// What to write instead of the empty struct as a type.
+    fn empty_hint(&self) -> Option<Hint<'t>> {
+        let written = match (self.site.before(2), self.site.before(1)) {
+            ("chan", "<-") => "chan<- bool",
+            ("<-", "chan") => "<-chan bool",
+            (_, "chan") => "chan bool",
+            _ => "bool",
+        };
+        Some(Hint::Naming("write ", written, ": there is no empty struct"))
     }
 
     /// Whether a keyword is used as a name.
@@ -686,6 +652,11 @@ impl<'s, 't> Trouble<'s, 't> {
         Some(match found {
             "chan" => Hint::Naming(
                 "only structs are declared types: write chan .. in place of ",
+                self.site.before(1),
+                "",
+            ),
+            _ if stand_in(&NAMES, found) == Some(ONLY_INT) => Hint::Naming(
+                "only structs are declared types: write int in place of ",
                 self.site.before(1),
                 "",
             ),
@@ -730,7 +701,11 @@ impl<'s, 't> Trouble<'s, 't> {
             };
         }
         if self.first_word() == "func" && self.expected.has(")") && site.before(2) == "(" {
-            return Some(Hint::Plain("a result has a type and no name: func f() int"));
+            return Some(Hint::Plain(if site.after(1) == "," {
+                ONE_RESULT
+            } else {
+                "a result has a type and no name: func f() int"
+            }));
         }
         if self.wants_statement() && matches!(site.after(1), ":=" | "=") {
             return Some(Hint::Naming("", found, " is built in: choose another name"));

@@ -22,6 +22,14 @@ const ENDLESS: &str = "package main; func main() { println(12); for {} }";
 /// A program that prints twice.
 const TWO_PRINTS: &str = "package main; func main() { println(12); println(3) }";
 
+/// A program that prints what a buffer holds after a close, and then zero and false.
+const BUFFER: &str =
+    "package main; func main() { c := make(chan int, 2); c <- 1; c <- 2; close(c); \
+    for v := range c { println(v) }; v, ok := <-c; println(v, ok) }";
+
+/// A program that prints a sum.
+const SUM: &str = "package main; func main() { println(1 + 2) }";
+
 /// Two goroutines that print, and send to the first one.
 const TWO_GOROUTINES: &str =
     "package main; func main() { d := make(chan bool); go a(d); go b(d); <-d; <-d }; \
@@ -77,31 +85,38 @@ impl TraceWriter for Slow {
     }
 }
 
+/// A program, the call at which a writer of its output or its trace fails, what that writer takes, and the line that the run
+/// prints.
+type Failing = (&'static str, u64, &'static str, &'static str);
+
+const STOPPED: &str = "kendo: 14 Write\n";
+
 /// Checks that a run whose output can't be written stops there, and reports it.
 pub(crate) fn check_failing_writers<R: Threads + Wait + Sync>(
     rt: &R,
     alloc: Global,
 ) -> Result<(), RowError> {
-    for (fails_at, written, line) in [
-        (1, "", "kendo: 14 Write\n"),
-        (2, "1", "kendo: 14 Write\n"),
-        (5, "12\n3", "kendo: 14 Write\n"),
-        (6, "12\n3\n", ""),
+    for case in [
+        (TWO_PRINTS, 1, "", STOPPED),
+        (TWO_PRINTS, 2, "1", STOPPED),
+        (TWO_PRINTS, 5, "12\n3", STOPPED),
+        (TWO_PRINTS, 6, "12\n3\n", ""),
+        (BUFFER, 2, "1", STOPPED),
+        (BUFFER, 4, "1\n2", STOPPED),
+        (BUFFER, 13, "1\n2\n0 false\n", ""),
     ] {
-        check_failing_writer(rt, alloc, fails_at, written, line)?;
+        check_failing_writer(rt, alloc, case)?;
     }
     Ok(())
 }
 
-/// Checks what a run whose output fails at this call writes, and the line that it prints.
+/// Checks what a run whose output fails at a call writes, and the line that it prints.
 fn check_failing_writer<R: Threads + Wait + Sync>(
     rt: &R,
     alloc: Global,
-    fails_at: u64,
-    written: &str,
-    line: &str,
+    (source, fails_at, written, line): Failing,
 ) -> Result<(), RowError> {
-    let bytes = Vec::from_slice(alloc, TWO_PRINTS.as_bytes())?;
+    let bytes = Vec::from_slice(alloc, source.as_bytes())?;
     let mut out = Slow::new(alloc, fails_at);
     let mut trace = Flagged::new(Vec::new(alloc));
     let outcome = run_bytes(rt, alloc, bytes, LIMIT, 4, &Open, &mut out, &mut trace);
@@ -115,34 +130,44 @@ pub(crate) fn check_failing_traces<R: Threads + Wait + Sync>(
     rt: &R,
     alloc: Global,
 ) -> Result<(), RowError> {
-    for (fails_at, written, line) in [
-        (1, "", "kendo: 14 Write\n"),
-        (14, "0 1 print 3\n1", "kendo: 14 Write\n"),
+    for case in [
+        (TWO_PRINTS, 1, "", STOPPED),
+        (TWO_PRINTS, 14, "0 1 print 3\n1", STOPPED),
         (
+            TWO_PRINTS,
             33,
             "0 1 print 3\n1 1 print 2\n2 1 exit",
-            "kendo: 14 Write\n",
+            STOPPED,
         ),
-        (34, "0 1 print 3\n1 1 print 2\n2 1 exit\n", ""),
+        (TWO_PRINTS, 34, "0 1 print 3\n1 1 print 2\n2 1 exit\n", ""),
+        (SUM, 1, "", STOPPED),
+        (SUM, 22, "0 1 print 2\n1 1 exit\n", ""),
     ] {
-        check_failing_trace(rt, alloc, fails_at, written, line)?;
+        check_failing_trace(rt, alloc, case)?;
     }
     Ok(())
 }
 
-/// Checks what a run whose trace fails at this call writes of it, and the line that it prints.
+/// Checks what a run whose trace fails at a call writes of it, that its output is a beginning of its lines, and the line that
+/// the run prints.
 fn check_failing_trace<R: Threads + Wait + Sync>(
     rt: &R,
     alloc: Global,
-    fails_at: u64,
-    written: &str,
-    line: &str,
+    (source, fails_at, written, line): Failing,
 ) -> Result<(), RowError> {
-    let bytes = Vec::from_slice(alloc, TWO_PRINTS.as_bytes())?;
+    let bytes = Vec::from_slice(alloc, source.as_bytes())?;
     let mut out = Flagged::new(Vec::new(alloc));
     let mut trace = Slow::new(alloc, fails_at);
     let outcome = run_bytes(rt, alloc, bytes, LIMIT, 4, &Open, &mut out, &mut trace);
-    drop(out);
+    let begins = if source == SUM {
+        b"3\n".as_slice()
+    } else {
+        b"12\n3\n"
+    };
+    let printed = out.into_inner();
+    if !begins.starts_with(&printed) {
+        same(alloc, "the output", begins, &printed)?;
+    }
     check_report(alloc, &outcome, line, if line.is_empty() { 0 } else { 6 })?;
     same(alloc, "the trace", written.as_bytes(), &trace.taken)
 }

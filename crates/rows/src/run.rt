@@ -24,6 +24,8 @@ impl Gate for Open {
     fn at_lent(&self, _worker: u64, _number: u64) {}
 
     fn at_end(&self, _worker: u64) {}
+
+    fn at_progress(&self, _clock: u64) {}
 }
 
 /// The result of a run.

@@ -1,0 +1,8 @@
+package main
+
+func work(done <-chan struct{}) {
+	<-done
+}
+
+func main() {
+}

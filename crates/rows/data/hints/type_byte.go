@@ -1,0 +1,6 @@
+package main
+
+type op byte
+
+func main() {
+}

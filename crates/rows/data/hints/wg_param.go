@@ -1,0 +1,8 @@
+package main
+
+func work(n int, wg *sync.WaitGroup) {
+	wg.Done()
+}
+
+func main() {
+}
