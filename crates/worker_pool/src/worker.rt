@@ -13,7 +13,7 @@ const QUANTUM: u32 = 4096;
 const QUANTA: u32 = 8;
 
 /// A lease with fewer ticks of its goroutine was short: the worker was at the lock for longer than it worked.
-const FEW_TICKS: u64 = 3000;
+const FEW_TICKS: u64 = 4000;
 
 /// Works until the run is over. The leases that lie in its queue then are dropped.
 pub(crate) fn work<B: RunName, R: Wait, G: Gate>(
