@@ -3,7 +3,7 @@
 ghost use Rattle.std.specs.Prelude.{◌≡◌, ◌≢◌, ℕ, ◌∷◌, [], ◌++◌, false, IfNone, IfOk, IfSome, None, OnErr, OnOk, Some, cond, length, option_map};
 ghost use Rattle.std.specs.List.{filter};
 ghost use Rattle.std.specs.Option.{is_some};
-ghost use Rattle.sleep_queue.specs.Keys.{owned};
+ghost use Rattle.slot_index.specs.Keys.{owned};
 ghost use Rattle.word.specs.Requests.{got, partner, partners, without, without_all};
 ghost use Rattle.word.specs.Values.{Closed};
 ghost use Rattle.word.specs.Views.{reply_of, request_of};
@@ -15,7 +15,8 @@ use crate::outcome::{Woken, got};
 use crate::rows::{enter_all, leave_all, row_on};
 use go_text::Memory;
 use slab::Slab;
-use sleep_queue::{NumberedKeys, SleepQueues};
+use sleep_queue::SleepQueues;
+use slot_index::NumberedKeys;
 use std::alloc::Global;
 use std::marker::Model;
 use std::snapshot::Snapshot;
@@ -84,7 +85,7 @@ pub(crate) struct Sleepers {
 impl Model for Sleepers {
     ghost use Rattle.std.specs.Prelude.{List};
     ghost use Rattle.slab.specs.Slab.{get, slab_len};
-    ghost use Rattle.sleep_queue.specs.Keys.{owned};
+    ghost use Rattle.slot_index.specs.Keys.{owned};
     ghost use Rattle.word.specs.Values.{Sleeper as AnySleeper};
     ghost use Rattle.channel_core.specs.Asleep.{IsAsleep, asleep_of, placed};
 
@@ -239,7 +240,7 @@ fn place(
         Ok(before) => Ok(before),
         Err(memory) => {
             leave_all(queues, key as u64);
-            Err(memory)
+            Err(memory.into())
         }
     }
 }

@@ -3,13 +3,11 @@
 
 mod heads;
 mod items;
-mod numbered_keys;
 mod offer;
 mod owners;
 mod queues;
 mod rings;
 
-pub use numbered_keys::NumberedKeys;
 pub use offer::OfferView;
 pub use queues::SleepQueues;
 pub use word::offer::Offer;

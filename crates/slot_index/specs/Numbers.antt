@@ -1,19 +1,19 @@
 -- Which numbers have slots, and which slots they have.
-use Rattle.std.specs.Prelude.{◌≡◌, ◌≢◌, ℕ, List, Option, Some, None, count_by, nat_eq, slice_index_or}
+use Rattle.std.specs.Prelude.{◌≡◌, ◌≢◌, ℕ, List, Option, Some, None, count_by, slice_index_or}
 use Rattle.std.specs.Option.{is_some}
-use Rattle.std.specs.Map.{lookup}
+use Rattle.slot_index.specs.Keys.{KeysValue, owned}
 
--- `slots` pairs each number that has a slot with it; `numbers` has, for each slot, the number that has it, if there is one; `next` is the slot that
+-- `slots` has the slot of each number that has one; `numbers` has, for each slot, the number that has it, if there is one; `next` is the slot that
 -- is given next; `room` is how many slots fit without more memory
 pub record Numbered : Type 0 where
-  pub slots : List (ℕ × ℕ)
+  pub slots : KeysValue
   pub numbers : List (Option ℕ)
   pub next : ℕ
   pub room : ℕ
 
 -- the slot of a number, if it has one
 abbrev pub slot_of : Numbered → ℕ → Option ℕ
-slot_of x n = lookup (nat_eq n) x.slots
+slot_of x n = owned x.slots n
 
 -- the number that has a slot, if there is one
 abbrev pub number_at : Numbered → ℕ → Option ℕ

@@ -3,9 +3,9 @@
 ghost use Rattle.std.specs.Prelude.{◌≡◌, ◌<◌, ℕ, None, IfOk, OnOk, OnErr};
 ghost use Rattle.slot_index.specs.Numbers.{Frees, Gives, IsInverse, living, number_at, slot_of};
 
+use crate::numbered_keys::NumberedKeys;
 use slab::Slab;
 use std::alloc::{AllocError, Global};
-use std::collections::HashMap;
 use std::marker::Model;
 
 /// The slot of each number that has one. A free slot is given before a new one is added, so memory and time depend on how many
@@ -14,21 +14,14 @@ pub struct SlotIndex {
     /// For each slot, the number that has it.
     numbers: Slab<u64>,
     /// For each number that has a slot, that slot.
-    slots: HashMap<u64, usize>,
-    /// A guess at the slot of a number, indexed by the number's last binary digits. It is tried before the map, and may be wrong.
-    recent: Vec<usize>,
+    slots: NumberedKeys,
 }
 
 impl Drop for SlotIndex {
     fn drop(self) {
-        let SlotIndex {
-            numbers,
-            slots,
-            recent,
-        } = self;
+        let SlotIndex { numbers, slots } = self;
         drop(numbers);
         drop(slots);
-        drop(recent);
     }
 }
 
@@ -37,9 +30,9 @@ impl Model for SlotIndex {
 
     ghost Value = { Numbered };
 
-    ghost view = { λ x. record { slots = x.slots.entries; numbers = x.numbers.slots; next = x.numbers.vacant_key; room = x.numbers.capacity } };
+    ghost view = { λ x. record { slots = x.slots; numbers = x.numbers.slots; next = x.numbers.vacant_key; room = x.numbers.capacity } };
 
-    ghost invariant = { λ x. IsInverse (record { slots = x.slots.entries; numbers = x.numbers.slots; next = x.numbers.vacant_key; room = x.numbers.capacity }) };
+    ghost invariant = { λ x. IsInverse (record { slots = x.slots; numbers = x.numbers.slots; next = x.numbers.vacant_key; room = x.numbers.capacity }) };
 }
 
 impl SlotIndex {
@@ -50,8 +43,7 @@ impl SlotIndex {
     {
         SlotIndex {
             numbers: Slab::new(alloc),
-            slots: HashMap::new(alloc),
-            recent: Vec::new(alloc),
+            slots: NumberedKeys::new(alloc),
         }
     }
 
@@ -60,11 +52,7 @@ impl SlotIndex {
     pub fn slot(&self, number: u64) -> Option<usize>
         ensures { result ≡ slot_of self.now number }
     {
-        let guess = self.guess(number);
-        match self.numbers.get(guess) {
-            Some(found) if *found == number => Some(guess),
-            _ => self.look_up(number),
-        }
+        self.slots.get(number)
     }
 
     /// The number that has `slot`, if there is one.
@@ -96,7 +84,6 @@ impl SlotIndex {
         self.numbers.reserve(1)?;
         self.slots.insert(number, self.numbers.vacant_key())?;
         let slot = self.numbers.insert_reserved(number);
-        self.remember(number, slot);
         Ok(slot)
     }
 
@@ -106,7 +93,7 @@ impl SlotIndex {
         ensures frees { Frees self.old number self.new }
         ensures room { self.new.room ≡ self.old.room }
     {
-        let slot = self.slots.remove(&number);
+        let slot = self.slots.remove(number);
         if let Some(slot) = slot {
             self.numbers.try_remove(slot);
         }
@@ -119,38 +106,5 @@ impl SlotIndex {
         ensures { IsInverse self.now }
     {
         let _slots = &self.slots;
-    }
-
-    /// Like `slot`, but looks only in the map.
-    #[inline(never)]
-    fn look_up(&self, number: u64) -> Option<usize>
-        ensures { result ≡ slot_of self.now number }
-    {
-        self.slots.get(&number).copied()
-    }
-
-    /// A slot that is probably the one of `number`, if it has one.
-    #[inline(always)]
-    fn guess(&self, number: u64) -> usize {
-        let place = number as usize & self.recent.len().wrapping_sub(1);
-        match self.recent.get(place) {
-            Some(slot) => *slot,
-            None => 0,
-        }
-    }
-
-    /// Makes `slot` the guess for `number`. The list has a power of two of guesses, and at least one for each slot unless memory is
-    /// short.
-    fn remember(&mut self, number: u64, slot: usize)
-        ensures { self.new ≡ self.old }
-    {
-        let len = self.recent.len();
-        if len <= slot {
-            let _ = self.recent.resize((len * 2).max(64), 0);
-        }
-        let place = number as usize & self.recent.len().wrapping_sub(1);
-        if let Some(recent) = self.recent.get_mut(place) {
-            *recent = slot;
-        }
     }
 }

@@ -2,5 +2,7 @@
 #![tactic(auto)]
 
 mod index;
+mod numbered_keys;
 
 pub use index::SlotIndex;
+pub use numbered_keys::NumberedKeys;

@@ -27,7 +27,7 @@ use Rattle.goroutine_vm.proofs.sleeping.Sleeping.TheSendSync.{the_send as sleepi
 use Rattle.goroutine_vm.proofs.state.GoState.TheSendSync.{the_send as state_send}
 use Rattle.goroutine_vm_request.proofs.lists.RequestLists.TheSendSync.{the_field_send as lists_send}
 use Rattle.slab.proofs.Slab.TheSendSync.{the_send as slab_send}
-use Rattle.sleep_queue.proofs.numbered_keys.NumberedKeys.TheSendSync.{the_send as keys_send}
+use Rattle.slot_index.proofs.numbered_keys.NumberedKeys.TheSendSync.{the_send as keys_send}
 use Rattle.sleep_queue.proofs.owners.Owners.TheSendSync.{the_send as owners_send}
 use Rattle.sleep_queue.proofs.rings.Rings.TheSendSync.{the_send as rings_send}
 use Rattle.sleep_queue.specs.contracts.offer.Kept as Kept

@@ -1,7 +1,7 @@
 use Rattle.std.proofs.Common.{◌++◌, ◌∷◌, [], List, ap, subst, sym, ◌∙◌}
 use Rattle.std.specs.List.{filter}
 use Rattle.slab.specs.Slab.{Slab, Updates, get, slab_len}
-use Rattle.sleep_queue.specs.Keys.{owned}
+use Rattle.slot_index.specs.Keys.{owned}
 use Rattle.std.specs.Prelude.{Some}
 use Rattle.word.specs.Requests.{without}
 use Rattle.word.specs.Values.{Sleeper}

@@ -2,7 +2,7 @@ use Rattle.std.proofs.Common.{◌≡◌, ℕ, Bool, List, [], ◌∷◌, Some, N
 use Rattle.std.specs.Prelude.{cond}
 use Rattle.std.specs.Option.{is_some}
 use Rattle.slab.specs.Slab.{get, slab_len}
-use Rattle.sleep_queue.specs.Keys.{owned}
+use Rattle.slot_index.specs.Keys.{owned}
 use Rattle.sleep_queue.specs.Stored.{view_of}
 use Rattle.word.specs.Requests.{got, partners, without}
 use Rattle.word.specs.Values.{Closed, Reply, Sleeper}

@@ -1,7 +1,7 @@
 use Rattle.std.proofs.Common.{List, ap, sym, ◌∙◌}
 use Rattle.std.specs.Option.{is_some}
 use Rattle.slab.specs.Slab.{get, slab_len}
-use Rattle.sleep_queue.specs.Keys.{owned}
+use Rattle.slot_index.specs.Keys.{owned}
 use Rattle.word.specs.Requests.{without}
 use Rattle.word.specs.Values.{Sleeper}
 use Rattle.channel_core.specs.Asleep.{placed}

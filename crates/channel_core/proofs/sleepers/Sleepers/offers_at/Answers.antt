@@ -1,7 +1,7 @@
 use Rattle.std.proofs.Common.{ℕ, List, ap, ◌∙◌, false, length}
 use Rattle.std.specs.List.{filter}
 use Rattle.slab.specs.Slab.{get, slab_len}
-use Rattle.sleep_queue.specs.Keys.{owned}
+use Rattle.slot_index.specs.Keys.{owned}
 use Rattle.sleep_queue.specs.Queue.{is_in_either}
 use Rattle.word.specs.Values.{Sleeper}
 use Rattle.channel_core.specs.Asleep.{row_on}

@@ -1,7 +1,7 @@
 use Rattle.std.proofs.Common.{List, Some, None, ap, refl, sym, ◌∙◌}
 use Rattle.std.specs.Prelude.{option_copied, option_map}
 use Rattle.slab.specs.Slab.{get, slab_len}
-use Rattle.sleep_queue.specs.Keys.{owned}
+use Rattle.slot_index.specs.Keys.{owned}
 use Rattle.sleep_queue.specs.Stored.{view_of}
 use Rattle.word.specs.Requests.{partner}
 use Rattle.word.specs.Values.{Sleeper}

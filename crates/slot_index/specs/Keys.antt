@@ -2,8 +2,8 @@
 use Rattle.std.specs.Prelude.{ℕ, ◌%◌, ◌==◌, Bool, true, List, Option, None, Some, cond, nat_eq, slice_index_or}
 use Rattle.std.specs.Map.{lookup}
 use Rattle.std.specs.Option.{option_or}
-use Rattle.sleep_queue.specs.declared.numbered_keys.NumberedKey.{NumberedKey}
-use Rattle.sleep_queue.specs.declared.numbered_keys.TheConstants.{NEAR}
+use Rattle.slot_index.specs.declared.numbered_keys.NumberedKey.{NumberedKey}
+use Rattle.slot_index.specs.declared.numbered_keys.TheConstants.{NEAR}
 
 pub record KeysValue : Type 0 where
   pub near : List (Option NumberedKey)

@@ -2,10 +2,9 @@
 
 ghost use Rattle.std.specs.Prelude.{◌≡◌, ◌≢◌, ◌<◌, ◌%◌, ℕ, None, Some, IfOk, IfSome, OnErr, OnOk, false, length, true};
 ghost use Rattle.std.specs.Option.{option_or};
-ghost use Rattle.sleep_queue.specs.Keys.{far_key, is_free_for, key_for, near_at, owned};
-ghost use Rattle.sleep_queue.specs.declared.numbered_keys.TheConstants.{NEAR};
+ghost use Rattle.slot_index.specs.Keys.{far_key, is_free_for, key_for, near_at, owned};
+ghost use Rattle.slot_index.specs.declared.numbered_keys.TheConstants.{NEAR};
 
-use go_text::Memory;
 use std::alloc::{AllocError, Global};
 use std::collections::HashMap;
 use std::marker::Model;
@@ -30,7 +29,7 @@ pub struct NumberedKeys {
 }
 
 impl Model for NumberedKeys {
-    ghost use Rattle.sleep_queue.specs.Keys.{KeysValue};
+    ghost use Rattle.slot_index.specs.Keys.{KeysValue};
 
     ghost Value = { KeysValue };
 
@@ -49,6 +48,7 @@ impl NumberedKeys {
     }
 
     /// The number's key.
+    #[inline(always)]
     pub fn get(&self, number: u64) -> Option<usize>
         ensures { result ≡ owned self.now number }
     {
@@ -60,11 +60,9 @@ impl NumberedKeys {
 
     /// Gives the number this key. Returns the key that it had.
     ///
-    /// # Errors
-    ///
-    /// `Memory` if it is out of memory.
+    /// Errors: out of memory.
     #[inline(always)]
-    pub fn insert(&mut self, number: u64, key: usize) -> Result<Option<usize>, Memory>
+    pub fn insert(&mut self, number: u64, key: usize) -> Result<Option<usize>, AllocError>
         ensures old { IfOk result (λ old. old ≡ owned self.old number) }
         ensures own { OnOk result (owned self.new number ≡ Some key) }
         ensures others { OnOk result ((n : ℕ) → n ≢ number → owned self.new n ≡ owned self.old n) }
@@ -79,7 +77,7 @@ impl NumberedKeys {
 
     /// Like `insert`, whatever is at the number's index. This rare path is not inlined.
     #[inline(never)]
-    fn insert_anywhere(&mut self, number: u64, key: usize) -> Result<Option<usize>, Memory>
+    fn insert_anywhere(&mut self, number: u64, key: usize) -> Result<Option<usize>, AllocError>
         ensures old { IfOk result (λ old. old ≡ owned self.old number) }
         ensures own { OnOk result (owned self.new number ≡ Some key) }
         ensures others { OnOk result ((n : ℕ) → n ≢ number → owned self.new n ≡ owned self.old n) }
@@ -120,6 +118,7 @@ fn first_of(near: Option<usize>, far: Option<usize>) -> Option<usize>
 }
 
 /// The key of `number`, if it is in the short list.
+#[inline(always)]
 fn near_key(near: &[Option<NumberedKey>], number: u64) -> Option<usize>
     ensures { result ≡ key_for (near_at near.now number) number }
 {
@@ -140,6 +139,7 @@ fn is_free(near: &[Option<NumberedKey>], number: u64) -> bool
 }
 
 /// The entry at the index of `number`, if any.
+#[inline(always)]
 fn at(near: &[Option<NumberedKey>], number: u64) -> Option<NumberedKey>
     ensures { result ≡ near_at near.now number }
 {
