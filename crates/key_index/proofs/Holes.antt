@@ -7,14 +7,18 @@ use Rattle.std.proofs.lemmas.Bool.{cases_eq, cases_lt}
 use Rattle.logical_clock.specs.declared.key.Key.{Key}
 use Rattle.logical_clock.specs.Order.{is_before}
 use Rattle.key_index.specs.declared.heap.Entry.{Entry}
+use Rattle.key_index.specs.declared.heap.TheConstants.{NOWHERE}
 use Rattle.key_index.specs.Heap.{IsAboveChildren, IsBelowParent, IsFilled, IsHeap, IsHeapBut, IsHole, IsIndexWith, entry_at, key_at, keys_with, nobody}
-use Rattle.key_index.proofs.Orders.{Turned, around_above, but_heap, down_below, down_others, not_before_trans, up_above, up_others}
+use Rattle.key_index.proofs.Orders.{Turned, around_above, but_heap, down_others, up_above, up_others}
 
 pub some_within : (keys : List (Option Key)) (slot : ℕ) (k : Key) → slice_index_or keys slot None ≡ Some k → slot < length keys
 some_within keys slot k h = elim (cases_lt slot (length keys)) [
   | inl l ↦ l
   | inr l ↦ let out : slice_index_or keys slot None ≡ None = get_or-eq_default keys None l in cc
 ]
+
+some_or_free : (keys : List (Option Key)) (slot : ℕ) (k : Key) → slice_index_or keys slot None ≡ Some k → slice_index_or keys slot None ≡ None → ⊥
+some_or_free keys slot k h e = let both : Some k ≡ None = sym h ∙ e in absurd (cc)
 
 pub slot_within : (heap : List Entry) (places : List ℕ) (q : ℕ) (e : Entry) → IsHole heap places q e → e.slot < length places
 slot_within heap places q e x =
@@ -117,11 +121,18 @@ module _ (heap : List Entry) (places : List ℕ) (q p : ℕ) (e m : Entry) (is :
       ]
     ]
 
+    moved_free : (s : ℕ) → s < length (set (set places m.slot q) e.slot p) → slice_index_or keys s None ≡ None → slice_index (set (set places m.slot q) e.slot p) s ≡ NOWHERE
+    moved_free s l h =
+        let ne : s ≢ e.slot = λ z. some_or_free keys e.slot e.key of_e.0 (ap (λ (t : ℕ). slice_index_or keys t None) (sym z) ∙ h) in
+        let nm : s ≢ m.slot = λ z. some_or_free keys m.slot m.key of_m.0 (ap (λ (t : ℕ). slice_index_or keys t None) (sym z) ∙ h) in
+        place_others s nm ne ∙ x.free s (omega (arith, l, length-set (set places m.slot q) e.slot p, length-set places m.slot q, length-set places e.slot q)) h
+
     pub moved_index : IsIndexWith keys (set heap q m) (set places m.slot q) p e
     moved_index = record {
       slots = size ∙ sym (length-set (set places m.slot q) e.slot p ∙ length-set places m.slot q);
       place = λ s k h. let r = moved_place s k h in (omega (arith, r.0, next_length, length-set heap q e), r.1);
       entry = λ i il. moved_entry i (omega (arith, next_length, length-set heap q e));
+      free = moved_free;
     }
 
   pub moved_slot : IsHole heap places q e → m.slot < length places
@@ -155,24 +166,9 @@ module _ (heap : List Entry) (places : List ℕ) (q p : ℕ) (e m : Entry) (is :
         (up_above _ _ (length heap) p q low high ql moved_keys x.but (around_above _ (length heap) p q low high x.but before_up) before_up)
 
   -- down to the child of least key
-  module _ (low : 2 * q + 1 ≤ p) (high : p ≤ 2 * q + 2) (x : IsHole heap places q e) (below : IsBelowParent (keys_with heap q e) q) (before : is_before (key_at heap p) e.key ≡ true) where
-    before_down : is_before (keys_with heap q e p) (keys_with heap q e q) ≡ true
-    before_down = subst (λ (k : Key). is_before (keys_with heap q e p) k ≡ true) (sym key_q) (subst (λ (k : Key). is_before k e.key ≡ true) (sym (key_past p apart)) before)
-
-    pub down_hole : ((i : ℕ) → i < length heap → 2 * q + 1 ≤ i → i ≤ 2 * q + 2 → is_before (key_at heap i) (key_at heap p) ≡ false) → IsHole (set heap q m) (set places m.slot q) p e
-    down_hole least = moved_hole x (down_others _ _ (length heap) q p low high pl moved_keys x.but below
-        (λ i il lo hi. subst (λ (k : Key). is_before k (keys_with heap q e p) ≡ false) (sym (key_past i (omega arith))) (subst (λ (k : Key). is_before (key_at heap i) k ≡ false) (sym (key_past p apart)) (least i il lo hi))) before_down)
-
-    pub down_parent : IsBelowParent (keys_with (set heap q m) p e) p
-    down_parent = down_below _ _ (length heap) q p low high moved_keys before_down
-
--- an entry whose key isn't after the least one of its children's
-pub above_least : (heap : List Entry) (q : ℕ) (e : Entry) (c : ℕ) → q < length heap → is_before (key_at heap c) e.key ≡ false
-    → ((i : ℕ) → i < length heap → 2 * q + 1 ≤ i → i ≤ 2 * q + 2 → is_before (key_at heap i) (key_at heap c) ≡ false) → IsAboveChildren (keys_with heap q e) (length heap) q
-above_least heap q e c ql after least = λ i il lo hi.
-    let own : keys_with heap q e q ≡ e.key = ap (λ (n : Entry). n.key) (get_or-set_same heap q e nobody ql) in
-    let past : keys_with heap q e i ≡ key_at heap i = ap (λ (n : Entry). n.key) (get_or-set_other heap q i e nobody (omega arith)) in
-    subst (λ (k : Key). is_before (keys_with heap q e i) k ≡ false) (sym own) (subst (λ (k : Key). is_before k e.key ≡ false) (sym past) (not_before_trans e.key (key_at heap c) (key_at heap i) after (least i il lo hi)))
+  pub down_hole : 2 * q + 1 ≤ p → p ≤ 2 * q + 2 → IsHole heap places q e → ((i : ℕ) → i < length heap → 2 * q + 1 ≤ i → i ≤ 2 * q + 2 → is_before (key_at heap i) (key_at heap p) ≡ false) → IsHole (set heap q m) (set places m.slot q) p e
+  down_hole low high x least = moved_hole x (down_others _ _ (length heap) q p low high pl moved_keys x.but
+      (λ i il lo hi. subst (λ (k : Key). is_before k (keys_with heap q e p) ≡ false) (sym (key_past i (omega arith))) (subst (λ (k : Key). is_before (key_at heap i) k ≡ false) (sym (key_past p apart)) (least i il lo hi))))
 
 -- the entry is put at the hole
 pub filled_at : (heap : List Entry) (places : List ℕ) (q : ℕ) (e : Entry) → IsHole heap places q e → IsAboveChildren (keys_with heap q e) (length heap) q → IsBelowParent (keys_with heap q e) q

@@ -1,16 +1,17 @@
--- Which slot has the least key, and what one slot more keeps.
-use Rattle.std.proofs.Common.{◌≡◌, ◌≢◌, Bool, ℕ, zero, suc, ◌+◌, ◌<◌, ◌≤◌, false, List, [], ◌∷◌, ◌++◌, length, sym, ap, subst, ◌∙◌, inl, inr, arith, Option, Some, None}
-use Rattle.std.specs.Prelude.{◌==◌, slice_index, slice_index_or, IfNone, IfSome}
+-- Which slot has the least key, what one slot more keeps, and how an index shows the keys.
+use Rattle.std.proofs.Common.{◌≡◌, Bool, ℕ, zero, suc, ◌+◌, ◌<◌, ◌≤◌, ◌^◌, false, List, [], ◌∷◌, ◌++◌, length, map, replicate, refl, sym, ap, subst, ◌∙◌, inl, inr, arith, Option, Some, None}
+use Rattle.std.specs.Prelude.{◌==◌, slice_index, slice_index_or, IsSome}
 use Rattle.std.proofs.Math.ListN.{get_or-append, get_or-eq_default}
-use Rattle.std.proofs.lemmas.List.{get_or_push, length-append}
+use Rattle.std.proofs.lemmas.List.{ext_get_or, get_or_push, get_or-map, length-append, length-map}
 use Rattle.std.proofs.lemmas.Bool.{cases_eq, cases_lt, false≢true}
 use Rattle.logical_clock.specs.declared.key.Key.{Key}
 use Rattle.logical_clock.specs.Order.{is_before}
 use Rattle.key_index.specs.declared.heap.Entry.{Entry}
-use Rattle.key_index.specs.Heap.{IsHeap, IsIndex, entry_at, key_at}
+use Rattle.key_index.specs.declared.heap.TheConstants.{NOWHERE}
+use Rattle.key_index.specs.Heap.{IsHeap, IsIndex, IsLeast, IsOrdered, entry_at, key_at, key_in, keys_of, nobody}
 use Rattle.key_index.proofs.Orders.{root_least}
 use Rattle.key_index.proofs.Holes.{some_within}
-use Rattle.key_index.proofs.Slots.{some_or_none}
+use Rattle.key_index.proofs.Slots.{fits, some_key, some_or_none}
 
 pub some_entry : (n : ℕ) (b : Bool) → b ≡ (n == 0) → b ≡ false → 0 < n
 some_entry zero b e f = absurd (false≢true (sym f ∙ e))
@@ -25,39 +26,18 @@ module _ (keys : List (Option Key)) (heap : List Entry) (places : List ℕ) (x :
       let p = stands s k h in
       subst (λ (j : Key). is_before j (key_at heap 0) ≡ false) p.1 (root_least (key_at heap) (length heap) order (length heap) (slice_index places s) p.0 p.0)
 
+  -- if a slot is taken, the first entry is there, and is least
+  pub some_first : (s : ℕ) → IsSome (slice_index_or keys s None) → 0 < length heap
+  some_first s some = let k = some_key (slice_index_or keys s None) some in let p = stands s k.0 k.1 in omega (arith, p.0)
+
+  pub least_first : IsHeap (key_at heap) (length heap) → 0 < length heap → (e : Entry) → e ≡ entry_at heap 0 → IsLeast keys e.slot e.key
+  least_first order some e is = subst (λ (n : Entry). IsLeast keys n.slot n.key) (sym is) ((x.entry 0 some).0, first_least order)
+
   pub none_taken : length heap ≡ 0 → (s : ℕ) → slice_index_or keys s None ≡ None
   none_taken empty s = elim (some_or_none (slice_index_or keys s None)) [
     | inl e ↦ e
     | inr e ↦ let p = stands s e.0 e.1 in absurd (omega (arith, p.0, empty))
   ]
-
-  -- the slots but the one at index 0, which are at the indices after it
-  module _ (slot : ℕ) (first : (entry_at heap 0).slot ≡ slot) where
-    following : (s : ℕ) (k : Key) → s ≢ slot → slice_index_or keys s None ≡ Some k → (0 < slice_index places s) × (slice_index places s < length heap) × (key_at heap (slice_index places s) ≡ k)
-    following s k ne h =
-        let p = x.place s k h in
-        let apart : slice_index places s ≢ 0 = λ z. ne (ap (λ (n : Entry). n.slot) (sym p.1 ∙ ap (entry_at heap) z) ∙ first) in
-        (omega arith, p.0, ap (λ (n : Entry). n.key) p.1)
-
-    pub none_following : (o : Option Key) → IfNone o (length heap ≤ 1) → IfNone o ((s : ℕ) → s ≢ slot → slice_index_or keys s None ≡ None)
-    none_following (Some k) h = tt
-    none_following None h = λ s ne. elim (some_or_none (slice_index_or keys s None)) [
-      | inl e ↦ e
-      | inr e ↦ let b = following s e.0 ne e.1 in absurd (omega (arith, b.0, b.1, h))
-    ]
-
-    pub one_following : (o : Option Key) → IfSome o (λ (k : Key). (i : ℕ) × (0 < i) × (i < length heap) × (key_at heap i ≡ k)) → IfSome o (λ (k : Key). (s : ℕ) × (s ≢ slot) × (slice_index_or keys s None ≡ Some k))
-    one_following None h = tt
-    one_following (Some k) h =
-        let there = x.entry h.0 h.2 in
-        let root = x.entry 0 (omega (arith, h.2)) in
-        let apart : (entry_at heap h.0).slot ≢ slot = λ e. absurd (omega (arith, h.1, sym there.1 ∙ ap (slice_index places) (e ∙ sym first) ∙ root.1)) in
-        ((entry_at heap h.0).slot, apart, there.0 ∙ ap Some h.3)
-
-    pub least_after : (o : Option Key) → IfSome o (λ (k : Key). (i : ℕ) → 0 < i → i < length heap → is_before (key_at heap i) k ≡ false)
-        → IfSome o (λ (k : Key). (s : ℕ) (m : Key) → s ≢ slot → slice_index_or keys s None ≡ Some m → is_before m k ≡ false)
-    least_after None h = tt
-    least_after (Some k) h = λ s m ne e. let b = following s m ne e in subst (λ (j : Key). is_before j k ≡ false) b.2 (h (slice_index places s) b.0 b.1)
 
   -- one slot more, which is free
   grown_key : (s : ℕ) → slice_index_or (keys ++ None ∷ []) s None ≡ slice_index_or keys s None
@@ -71,16 +51,55 @@ module _ (keys : List (Option Key)) (heap : List Entry) (places : List ℕ) (x :
     ]
   ]
 
-  grown_place : (s : ℕ) (k : Key) → slice_index_or keys s None ≡ Some k → slice_index (places ++ 0 ∷ []) s ≡ slice_index places s
-  grown_place s k h = get_or-append places (0 ∷ []) 0 s (omega (arith, some_within keys s k h, x.slots))
+  grown_place : (s : ℕ) (k : Key) → slice_index_or keys s None ≡ Some k → slice_index (places ++ NOWHERE ∷ []) s ≡ slice_index places s
+  grown_place s k h = get_or-append places (NOWHERE ∷ []) 0 s (omega (arith, some_within keys s k h, x.slots))
 
-  pub grown : IsIndex (keys ++ None ∷ []) heap (places ++ 0 ∷ [])
+  pub grown : IsIndex (keys ++ None ∷ []) heap (places ++ NOWHERE ∷ [])
   grown = record {
-    slots = length-append keys (None ∷ []) ∙ ap (λ (n : ℕ). n + 1) x.slots ∙ sym (length-append places (0 ∷ []));
+    slots = length-append keys (None ∷ []) ∙ ap (λ (n : ℕ). n + 1) x.slots ∙ sym (length-append places (NOWHERE ∷ []));
     place = λ s k h.
         let had : slice_index_or keys s None ≡ Some k = sym (grown_key s) ∙ h in
         let to = grown_place s k had in
         let p = x.place s k had in
         (omega (arith, p.0, to), ap (entry_at heap) to ∙ p.1);
     entry = λ i il. let p = x.entry i il in (grown_key (entry_at heap i).slot ∙ p.0, grown_place (entry_at heap i).slot (key_at heap i) p.0 ∙ p.1);
+    free = λ s l h. elim (cases_lt s (length places)) [
+      | inl low ↦ get_or-append places (NOWHERE ∷ []) 0 s low ∙ x.free s low (sym (grown_key s) ∙ h)
+      | inr high ↦ get_or_push places NOWHERE 0 s (omega (arith, l, length-append places (NOWHERE ∷ [])))
+    ];
   }
+
+-- the keys are those that heap and indices show
+module _ (keys : List (Option Key)) (heap : List Entry) (places : List ℕ) (room : ℕ) (o : IsOrdered keys heap places room) (small : room < 2 ^ 63) where
+  short : length heap < NOWHERE
+  short = omega (arith, fits keys heap places o.index, o.slots, small)
+
+  past : (i : ℕ) → length heap ≤ i → key_in heap i ≡ None
+  past i l = get_or-eq_default (map (λ (n : Entry). Some n.key) heap) None (omega (arith, l, length-map heap (λ (n : Entry). Some n.key)))
+
+  shown_key : (s : ℕ) → s < length places → key_in heap (slice_index places s) ≡ slice_index_or keys s None
+  shown_key s l = elim (some_or_none (slice_index_or keys s None)) [
+    | inl e ↦ past (slice_index places s) (omega (arith, short, o.index.free s l e)) ∙ sym e
+    | inr e ↦ let p = stands keys heap places o.index s e.0 e.1 in get_or-map (λ (n : Entry). Some n.key) heap (slice_index places s) nobody None p.0 ∙ ap Some p.1 ∙ sym e.1
+  ]
+
+  pub shown : keys_of heap places ≡ keys
+  shown = ext_get_or None (keys_of heap places) keys (length-map places (key_in heap) ∙ sym o.index.slots)
+      (λ s l. let low : s < length places = omega (arith, l, length-map places (key_in heap)) in get_or-map (key_in heap) places s 0 None low ∙ shown_key s low)
+
+  pub shown_ordered : IsOrdered (keys_of heap places) heap places room
+  shown_ordered = subst (λ (ks : List (Option Key)). IsOrdered ks heap places room) (sym shown) o
+
+  -- a slot whose index is `NOWHERE` is free
+  pub free_key : (s : ℕ) → slice_index places s ≡ NOWHERE → slice_index_or keys s None ≡ None
+  free_key s e = elim (some_or_none (slice_index_or keys s None)) [
+    | inl none ↦ none
+    | inr some ↦ let p = stands keys heap places o.index s some.0 some.1 in absurd (omega (arith, p.0, e, short))
+  ]
+
+-- slots that are all free
+pub all_free : (heap : List Entry) (places : List ℕ) (n : ℕ) → heap ≡ [] → places ≡ replicate n NOWHERE → keys_of heap places ≡ replicate n None
+all_free heap places n none free = ap (λ (h : List Entry). keys_of h places) none ∙ ap (keys_of []) free ∙ of_free n where
+  of_free : (m : ℕ) → keys_of [] (replicate m NOWHERE) ≡ replicate m None
+  of_free zero = refl
+  of_free (suc m) = ap (λ (ks : List (Option Key)). None ∷ ks) (of_free m)

@@ -1,6 +1,6 @@
 -- What it takes to give a slot a key, or to free it.
 use Rattle.std.proofs.Common.{◌≡◌, ◌≢◌, ℕ, suc, ◌+◌, ◌<◌, ◌≤◌, true, false, List, [], ◌∷◌, ◌++◌, length, refl, sym, ap, subst, ◌∙◌, inl, inr, ◌⊎◌, arith, get_or, set, get_or-set_same, get_or-set_other, length-set, Option, Some, None, map, Bool, ◌||◌}
-use Rattle.std.specs.Prelude.{slice_index, slice_index_or, slice_set, MatchOption, IsSome}
+use Rattle.std.specs.Prelude.{slice_index, slice_index_or, slice_set, IsSome}
 use Rattle.std.specs.List.{AllPairs, list_any}
 use Rattle.std.proofs.Math.Dec.{eqb}
 use Rattle.std.proofs.Math.ListN.{get_or-append}
@@ -13,7 +13,8 @@ use Rattle.std.proofs.lemmas.Bool.{cases_eq, cases_lt, false≢true}
 use Rattle.logical_clock.specs.declared.key.Key.{Key}
 use Rattle.logical_clock.specs.Order.{is_before}
 use Rattle.key_index.specs.declared.heap.Entry.{Entry}
-use Rattle.key_index.specs.Heap.{IsAboveChildren, IsBelowParent, IsHeap, IsHeapBut, IsHole, IsIndex, IsIndexWith, entry_at, key_at, keys_with, nobody}
+use Rattle.key_index.specs.declared.heap.TheConstants.{NOWHERE}
+use Rattle.key_index.specs.Heap.{IsAboveChildren, IsHeap, IsHeapBut, IsHole, IsIndex, IsIndexWith, entry_at, key_at, keys_with, nobody}
 use Rattle.key_index.proofs.Orders.{not_before_trans}
 use Rattle.key_index.proofs.Holes.{some_within}
 
@@ -35,10 +36,6 @@ some_or_none (Some k) = inr (k, refl)
 pub some_key : (o : Option Key) → IsSome o → (k : Key) × (o ≡ Some k)
 some_key None h = absurd (false≢true h)
 some_key (Some k) h = (k, refl)
-
-pub lift_old : (o : Option Key) (v : Key) → MatchOption o ⊥ (λ old. is_before v old ≡ false) → (old : Key) × (o ≡ Some old) × (is_before v old ≡ false)
-lift_old None v h = absurd h
-lift_old (Some k) v h = (k, refl, h)
 
 -- the entry of a slot is at q, where the heap had space or the slot's own entry
 module _ (keys : List (Option Key)) (heap heap1 : List Entry) (places : List ℕ) (x : IsIndex keys heap places) (slot q : ℕ) (v : Key) (e : Entry) (is : e ≡ record { key = v; slot = slot }) (within : slot < length keys) (ql : q < length heap1) (le : length heap ≤ length heap1)
@@ -90,11 +87,18 @@ module _ (keys : List (Option Key)) (heap heap1 : List Entry) (places : List ℕ
         (get_or-set_other keys slot (entry_at heap i).slot (Some v) None ns ∙ was.0, other_place (entry_at heap i).slot ns ∙ was.1)
   ]
 
+  placed_free : (s : ℕ) → s < length (set places e.slot q) → slice_index_or (set keys slot (Some v)) s None ≡ None → slice_index (set places e.slot q) s ≡ NOWHERE
+  placed_free s l h = elim (cases_eq s slot) [
+    | inl se ↦ let some : Some v ≡ None = sym (get_or-set_same keys slot (Some v) None within) ∙ ap (λ (j : ℕ). slice_index_or (set keys slot (Some v)) j None) (sym se) ∙ h in absurd (cc)
+    | inr ne ↦ other_place s ne ∙ x.free s (omega (arith, l, length-set places e.slot q)) (sym (get_or-set_other keys slot s (Some v) None ne) ∙ h)
+  ]
+
   placed : IsIndexWith (set keys slot (Some v)) heap1 places q e
   placed = record {
     slots = length-set keys slot (Some v) ∙ x.slots ∙ sym (length-set places e.slot q);
     place = placed_place;
     entry = placed_entry;
+    free = placed_free;
   }
 
 -- a taken slot's key changes
@@ -136,14 +140,6 @@ module _ (keys : List (Option Key)) (heap : List Entry) (places : List ℕ) (x :
     but = changed_but e;
   }
 
-  pub changed_below : (e : Entry) → e ≡ record { key = v; slot = slot } → is_before v old ≡ false → IsBelowParent (keys_with heap q e) q
-  changed_below e is later = λ p lo hi.
-      let new : keys_with heap q e q ≡ v = ap (λ (n : Entry). n.key) (get_or-set_same heap q e nobody old_place ∙ is) in
-      let past : keys_with heap q e p ≡ key_at heap p = changed_key e p (omega arith) in
-      let had : key_at heap q ≡ old = ap (λ (n : Entry). n.key) old_entry in
-      subst (λ (k : Key). is_before k (keys_with heap q e p) ≡ false) (sym new) (subst (λ (k : Key). is_before v k ≡ false) (sym past)
-      (not_before_trans (key_at heap p) old v (subst (λ (k : Key). is_before k (key_at heap p) ≡ false) had (order p q old_place lo hi)) later))
-
 -- a free slot gets a key
 module _ (keys : List (Option Key)) (heap : List Entry) (places : List ℕ) (x : IsIndex keys heap places) (slot : ℕ) (v : Key) (e : Entry) (is : e ≡ record { key = v; slot = slot }) (within : slot < length keys) (free : slice_index_or keys slot None ≡ None) where
   pushed_length : length (heap ++ e ∷ []) ≡ length heap + 1
@@ -177,6 +173,104 @@ module _ (keys : List (Option Key)) (heap : List Entry) (places : List ℕ) (x :
 
   pub inserted_above : IsAboveChildren (keys_with (heap ++ e ∷ []) (length heap) e) (length (heap ++ e ∷ [])) (length heap)
   inserted_above = λ i il lo hi. absurd (omega (arith, il, lo, pushed_length))
+
+-- the first entry gives way to that of a free slot
+module _ (keys : List (Option Key)) (heap : List Entry) (places : List ℕ) (x : IsIndex keys heap places) (some : 0 < length heap) (first : Entry) (is : first ≡ entry_at heap 0) (slot : ℕ) (v : Key) (e : Entry) (own : e ≡ record { key = v; slot = slot }) (within : slot < length keys)
+    (free : slice_index_or keys slot None ≡ None) where
+  abbrev left : List (Option Key)
+  left = set keys first.slot None
+
+  abbrev out : List ℕ
+  out = set places first.slot NOWHERE
+
+  of_first : (slice_index_or keys first.slot None ≡ Some first.key) × (slice_index places first.slot ≡ 0)
+  of_first = subst (λ (n : Entry). (slice_index_or keys n.slot None ≡ Some n.key) × (slice_index places n.slot ≡ 0)) (sym is) (x.entry 0 some)
+
+  first_within : first.slot < length places
+  first_within = omega (arith, x.slots, some_within keys first.slot first.key of_first.0)
+
+  not_first : (i : ℕ) → i < length heap → i ≢ 0 → (entry_at heap i).slot ≢ first.slot
+  not_first i il ne h = ne (sym (x.entry i il).1 ∙ ap (slice_index places) h ∙ of_first.1)
+
+  left_place : (s : ℕ) (k : Key) → slice_index_or left s None ≡ Some k → (s ≢ first.slot) × (slice_index_or keys s None ≡ Some k)
+  left_place s k h = elim (cases_eq s first.slot) [
+    | inl q ↦ let none : slice_index_or left s None ≡ None = ap (λ (j : ℕ). slice_index_or left j None) q ∙ get_or-set_same keys first.slot None None (some_within keys first.slot first.key of_first.0) in cc
+    | inr ne ↦ (ne, sym (get_or-set_other keys first.slot s None None ne) ∙ h)
+  ]
+
+  away : (s : ℕ) (k : Key) → slice_index_or left s None ≡ Some k → slice_index places s ≢ 0
+  away s k h z = let had = left_place s k h in had.0 (ap (λ (n : Entry). n.slot) (sym (x.place s k had.1).1 ∙ ap (entry_at heap) z ∙ sym is))
+
+  slot_apart : (i : ℕ) → i < length heap → (entry_at heap i).slot ≢ slot
+  slot_apart i il h = let taken : slice_index_or keys slot None ≡ Some (key_at heap i) = ap (λ (s : ℕ). slice_index_or keys s None) (sym h) ∙ (x.entry i il).0 in cc
+
+  -- all entries but the first
+  rest_place : (s : ℕ) → s ≢ slot → slice_index (set out slot 0) s ≡ slice_index out s
+  rest_place s ne = get_or-set_other out slot s 0 0 ne
+
+  -- the entry of a slot is at index 0, and those of the others where they were
+  replaced_place : (s : ℕ) (k : Key) → slice_index_or (set left slot (Some v)) s None ≡ Some k
+      → (slice_index (set out slot 0) s < length (set heap 0 e)) × (entry_at (set heap 0 e) (slice_index (set out slot 0) s) ≡ record { key = k; slot = s })
+  replaced_place s k h = elim (cases_eq s slot) [
+    | inl q ↦
+        let to : slice_index (set out slot 0) s ≡ 0 = ap (slice_index (set out slot 0)) q ∙ get_or-set_same out slot 0 0 (omega (arith, x.slots, length-set places first.slot NOWHERE)) in
+        let kv : v ≡ k = some_same v k (sym (get_or-set_same left slot (Some v) None (omega (arith, length-set keys first.slot None))) ∙ ap (λ (j : ℕ). slice_index_or (set left slot (Some v)) j None) (sym q) ∙ h) in
+        (omega (arith, to, some, length-set heap 0 e), ap (entry_at (set heap 0 e)) to ∙ get_or-set_same heap 0 e nobody some ∙ own ∙ ap (λ (j : Key). record { key = j; slot = slot }) kv ∙ ap (λ (t : ℕ). record { key = k; slot = t }) (sym q))
+    | inr ne ↦
+        let rest : slice_index_or left s None ≡ Some k = sym (get_or-set_other left slot s (Some v) None ne) ∙ h in
+        let had = left_place s k rest in
+        let p = x.place s k had.1 in
+        let to : slice_index (set out slot 0) s ≡ slice_index places s = rest_place s ne ∙ get_or-set_other places first.slot s NOWHERE 0 had.0 in
+        (omega (arith, to, p.0, length-set heap 0 e), ap (entry_at (set heap 0 e)) to ∙ get_or-set_other heap 0 (slice_index places s) e nobody (away s k rest) ∙ p.1)
+  ]
+
+  replaced_entry : (i : ℕ) → i < length (set heap 0 e)
+      → (slice_index_or (set left slot (Some v)) (entry_at (set heap 0 e) i).slot None ≡ Some (key_at (set heap 0 e) i)) × (slice_index (set out slot 0) (entry_at (set heap 0 e) i).slot ≡ i)
+  replaced_entry i il = elim (cases_eq i 0) [
+    | inl z ↦
+        subst (λ (n : Entry). (slice_index_or (set left slot (Some v)) n.slot None ≡ Some n.key) × (slice_index (set out slot 0) n.slot ≡ i)) (sym (ap (entry_at (set heap 0 e)) z ∙ get_or-set_same heap 0 e nobody some ∙ own))
+        (get_or-set_same left slot (Some v) None (omega (arith, within, length-set keys first.slot None)), get_or-set_same out slot 0 0 (omega (arith, within, x.slots, length-set places first.slot NOWHERE)) ∙ sym z)
+    | inr ne ↦
+        let low : i < length heap = omega (arith, il, length-set heap 0 e) in
+        let p = x.entry i low in
+        let nf = not_first i low ne in
+        let ns = slot_apart i low in
+        subst (λ (n : Entry). (slice_index_or (set left slot (Some v)) n.slot None ≡ Some n.key) × (slice_index (set out slot 0) n.slot ≡ i)) (sym (get_or-set_other heap 0 i e nobody ne))
+        (get_or-set_other left slot (entry_at heap i).slot (Some v) None ns ∙ get_or-set_other keys first.slot (entry_at heap i).slot None None nf ∙ p.0, rest_place (entry_at heap i).slot ns ∙ get_or-set_other places first.slot (entry_at heap i).slot NOWHERE 0 nf ∙ p.1)
+  ]
+
+  replaced_free : (s : ℕ) → s < length (set out slot 0) → slice_index_or (set left slot (Some v)) s None ≡ None → slice_index (set out slot 0) s ≡ NOWHERE
+  replaced_free s l h = elim (cases_eq s slot) [
+    | inl q ↦ let taken : Some v ≡ None = sym (get_or-set_same left slot (Some v) None (omega (arith, within, length-set keys first.slot None))) ∙ ap (λ (j : ℕ). slice_index_or (set left slot (Some v)) j None) (sym q) ∙ h in absurd (cc)
+    | inr ne ↦ rest_place s ne ∙ elim (cases_eq s first.slot) [
+      | inl q ↦ ap (slice_index out) q ∙ get_or-set_same places first.slot NOWHERE 0 first_within
+      | inr nf ↦
+          get_or-set_other places first.slot s NOWHERE 0 nf
+          ∙ x.free s (omega (arith, l, length-set out slot 0, length-set places first.slot NOWHERE)) (sym (get_or-set_other keys first.slot s None None nf) ∙ sym (get_or-set_other left slot s (Some v) None ne) ∙ h)
+    ]
+  ]
+
+  pub replaced_index : IsIndexWith (set left slot (Some v)) heap out 0 e
+  replaced_index = subst (λ (n : ℕ). IsIndex (set left slot (Some v)) (set heap 0 e) (set out n 0)) (sym (ap (λ (n : Entry). n.slot) own)) (record {
+    slots = length-set left slot (Some v) ∙ length-set keys first.slot None ∙ x.slots ∙ sym (length-set out slot 0 ∙ length-set places first.slot NOWHERE);
+    place = replaced_place;
+    entry = replaced_entry;
+    free = replaced_free;
+  })
+
+  replaced_key : (i : ℕ) → i ≢ 0 → keys_with heap 0 e i ≡ key_at heap i
+  replaced_key i ne = ap (λ (n : Entry). n.key) (get_or-set_other heap 0 i e nobody ne)
+
+  pub replaced_hole : IsHeap (key_at heap) (length heap) → IsHole heap out 0 e
+  replaced_hole order = record {
+    keys = set left slot (Some v);
+    index = replaced_index;
+    within = some;
+    but = record {
+      others = λ p i il lo hi np ni. subst (λ (k : Key). is_before (keys_with heap 0 e i) k ≡ false) (sym (replaced_key p np)) (subst (λ (k : Key). is_before k (key_at heap p) ≡ false) (sym (replaced_key i ni)) (order p i il lo hi));
+      around = λ p i il lo hi plo phi. absurd (omega arith);
+    };
+  }
 
 -- there are no more entries than slots
 abbrev slots_of : List Entry → List ℕ
@@ -261,20 +355,45 @@ module _ (keys : List (Option Key)) (init heap : List Entry) (places : List ℕ)
   left_apart : (s : ℕ) (k : Key) → s ≢ slot → slice_index_or keys s None ≡ Some k → slice_index places s ≢ q
   left_apart s k ne h z = ne (ap (λ (n : Entry). n.slot) (sym (x.place s k h).1 ∙ ap (entry_at heap) z ∙ gone_entry))
 
+  -- the indices, once the slot has none
+  abbrev gone : List ℕ
+  gone = set places slot NOWHERE
+
+  slot_inside : slot < length places
+  slot_inside = omega (arith, x.slots, some_within keys slot old was)
+
+  gone_length : length gone ≡ length keys
+  gone_length = length-set places slot NOWHERE ∙ sym x.slots
+
+  gone_own : slice_index gone slot ≡ NOWHERE
+  gone_own = get_or-set_same places slot NOWHERE 0 slot_inside
+
+  gone_other : (s : ℕ) → s ≢ slot → slice_index gone s ≡ slice_index places s
+  gone_other s ne = get_or-set_other places slot s NOWHERE 0 ne
+
+  gone_free : (s : ℕ) → s < length gone → slice_index_or (set keys slot None) s None ≡ None → slice_index gone s ≡ NOWHERE
+  gone_free s l h = elim (cases_eq s slot) [
+    | inl e ↦ ap (slice_index gone) e ∙ gone_own
+    | inr ne ↦ gone_other s ne ∙ x.free s (omega (arith, l, gone_length, x.slots)) (sym (get_or-set_other keys slot s None None ne) ∙ h)
+  ]
+
   -- if the slot's entry was the last, nothing else moves
-  pub removed_last : q ≡ length init → IsIndex (set keys slot None) init places
+  pub removed_last : q ≡ length init → IsIndex (set keys slot None) init gone
   removed_last end = record {
-    slots = length-set keys slot None ∙ x.slots;
+    slots = length-set keys slot None ∙ sym gone_length;
     place = λ s k h.
         let had = left_key s k h in
         let p = x.place s k had.1 in
         let apart = left_apart s k had.0 had.1 in
+        let to : slice_index gone s ≡ slice_index places s = gone_other s had.0 in
         let low : slice_index places s < length init = omega (arith, p.0, apart, end, heap_length) in
-        (low, sym (at_init (slice_index places s) low) ∙ p.1);
+        (omega (arith, to, low), ap (entry_at init) to ∙ sym (at_init (slice_index places s) low) ∙ p.1);
     entry = λ i il.
         let p = x.entry i (omega (arith, heap_length)) in
         let ns = not_gone i (omega (arith, heap_length)) (omega (arith, end)) in
-        subst (λ (n : Entry). (slice_index_or (set keys slot None) n.slot None ≡ Some n.key) × (slice_index places n.slot ≡ i)) (at_init i il) (get_or-set_other keys slot (entry_at heap i).slot None None ns ∙ p.0, p.1);
+        subst (λ (n : Entry). (slice_index_or (set keys slot None) n.slot None ≡ Some n.key) × (slice_index gone n.slot ≡ i)) (at_init i il)
+        (get_or-set_other keys slot (entry_at heap i).slot None None ns ∙ p.0, gone_other (entry_at heap i).slot ns ∙ p.1);
+    free = gone_free;
   }
 
   pub removed_order : IsHeap (key_at init) (length init)
@@ -288,11 +407,11 @@ module _ (keys : List (Option Key)) (init heap : List Entry) (places : List ℕ)
     last_other : last.slot ≢ slot
     last_other h = absurd (omega (arith, inside, at, sym of_last.1 ∙ ap (slice_index places) h))
 
-    last_place : slice_index (set places last.slot q) last.slot ≡ q
-    last_place = get_or-set_same places last.slot q 0 (omega (arith, x.slots, some_within keys last.slot last.key of_last.0))
+    last_place : slice_index (set gone last.slot q) last.slot ≡ q
+    last_place = get_or-set_same gone last.slot q 0 (omega (arith, gone_length, some_within keys last.slot last.key of_last.0))
 
-    put_place : (s : ℕ) → s ≢ last.slot → slice_index (set places last.slot q) s ≡ slice_index places s
-    put_place s ne = get_or-set_other places last.slot s q 0 ne
+    put_place : (s : ℕ) → s ≢ slot → s ≢ last.slot → slice_index (set gone last.slot q) s ≡ slice_index places s
+    put_place s ns ne = get_or-set_other gone last.slot s q 0 ne ∙ gone_other s ns
 
     put_own : entry_at (set init q last) q ≡ last
     put_own = get_or-set_same init q last nobody inside
@@ -304,45 +423,51 @@ module _ (keys : List (Option Key)) (init heap : List Entry) (places : List ℕ)
     put_key i il ne = ap (λ (n : Entry). n.key) (put_other i il ne)
 
     removed_place : (s : ℕ) (k : Key) → slice_index_or (set keys slot None) s None ≡ Some k
-        → (slice_index (set places last.slot q) s < length (set init q last)) × (entry_at (set init q last) (slice_index (set places last.slot q) s) ≡ record { key = k; slot = s })
+        → (slice_index (set gone last.slot q) s < length (set init q last)) × (entry_at (set init q last) (slice_index (set gone last.slot q) s) ≡ record { key = k; slot = s })
     removed_place s k h =
         let had = left_key s k h in
         let was' = x.place s k had.1 in
         elim (cases_eq s last.slot) [
           | inl e ↦
-              let to : slice_index (set places last.slot q) s ≡ q = ap (slice_index (set places last.slot q)) e ∙ last_place in
+              let to : slice_index (set gone last.slot q) s ≡ q = ap (slice_index (set gone last.slot q)) e ∙ last_place in
               let from : slice_index places s ≡ length init = ap (slice_index places) e ∙ of_last.1 in
               (omega (arith, to, inside, length-set init q last), ap (entry_at (set init q last)) to ∙ put_own ∙ sym at_last ∙ ap (entry_at heap) (sym from) ∙ was'.1)
           | inr ne ↦
-              let to : slice_index (set places last.slot q) s ≡ slice_index places s = put_place s ne in
+              let to : slice_index (set gone last.slot q) s ≡ slice_index places s = put_place s had.0 ne in
               let high : slice_index places s ≢ length init = λ z. ne (ap (λ (n : Entry). n.slot) (sym was'.1 ∙ ap (entry_at heap) z ∙ at_last)) in
               let low : slice_index places s < length init = omega (arith, was'.0, high, heap_length) in
               (omega (arith, to, low, length-set init q last), ap (entry_at (set init q last)) to ∙ put_other (slice_index places s) low (left_apart s k had.0 had.1) ∙ was'.1)
         ]
 
     removed_entry : (i : ℕ) → i < length (set init q last)
-        → (slice_index_or (set keys slot None) (entry_at (set init q last) i).slot None ≡ Some (key_at (set init q last) i)) × (slice_index (set places last.slot q) (entry_at (set init q last) i).slot ≡ i)
+        → (slice_index_or (set keys slot None) (entry_at (set init q last) i).slot None ≡ Some (key_at (set init q last) i)) × (slice_index (set gone last.slot q) (entry_at (set init q last) i).slot ≡ i)
     removed_entry i il = elim (cases_eq i q) [
       | inl e ↦
-          subst (λ (n : Entry). (slice_index_or (set keys slot None) n.slot None ≡ Some n.key) × (slice_index (set places last.slot q) n.slot ≡ i)) (sym (ap (entry_at (set init q last)) e ∙ put_own))
+          subst (λ (n : Entry). (slice_index_or (set keys slot None) n.slot None ≡ Some n.key) × (slice_index (set gone last.slot q) n.slot ≡ i)) (sym (ap (entry_at (set init q last)) e ∙ put_own))
           (get_or-set_other keys slot last.slot None None last_other ∙ of_last.0, last_place ∙ sym e)
       | inr ne ↦
           let low : i < length init = omega (arith, il, length-set init q last) in
           let p = x.entry i (omega (arith, low, heap_length)) in
           let ns = not_gone i (omega (arith, low, heap_length)) ne in
           let nl : (entry_at heap i).slot ≢ last.slot = λ h. absurd (omega (arith, low, sym p.1 ∙ ap (slice_index places) h ∙ of_last.1)) in
-          subst (λ (n : Entry). (slice_index_or (set keys slot None) n.slot None ≡ Some n.key) × (slice_index (set places last.slot q) n.slot ≡ i)) (sym (put_other i low ne))
-          (get_or-set_other keys slot (entry_at heap i).slot None None ns ∙ p.0, put_place (entry_at heap i).slot nl ∙ p.1)
+          subst (λ (n : Entry). (slice_index_or (set keys slot None) n.slot None ≡ Some n.key) × (slice_index (set gone last.slot q) n.slot ≡ i)) (sym (put_other i low ne))
+          (get_or-set_other keys slot (entry_at heap i).slot None None ns ∙ p.0, put_place (entry_at heap i).slot ns nl ∙ p.1)
     ]
 
-    pub removed_index : IsIndexWith (set keys slot None) init places q last
+    removed_free : (s : ℕ) → s < length (set gone last.slot q) → slice_index_or (set keys slot None) s None ≡ None → slice_index (set gone last.slot q) s ≡ NOWHERE
+    removed_free s l h =
+        let nl : s ≢ last.slot = λ z. let some : Some last.key ≡ None = sym of_last.0 ∙ sym (get_or-set_other keys slot last.slot None None last_other) ∙ ap (λ (t : ℕ). slice_index_or (set keys slot None) t None) (sym z) ∙ h in cc in
+        get_or-set_other gone last.slot s q 0 nl ∙ gone_free s (omega (arith, l, length-set gone last.slot q)) h
+
+    pub removed_index : IsIndexWith (set keys slot None) init gone q last
     removed_index = record {
-      slots = length-set keys slot None ∙ x.slots ∙ sym (length-set places last.slot q);
+      slots = length-set keys slot None ∙ sym gone_length ∙ sym (length-set gone last.slot q);
       place = removed_place;
       entry = removed_entry;
+      free = removed_free;
     }
 
-    pub removed_hole : IsHole init places q last
+    pub removed_hole : IsHole init gone q last
     removed_hole = record {
       keys = set keys slot None;
       index = removed_index;

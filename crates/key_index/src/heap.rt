@@ -1,11 +1,14 @@
 //! A heap of entries by their keys.
 
-ghost use Rattle.std.specs.Prelude.{◌≡◌, ℕ, ◌+◌, ◌*◌, ◌<◌, ◌≤◌, ◌^◌, length, slice_set, false, IfNone, IfSome};
-ghost use Rattle.key_index.specs.Heap.{IsAboveChildren, IsBelowParent, IsFilled, IsHeap, IsHole, entry_at, key_at, keys_with};
+ghost use Rattle.std.specs.Prelude.{◌≡◌, ℕ, ◌+◌, ◌*◌, ◌<◌, ◌≤◌, ◌^◌, length, slice_set, false};
+ghost use Rattle.key_index.specs.Heap.{IsAboveChildren, IsFilled, IsHole, key_at, keys_with};
 ghost use Rattle.logical_clock.specs.Order.{is_before};
 
 use logical_clock::{Key, Steps};
 use std::sync::ledger::Ledger;
+
+/// What stands for the index in the heap of a slot that is free. A heap never has so many entries.
+pub(crate) const NOWHERE: usize = usize::MAX;
 
 /// A slot that is taken, with its key.
 #[derive(Clone, Copy)]
@@ -41,17 +44,6 @@ fn compare<L: Ledger>(heap: &[Entry], a: usize, b: usize, steps: &mut Steps<L>) 
 {
     steps.add();
     is_before(&heap[a].key, &heap[b].key)
-}
-
-/// Whether the key at index `place` is before that of an entry.
-#[inline(always)]
-fn precedes<L: Ledger>(heap: &[Entry], place: usize, entry: &Entry, steps: &mut Steps<L>) -> bool
-    requires { place < length heap.now }
-    ensures value { result ≡ is_before (key_at heap.now place) entry.now.key }
-    ensures steps { steps.new ≡ steps.old + 1 }
-{
-    steps.add();
-    is_before(&heap[place].key, &entry.key)
 }
 
 /// Whether the key at index `place` is after that of an entry.
@@ -103,33 +95,6 @@ pub(crate) fn sift_up<L: Ledger>(
     sift_up(heap, places, parent, entry, steps)
 }
 
-/// Puts an entry at a hole with one child at most or, if its key is after the child's, below it.
-#[inline(always)]
-fn sift_last<L: Ledger>(
-    heap: &mut [Entry],
-    places: &mut [usize],
-    hole: usize,
-    entry: &Entry,
-    steps: &mut Steps<L>,
-)
-    requires hole { IsHole heap.old places.old hole entry.now }
-    requires below { IsBelowParent (keys_with heap.old hole entry.now) hole }
-    requires last { length heap.old ≤ 2 * hole + 2 }
-    ensures filled { IsFilled heap.old heap.new places.old places.new hole entry.now }
-    ensures steps { (d : ℕ) → length heap.old < (hole + 1) * 2 ^ d → steps.new + 2 ≤ steps.old + 2 * d }
-{
-    let left = 2 * hole + 1;
-    if left >= heap.len() {
-        return put(heap, places, hole, *entry);
-    }
-    if !precedes(heap, left, entry, steps) {
-        return put(heap, places, hole, *entry);
-    }
-    let moved = heap[left];
-    put(heap, places, hole, moved);
-    put(heap, places, left, *entry);
-}
-
 /// Of the two children of index `place`, the one whose key is less.
 #[inline(always)]
 fn lesser_child<L: Ledger>(heap: &[Entry], place: usize, steps: &mut Steps<L>) -> usize
@@ -143,32 +108,8 @@ fn lesser_child<L: Ledger>(heap: &[Entry], place: usize, steps: &mut Steps<L>) -
     right - usize::from(compare(heap, right - 1, right, steps))
 }
 
-/// Puts an entry at a hole, or further down as long as a child's key is before the entry's.
-pub(crate) fn sift_down<L: Ledger>(
-    heap: &mut [Entry],
-    places: &mut [usize],
-    hole: usize,
-    entry: &Entry,
-    steps: &mut Steps<L>,
-)
-    requires hole { IsHole heap.old places.old hole entry.now }
-    requires below { IsBelowParent (keys_with heap.old hole entry.now) hole }
-    ensures filled { IsFilled heap.old heap.new places.old places.new hole entry.now }
-    ensures steps { (d : ℕ) → length heap.old < (hole + 1) * 2 ^ d → steps.new + 2 ≤ steps.old + 2 * d }
-{
-    if 2 * hole + 2 >= heap.len() {
-        return sift_last(heap, places, hole, entry, steps);
-    }
-    let child = lesser_child(heap, hole, steps);
-    if !precedes(heap, child, entry, steps) {
-        return put(heap, places, hole, *entry);
-    }
-    let moved = heap[child];
-    put(heap, places, hole, moved);
-    sift_down(heap, places, child, entry, steps)
-}
-
-/// Puts an entry at a hole, or further up or down, by its key.
+/// Puts an entry at a hole, or further up or down, by its key: the hole goes down to a leaf, each time to the lesser child, and
+/// the entry rises from there. Most entries that are sifted belong near a leaf.
 pub(crate) fn sift<L: Ledger>(
     heap: &mut [Entry],
     places: &mut [usize],
@@ -178,18 +119,38 @@ pub(crate) fn sift<L: Ledger>(
 )
     requires { IsHole heap.old places.old hole entry.now }
     ensures filled { IsFilled heap.old heap.new places.old places.new hole entry.now }
-    ensures steps { (d : ℕ) → length heap.old < 2 ^ d → steps.new ≤ steps.old + 2 * d }
+    ensures steps { (d e : ℕ) → length heap.old < (hole + 1) * 2 ^ d → length heap.old < 2 ^ e → steps.new + 2 ≤ steps.old + d + e }
 {
-    if hole == 0 {
-        return sift_down(heap, places, hole, entry, steps);
+    if 2 * hole + 2 >= heap.len() {
+        return sift_last(heap, places, hole, entry, steps);
     }
-    let parent = (hole - 1) / 2;
-    if !follows(heap, parent, entry, steps) {
-        return sift_down(heap, places, hole, entry, steps);
-    }
-    let moved = heap[parent];
+    let child = lesser_child(heap, hole, steps);
+    let moved = heap[child];
     put(heap, places, hole, moved);
-    sift_up(heap, places, parent, entry, steps)
+    sift(heap, places, child, entry, steps)
+}
+
+/// Like `sift`, at a hole with one child at most.
+#[inline(always)]
+fn sift_last<L: Ledger>(
+    heap: &mut [Entry],
+    places: &mut [usize],
+    hole: usize,
+    entry: &Entry,
+    steps: &mut Steps<L>,
+)
+    requires hole { IsHole heap.old places.old hole entry.now }
+    requires last { length heap.old ≤ 2 * hole + 2 }
+    ensures filled { IsFilled heap.old heap.new places.old places.new hole entry.now }
+    ensures steps { (e : ℕ) → length heap.old < 2 ^ e → steps.new + 1 ≤ steps.old + e }
+{
+    let left = 2 * hole + 1;
+    if left >= heap.len() {
+        return sift_up(heap, places, hole, entry, steps);
+    }
+    let moved = heap[left];
+    put(heap, places, hole, moved);
+    sift_up(heap, places, left, entry, steps)
 }
 
 /// Puts `last`, which was the last entry, at index `place`, unless that was its own index.
@@ -209,27 +170,5 @@ pub(crate) fn refill<L: Ledger>(
 {
     if place < heap.len() {
         sift(heap, places, place, last, steps);
-    }
-}
-
-/// The least key after the first entry; `None` if there is no other entry.
-pub(crate) fn second(heap: &[Entry]) -> Option<Key>
-    requires { IsHeap (key_at heap.now) (length heap.now) }
-    ensures none { IfNone result (length heap.now ≤ 1) }
-    ensures there { IfSome result (λ key. (i : ℕ) × (0 < i) × (i < length heap.now) × (key_at heap.now i ≡ key)) }
-    ensures least { IfSome result (λ key. (i : ℕ) → 0 < i → i < length heap.now → is_before (key_at heap.now i) key ≡ false) }
-{
-    if heap.len() < 2 {
-        return None;
-    }
-    let left = heap[1].key;
-    if heap.len() < 3 {
-        return Some(left);
-    }
-    let right = heap[2].key;
-    if is_before(&right, &left) {
-        Some(right)
-    } else {
-        Some(left)
     }
 }

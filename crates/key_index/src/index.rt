@@ -1,10 +1,11 @@
 //! The keys of slots, and which of them is least.
 
-ghost use Rattle.std.specs.Prelude.{◌≡◌, ◌≢◌, ℕ, ◌+◌, ◌*◌, ◌<◌, ◌≤◌, ◌^◌, ◌∷◌, ◌++◌, [], length, slice_index_or, slice_set, replicate, None, Some, false, IfOk, IfNone, IfSome, IsSome, MatchOption, OnErr, OnOk};
+ghost use Rattle.std.specs.Prelude.{◌≡◌, ℕ, ◌+◌, ◌*◌, ◌<◌, ◌≤◌, ◌^◌, ◌∷◌, ◌++◌, [], length, slice_index_or, slice_set, replicate, None, Some, false, IfOk, IfNone, IfSome, IsSome, OnErr, OnOk};
 ghost use Rattle.logical_clock.specs.Order.{is_before};
+ghost use Rattle.key_index.specs.Heap.{IsLeast};
 ghost use Rattle.logical_clock.specs.declared.key.Key.{Key};
 
-use crate::heap::{Entry, refill, second, sift, sift_down, sift_up};
+use crate::heap::{Entry, NOWHERE, refill, sift, sift_up};
 use go_text::Memory;
 use logical_clock::{Key, Steps};
 use std::alloc::{AllocError, Global};
@@ -14,24 +15,22 @@ use std::sync::ledger::Ledger;
 /// The keys of slots, of which each is taken or free, and which is least. Room for a key is made with its slot.
 #[derive(Drop)]
 pub struct KeyIndex {
-    /// The key of each slot that is taken.
-    keys: Vec<Option<Key>>,
     /// The slots that are taken, as a heap: none has a key before that of its parent.
     heap: Vec<Entry>,
-    /// The index in the heap of each slot that is taken.
+    /// The index in the heap of each slot that is taken; `NOWHERE` for one that is free.
     places: Vec<usize>,
 }
 
 impl Model for KeyIndex {
     ghost use Rattle.std.specs.Prelude.{List, Option, vec_capacity};
     ghost use Rattle.logical_clock.specs.declared.key.Key.{Key as AnyKey};
-    ghost use Rattle.key_index.specs.Heap.{IsOrdered};
+    ghost use Rattle.key_index.specs.Heap.{IsOrdered, keys_of};
 
     ghost Value = { List (Option AnyKey) };
 
-    ghost view = { λ x. x.keys.items };
+    ghost view = { λ x. keys_of x.heap.items x.places.items };
 
-    ghost invariant = { λ x. IsOrdered x.keys.items x.heap.items x.places.items (vec_capacity x.heap) };
+    ghost invariant = { λ x. IsOrdered (keys_of x.heap.items x.places.items) x.heap.items x.places.items (vec_capacity x.heap) };
 }
 
 impl KeyIndex {
@@ -40,7 +39,6 @@ impl KeyIndex {
         ensures { result ≡ [] }
     {
         KeyIndex {
-            keys: Vec::new(alloc),
             heap: Vec::new(alloc),
             places: Vec::new(alloc),
         }
@@ -50,14 +48,12 @@ impl KeyIndex {
     pub fn new(alloc: Global, slots: usize) -> Result<KeyIndex, Memory>
         ensures { IfOk result (λ x. x ≡ replicate slots None) }
     {
-        let mut keys = Vec::with_capacity(alloc, slots)?;
         let heap = Vec::with_capacity(alloc, slots)?;
         let mut places = Vec::with_capacity(alloc, slots)?;
         for _slot in 0..slots {
-            keys.push(None)?;
-            places.push(0)?;
+            places.push(NOWHERE)?;
         }
-        Ok(KeyIndex { keys, heap, places })
+        Ok(KeyIndex { heap, places })
     }
 
     /// One slot more, which is free.
@@ -65,11 +61,9 @@ impl KeyIndex {
         ensures ok { OnOk result (self.new ≡ self.old ++ None ∷ []) }
         ensures memory { OnErr result (self.new ≡ self.old) }
     {
-        self.keys.reserve(1)?;
-        self.heap.reserve(self.keys.len() + 1 - self.heap.len())?;
+        self.heap.reserve(self.places.len() + 1 - self.heap.len())?;
         self.places.reserve(1)?;
-        self.keys.push_reserved(None);
-        self.places.push_reserved(0);
+        self.places.push_reserved(NOWHERE);
         Ok(())
     }
 
@@ -79,56 +73,26 @@ impl KeyIndex {
         ensures contents { self.new ≡ slice_set self.old slot key }
         ensures steps { (d : ℕ) → length self.old < 2 ^ d → steps.new ≤ steps.old + 2 * d }
     {
-        if slot >= self.keys.len() {
-            return;
-        }
         match key {
             Some(key) => self.give(slot, key, steps),
             None => self.clear(slot, steps),
         }
     }
 
-    /// Gives a slot that is there this key, which it may have already.
+    /// Gives a slot this key, which it may have already, if there is such a slot.
     #[inline(always)]
-    #[tactic(auto, using(crate::proofs::Slots::kept))]
     fn give<L: Ledger>(&mut self, slot: usize, key: Key, steps: &mut Steps<L>)
-        requires { slot < length self.old }
         ensures contents { self.new ≡ slice_set self.old slot (Some key) }
         ensures steps { (d : ℕ) → length self.old < 2 ^ d → steps.new ≤ steps.old + 2 * d }
     {
-        match self.keys[slot] {
-            None => self.insert(slot, key, steps),
-            Some(old) => {
-                if old != key {
-                    self.change(slot, key, steps);
-                }
-            }
+        if slot >= self.places.len() {
+            return;
         }
-    }
-
-    /// Frees a slot that is there, and may be free already.
-    #[inline(always)]
-    #[tactic(auto, using(crate::proofs::Slots::kept))]
-    fn clear<L: Ledger>(&mut self, slot: usize, steps: &mut Steps<L>)
-        requires { slot < length self.old }
-        ensures contents { self.new ≡ slice_set self.old slot None }
-        ensures steps { (d : ℕ) → length self.old < 2 ^ d → steps.new ≤ steps.old + 2 * d }
-    {
-        if self.keys[slot].is_some() {
-            self.remove(slot, steps);
+        if self.places[slot] == NOWHERE {
+            self.insert(slot, key, steps);
+        } else {
+            self.change(slot, key, steps);
         }
-    }
-
-    /// Gives a taken slot another key.
-    fn change<L: Ledger>(&mut self, slot: usize, key: Key, steps: &mut Steps<L>)
-        requires { IsSome (slice_index_or self.old slot None) }
-        ensures contents { self.new ≡ slice_set self.old slot (Some key) }
-        ensures steps { (d : ℕ) → length self.old < 2 ^ d → steps.new ≤ steps.old + 2 * d }
-    {
-        let entry = Entry { key, slot };
-        let place = self.places[slot];
-        self.keys[slot] = Some(entry.key);
-        sift(&mut self.heap, &mut self.places, place, &entry, steps);
     }
 
     /// Gives a free slot a key. It takes at most twice as many comparisons of keys as the number of slots has binary digits.
@@ -140,33 +104,82 @@ impl KeyIndex {
     {
         let entry = Entry { key, slot };
         let last = self.heap.len();
-        self.keys[slot] = Some(entry.key);
         self.heap.push_reserved(entry);
         sift_up(&mut self.heap, &mut self.places, last, &entry, steps);
     }
 
-    /// Gives a taken slot a key that is not before its own, with no more comparisons.
-    pub fn raise<L: Ledger>(&mut self, slot: usize, key: Key, steps: &mut Steps<L>)
-        requires { MatchOption (slice_index_or self.old slot None) ⊥ (λ old. is_before key old ≡ false) }
+    /// Gives a taken slot this key, which it may have already.
+    fn change<L: Ledger>(&mut self, slot: usize, key: Key, steps: &mut Steps<L>)
+        requires { IsSome (slice_index_or self.old slot None) }
         ensures contents { self.new ≡ slice_set self.old slot (Some key) }
         ensures steps { (d : ℕ) → length self.old < 2 ^ d → steps.new ≤ steps.old + 2 * d }
     {
         let entry = Entry { key, slot };
         let place = self.places[slot];
-        self.keys[slot] = Some(entry.key);
-        sift_down(&mut self.heap, &mut self.places, place, &entry, steps);
+        sift(&mut self.heap, &mut self.places, place, &entry, steps);
     }
 
-    /// Frees a taken slot, with no more comparisons.
-    pub fn remove<L: Ledger>(&mut self, slot: usize, steps: &mut Steps<L>)
+    /// Frees a slot, if it is there and taken. It takes no more comparisons than `insert`.
+    #[inline(always)]
+    pub fn clear<L: Ledger>(&mut self, slot: usize, steps: &mut Steps<L>)
+        ensures contents { self.new ≡ slice_set self.old slot None }
+        ensures steps { (d : ℕ) → length self.old < 2 ^ d → steps.new ≤ steps.old + 2 * d }
+    {
+        if slot >= self.places.len() {
+            return;
+        }
+        if self.places[slot] != NOWHERE {
+            self.remove(slot, steps);
+        }
+    }
+
+    /// Frees a taken slot.
+    fn remove<L: Ledger>(&mut self, slot: usize, steps: &mut Steps<L>)
         requires { IsSome (slice_index_or self.old slot None) }
         ensures contents { self.new ≡ slice_set self.old slot None }
         ensures steps { (d : ℕ) → length self.old < 2 ^ d → steps.new ≤ steps.old + 2 * d }
     {
         let place = self.places[slot];
         let last = self.heap.take_last();
+        self.places[slot] = NOWHERE;
         refill(&mut self.heap, &mut self.places, place, &last, steps);
-        self.keys[slot] = None;
+    }
+
+    /// Frees a taken slot of least key, and returns it with its key.
+    #[inline(always)]
+    pub fn remove_least<L: Ledger>(&mut self, steps: &mut Steps<L>) -> (usize, Key)
+        requires { (s : ℕ) × IsSome (slice_index_or self.old s None) }
+        ensures least { IsLeast self.old result.0 result.1 }
+        ensures contents { self.new ≡ slice_set self.old result.0 None }
+        ensures steps { (d : ℕ) → length self.old < 2 ^ d → steps.new ≤ steps.old + 2 * d }
+    {
+        let first = self.heap[0];
+        let last = self.heap.take_last();
+        self.places[first.slot] = NOWHERE;
+        refill(&mut self.heap, &mut self.places, 0, &last, steps);
+        (first.slot, first.key)
+    }
+
+    /// Frees a taken slot of least key, which it returns with its key, and gives a free slot this key.
+    #[inline(always)]
+    pub fn replace_least<L: Ledger>(
+        &mut self,
+        slot: usize,
+        key: Key,
+        steps: &mut Steps<L>,
+    ) -> (usize, Key)
+        requires taken { (s : ℕ) × IsSome (slice_index_or self.old s None) }
+        requires slot { slot < length self.old }
+        requires free { slice_index_or self.old slot None ≡ None }
+        ensures least { IsLeast self.old result.0 result.1 }
+        ensures contents { self.new ≡ slice_set (slice_set self.old result.0 None) slot (Some key) }
+        ensures steps { (d : ℕ) → length self.old < 2 ^ d → steps.new ≤ steps.old + 2 * d }
+    {
+        let entry = Entry { key, slot };
+        let first = self.heap[0];
+        self.places[first.slot] = NOWHERE;
+        sift(&mut self.heap, &mut self.places, 0, &entry, steps);
+        (first.slot, first.key)
     }
 
     /// A taken slot of least key, and that key; `None` if all are free. It compares nothing.
@@ -179,21 +192,5 @@ impl KeyIndex {
         }
         let first = &self.heap[0];
         Some((first.slot, first.key))
-    }
-
-    /// The least key of the slots but this one; `None` if all others are free. It compares at most two keys.
-    pub fn least_but(&self, slot: usize) -> Option<Key>
-        ensures none { IfNone result ((s : ℕ) → s ≢ slot → slice_index_or self.now s None ≡ None) }
-        ensures there { IfSome result (λ key. (s : ℕ) × (s ≢ slot) × (slice_index_or self.now s None ≡ Some key)) }
-        ensures least { IfSome result (λ key. (s : ℕ) (k : Key) → s ≢ slot → slice_index_or self.now s None ≡ Some k → is_before k key ≡ false) }
-    {
-        if self.heap.is_empty() {
-            return None;
-        }
-        let first = &self.heap[0];
-        if first.slot != slot {
-            return Some(first.key);
-        }
-        second(&self.heap)
     }
 }

@@ -30,7 +30,7 @@ fn is_told<L: Ledger>(alloc: Global, blank: Blank) -> Result<bool, Fault>
     keys.insert(1, key(5, 2), &mut steps);
     keys.insert(2, key(3, 3), &mut steps);
     let before = is_least(&keys, 2, key(3, 3));
-    keys.raise(2, key(5, 3), &mut steps);
+    keys.set(2, Some(key(5, 3)), &mut steps);
     Ok(before && is_least(&keys, 0, key(5, 1)))
 }
 
