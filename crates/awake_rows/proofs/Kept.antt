@@ -3,7 +3,7 @@ use Rattle.std.proofs.Common.{◌≡◌, ◌≢◌, ◌∙◌, ℕ, zero, suc, �
 use Rattle.std.specs.Prelude.{IfSome, IsSome, slice_index_or, slice_set}
 use Rattle.std.proofs.lemmas.Bool.{cases_eq, cases_lt}
 use Rattle.std.proofs.lemmas.Grind.{common_steps}
-use Rattle.std.proofs.lemmas.List.{length-append, set_past}
+use Rattle.std.proofs.lemmas.List.{length-append}
 use Rattle.std.proofs.Math.ListN.{get_or-eq_default}
 use Rattle.logical_clock.specs.declared.key.Key.{Key}
 use Rattle.slot_index.specs.Numbers.{Frees, Gives, IsInverse, Numbered, number_at, slot_of}
@@ -15,7 +15,7 @@ use Rattle.awake_rows.specs.declared.slot.Held.TheVariants.{Here, Lent, Ahead}
 use Rattle.awake_rows.specs.declared.turns.Among.{Among}
 use Rattle.awake_rows.specs.declared.turns.Among.TheVariants as among
 use Rattle.awake_rows.specs.Slots.{IsFloor, KeepsFloor, State, clock_among, free_clock, held_state, lease_of, lent_clock, waiting_clock}
-use Rattle.awake_rows.specs.Living.{AllKeepFloors, AreKeysBut, AreLiving, AreOrders, Grows, HaveGrown, HaveRoom, Items, asleep_of, awake_of, item_in, key_of, keyed, living_in, now_late, numbered, row_in, with_place}
+use Rattle.awake_rows.specs.Living.{AllKeepFloors, AreKeysBut, AreLiving, AreOrders, Grows, HaveGrown, HaveRoom, Items, asleep_of, awake_of, item_in, key_of, keyed, living_in, now_late, numbered, row_in, with_key, with_place}
 
 pub nobody_counts : (a : Among) → clock_among a None ≡ None
 nobody_counts among.Parked = refl
@@ -162,11 +162,26 @@ module _ (clock : Option (Row State) → Option ℕ) (none : clock None ≡ None
   keyed_past : (slots : Numbered) (items : Items) (s : ℕ) → length items ≤ s → keyed (number_at slots s) (clock (row_in items s)) ≡ None
   keyed_past slots items s l = ap (λ (o : Option Goroutine). keyed (number_at slots s) (clock (awake_of o))) (get_or-eq_default items None l) ∙ keyed_none (number_at slots s)
 
-  key_here : (ks : List (Option Key)) (slots : Numbered) (items : Items) (s : ℕ) → length items ≤ length ks
-      → slice_index_or (slice_set ks s (keyed (number_at slots s) (clock (row_in items s)))) s None ≡ keyed (number_at slots s) (clock (row_in items s))
-  key_here ks slots items s room = elim (cases_lt s (length ks)) [
-    | inl l ↦ get_or-set_same ks s (keyed (number_at slots s) (clock (row_in items s))) None l
-    | inr l ↦ ap (λ (js : List (Option Key)). slice_index_or js s None) (set_past ks s (keyed (number_at slots s) (clock (row_in items s))) l) ∙ get_or-eq_default ks None l ∙ sym (keyed_past slots items s (omega (arith, l, room)))
+  -- the key that the late slot gets
+  key_there : (ks : List (Option Key)) (late : ℕ) (o : Option Key) → slice_index_or ks late None ≡ None → (length ks ≤ late → o ≡ None) → slice_index_or (with_key ks late o) late None ≡ o
+  key_there ks late None absent past = absent
+  key_there ks late (Some key) absent past = elim (cases_lt late (length ks)) [
+    | inl l ↦ get_or-set_same ks late (Some key) None l
+    | inr l ↦ let no : Some key ≡ None = past l in absurd (cc)
+  ]
+
+  key_apart : (ks : List (Option Key)) (late t : ℕ) (o : Option Key) → t ≢ late → slice_index_or (with_key ks late o) t None ≡ slice_index_or ks t None
+  key_apart ks late t None ne = refl
+  key_apart ks late t (Some key) ne = get_or-set_other ks late t (Some key) None ne
+
+  key_length : (ks : List (Option Key)) (late : ℕ) (o : Option Key) → length (with_key ks late o) ≡ length ks
+  key_length ks late None = refl
+  key_length ks late (Some key) = length-set ks late (Some key)
+
+  freed : (ks : List (Option Key)) (s : ℕ) → slice_index_or (slice_set ks s None) s None ≡ None
+  freed ks s = elim (cases_lt s (length ks)) [
+    | inl l ↦ get_or-set_same ks s None None l
+    | inr l ↦ get_or-eq_default (slice_set ks s None) None (omega (arith, l, length-set ks s None))
   ]
 
   module _ (late s : ℕ) (ks : List (Option Key)) (before slots : Numbered) (old items : Items) (k : AreKeysBut late clock ks before old) (room : length items ≤ length ks)
@@ -176,22 +191,27 @@ module _ (clock : Option (Row State) → Option ℕ) (none : clock None ≡ None
 
     -- the late one's row changes once more
     keys_same : s ≡ late → AreKeysBut late clock ks slots items
-    keys_same e = record { room = room; others = λ t ne. k.others t ne ∙ same_key_in t (λ q. ne (q ∙ e)) }
+    keys_same e = record { room = room; absent = k.absent; others = λ t ne. k.others t ne ∙ same_key_in t (λ q. ne (q ∙ e)) }
 
     -- another one's row changes
-    keys_later : AreKeysBut s clock (slice_set ks late (keyed (number_at slots late) (clock (row_in items late)))) slots items
-    keys_later = record {
-      room = omega (arith, room, length-set ks late (keyed (number_at slots late) (clock (row_in items late))));
-      others = λ t ne. elim (cases_eq t late) [
-        | inl e ↦ ap (λ (j : ℕ). slice_index_or (slice_set ks late (keyed (number_at slots late) (clock (row_in items late)))) j None) e ∙ key_here ks slots items late room
-            ∙ ap (λ (j : ℕ). keyed (number_at slots j) (clock (row_in items j))) (sym e)
-        | inr other ↦ get_or-set_other ks late t (keyed (number_at slots late) (clock (row_in items late))) None other ∙ k.others t other ∙ same_key_in t ne
-      ];
-    }
+    keys_later : AreKeysBut s clock (slice_set (with_key ks late (keyed (number_at slots late) (clock (row_in items late)))) s None) slots items
+    keys_later =
+        let key : Option Key = keyed (number_at slots late) (clock (row_in items late)) in
+        let put : List (Option Key) = with_key ks late key in
+        record {
+          room = omega (arith, room, length-set put s None, key_length ks late key);
+          absent = freed put s;
+          others = λ t ne. get_or-set_other put s t None None ne ∙ elim (cases_eq t late) [
+            | inl e ↦ ap (λ (j : ℕ). slice_index_or put j None) e ∙ key_there ks late key k.absent (λ l. keyed_past slots items late (omega (arith, l, room)))
+                ∙ ap (λ (j : ℕ). keyed (number_at slots j) (clock (row_in items j))) (sym e)
+            | inr other ↦ key_apart ks late t key other ∙ k.others t other ∙ same_key_in t ne
+          ];
+        }
 
   keys_grown : (late : ℕ) (ks js : List (Option Key)) (slots : Numbered) (items new : Items) → AreKeysBut late clock ks slots items → Grows ks js → Grows items new → length new ≤ length js → AreKeysBut late clock js slots new
   keys_grown late ks js slots items new k g h room = record {
     room = room;
+    absent = g.same late ∙ k.absent;
     others = λ t ne. g.same t ∙ k.others t ne ∙ ap (λ (o : Option Goroutine). keyed (number_at slots t) (clock (awake_of o))) (sym (h.same t));
   }
 
@@ -360,9 +380,9 @@ module _ (count : ℕ) (slots : Numbered) (items : Items) (orders : Orders) (all
         within = λ m t e. omega (arith, all.within m t e, h.size);
         taken = λ m t e. subst (λ (o : Option Goroutine). IsSome o) (sym (h.same t)) (all.taken m t e);
         ordered = record {
-          parked = record { room = o.parked.room; others = o.parked.others };
-          free = record { room = o.free.room; others = o.free.others };
-          lent = record { room = o.lent.room; others = o.lent.others };
+          parked = record { room = o.parked.room; absent = o.parked.absent; others = o.parked.others };
+          free = record { room = o.free.room; absent = o.free.absent; others = o.free.others };
+          lent = record { room = o.lent.room; absent = o.lent.absent; others = o.lent.others };
           floors = o.floors;
         };
       }

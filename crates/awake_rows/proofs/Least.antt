@@ -1,6 +1,6 @@
 -- The least key, of orders that have all goroutines but the late one.
 use Rattle.std.proofs.Common.{◌≡◌, ◌≢◌, ◌∙◌, ℕ, Bool, true, false, cond, ◌⊎◌, List, Option, Some, None, refl, ap, sym, subst, arith, inl, inr}
-use Rattle.std.specs.Prelude.{IfNone, IfSome, slice_index_or}
+use Rattle.std.specs.Prelude.{IfSome, slice_index_or}
 use Rattle.std.proofs.lemmas.Bool.{cases_eq}
 use Rattle.std.proofs.lemmas.Bool.Decides.{nat_tests}
 use Rattle.std.specs.Option.{is_some}
@@ -12,7 +12,7 @@ use Rattle.turn_rule.specs.declared.Lease.{Lease as Loan}
 use Rattle.turn_rule.specs.declared.Row.{Row}
 use Rattle.slot_index.specs.Numbers.{Numbered, number_at, slot_of}
 use Rattle.awake_rows.specs.Slots.{KeepsFloor, Rows, State, clock_among, floor_clock, free_clock, lent_clock, waiting_clock}
-use Rattle.awake_rows.specs.Living.{AllKeepFloors, AreKeysBut, AreLiving, AreOrders, IsFirst, IsOther, Items, awake_of, item_in, key_of, keyed, living_in, row_in, soonest}
+use Rattle.awake_rows.specs.Living.{AllKeepFloors, AreKeysBut, AreLiving, AreOrders, IsFirst, IsKeyOf, IsOther, Items, awake_of, item_in, key_of, keyed, living_in, row_in, soonest}
 use Rattle.awake_rows.specs.declared.orders.Orders.{Orders}
 use Rattle.awake_rows.specs.declared.turns.Among.{Among}
 use Rattle.awake_rows.proofs.Kept.{nobody_counts, row_of_number}
@@ -65,16 +65,14 @@ keyed_some (Some n) o k e =
 key_is : (number o : Option ℕ) (k : Key) → number ≡ Some k.number → o ≡ Some k.clock → keyed number o ≡ Some k
 key_is number o k n c = ap (λ (x : Option ℕ). keyed x o) n ∙ ap (key_of k.number) c
 
-first_other : (late : ℕ) (clock : Option (Row State) → Option ℕ) (ks : List (Option Key)) (slots : Numbered) (items : Items) (o : Option Key) → AreKeysBut late clock ks slots items → IfNone o ((s : ℕ) → s ≢ late → slice_index_or ks s None ≡ None)
-    → IfSome o (λ k. (s : ℕ) × (s ≢ late) × (slice_index_or ks s None ≡ Some k)) → IfSome o (λ k. (s : ℕ) (j : Key) → s ≢ late → slice_index_or ks s None ≡ Some j → is_before j k ≡ false) → IsFirst (IsOther late clock slots items) o
-first_other late clock ks slots items None keys none there least = λ k h.
-    let has : slice_index_or ks h.0 None ≡ Some k = keys.others h.0 h.1 ∙ key_is (number_at slots h.0) (clock (row_in items h.0)) k h.2 h.3 in
-    let no : None ≡ Some k = sym (none h.0 h.1) ∙ has in
-    absurd (cc)
-first_other late clock ks slots items (Some j) keys none there least =
-    let s : ℕ = there.0 in
-    let found = keyed_some (number_at slots s) (clock (row_in items s)) j (sym (keys.others s there.1) ∙ there.2) in
-    ((s, there.1, found.0, found.1), λ k h. least h.0 k h.1 (keys.others h.0 h.1 ∙ key_is (number_at slots h.0) (clock (row_in items h.0)) k h.2 h.3))
+-- an order has the keys of all others
+first_other : (late : ℕ) (clock : Option (Row State) → Option ℕ) (ks : List (Option Key)) (slots : Numbered) (items : Items) (o : Option Key) → AreKeysBut late clock ks slots items → IsFirst (IsKeyOf ks) o → IsFirst (IsOther late clock slots items) o
+first_other late clock ks slots items o keys first = first_same (IsKeyOf ks) (IsOther late clock slots items) o
+    (λ k h.
+    let apart : h.0 ≢ late = λ e. let no : None ≡ Some k = sym keys.absent ∙ ap (λ (s : ℕ). slice_index_or ks s None) (sym e) ∙ h.1 in cc in
+    let found = keyed_some (number_at slots h.0) (clock (row_in items h.0)) k (sym (keys.others h.0 apart) ∙ h.1) in
+    (h.0, apart, found.0, found.1))
+    (λ k h. (h.0, keys.others h.0 h.1 ∙ key_is (number_at slots h.0) (clock (row_in items h.0)) k h.2 h.3)) first
 
 -- the floor of one that is not lent is its clock
 floor_or : (floor clock : ℕ) (lease : Option (Loan State)) (parked : Bool) → (lease ≡ None → floor ≡ clock) → (parked ≡ true → lease ≡ None) → (c : ℕ) → Some floor ≡ Some c
@@ -130,23 +128,17 @@ module _ (late : ℕ) (slots : Numbered) (items : Items) (floors : AllKeepFloors
       let either : IsFirst OfEither (soonest w f) = first_joined (IsOther late waiting_clock slots items) (IsOther late free_clock slots items) w f x y in
       first_same OfAny (IsOther late floor_clock slots items) (soonest (soonest w f) l) any_floor floor_any (first_joined OfEither (IsOther late lent_clock slots items) (soonest w f) l either z)
 
--- what `least_but` says of an order
-pub record IsLeastBut (late : ℕ) (ks : List (Option Key)) (o : Option Key) : Type 0 where
-  pub none : IfNone o ((s : ℕ) → s ≢ late → slice_index_or ks s None ≡ None)
-  pub there : IfSome o (λ k. (s : ℕ) × (s ≢ late) × (slice_index_or ks s None ≡ Some k))
-  pub least : IfSome o (λ k. (s : ℕ) (j : Key) → s ≢ late → slice_index_or ks s None ≡ Some j → is_before j k ≡ false)
-
 module _ (orders : Orders) (slots : Numbered) (items : Items) (o : AreOrders orders slots items) where
-  others_parked : (r : Option Key) → IsLeastBut orders.late orders.parked r → IsFirst (IsOther orders.late waiting_clock slots items) r
-  others_parked r h = first_other orders.late waiting_clock orders.parked slots items r o.parked h.none h.there h.least
+  pub others_parked : (r : Option Key) → IsFirst (IsKeyOf orders.parked) r → IsFirst (IsOther orders.late waiting_clock slots items) r
+  others_parked r h = first_other orders.late waiting_clock orders.parked slots items r o.parked h
 
-  others_free : (r : Option Key) → IsLeastBut orders.late orders.free r → IsFirst (IsOther orders.late free_clock slots items) r
-  others_free r h = first_other orders.late free_clock orders.free slots items r o.free h.none h.there h.least
+  pub others_free : (r : Option Key) → IsFirst (IsKeyOf orders.free) r → IsFirst (IsOther orders.late free_clock slots items) r
+  others_free r h = first_other orders.late free_clock orders.free slots items r o.free h
 
-  pub others_lent : (r : Option Key) → IsLeastBut orders.late orders.lent r → IsFirst (IsOther orders.late lent_clock slots items) r
-  others_lent r h = first_other orders.late lent_clock orders.lent slots items r o.lent h.none h.there h.least
+  pub others_lent : (r : Option Key) → IsFirst (IsKeyOf orders.lent) r → IsFirst (IsOther orders.late lent_clock slots items) r
+  others_lent r h = first_other orders.late lent_clock orders.lent slots items r o.lent h
 
-  pub others_awake : (w f l : Option Key) → IsLeastBut orders.late orders.parked w → IsLeastBut orders.late orders.free f → IsLeastBut orders.late orders.lent l → IsFirst (IsOther orders.late floor_clock slots items) (soonest (soonest w f) l)
+  pub others_awake : (w f l : Option Key) → IsFirst (IsKeyOf orders.parked) w → IsFirst (IsKeyOf orders.free) f → IsFirst (IsKeyOf orders.lent) l → IsFirst (IsOther orders.late floor_clock slots items) (soonest (soonest w f) l)
   others_awake w f l x y z = first_floor orders.late slots items o.floors w f l (others_parked w x) (others_free f y) (others_lent l z)
 
 -- ---- of all

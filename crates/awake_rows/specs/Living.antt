@@ -8,8 +8,9 @@ use Rattle.turn_rule.specs.declared.Row.{Row}
 use Rattle.turn_rule.specs.Schedule.{floor_above}
 use Rattle.awake_rows.specs.declared.goroutine.Goroutine.{Goroutine}
 use Rattle.awake_rows.specs.declared.goroutine.Goroutine.TheVariants.{Awake, Asleep}
-use Rattle.awake_rows.specs.declared.orders.Clocks.{Clocks}
 use Rattle.awake_rows.specs.declared.orders.Orders.{Orders}
+use Rattle.awake_rows.specs.declared.slot.Order.{Order}
+use Rattle.awake_rows.specs.declared.slot.Order.TheVariants as order
 use Rattle.awake_rows.specs.Slots.{Beds, IsWorked, KeepsFloor, Rows, State, free_clock, free_row, lent_clock, waiting_clock}
 
 abbrev pub Items : Type 0
@@ -88,9 +89,10 @@ abbrev pub keyed : Option ℕ → Option ℕ → Option Key
 keyed None clock = None
 keyed (Some n) clock = key_of n clock
 
--- `keys` has, for each slot but `late`, the key of the goroutine in it, if that has a clock. The row in slot `late` changed since its key was set
+-- `keys` has, for each slot but `late`, the key of the goroutine in it, if that has a clock. Slot `late`, whose row changed last, has no key
 pub record AreKeysBut (late : ℕ) (clock : Option (Row State) → Option ℕ) (keys : List (Option Key)) (slots : Numbered) (items : Items) : Type 0 where
   pub room : length items ≤ length keys
+  pub absent : slice_index_or keys late None ≡ None
   pub others : (s : ℕ) → s ≢ late → slice_index_or keys s None ≡ keyed (number_at slots s) (clock (row_in items s))
 
 abbrev pub AllKeepFloors : Items → Type 0
@@ -111,20 +113,46 @@ pub record AreLiving (count : ℕ) (slots : Numbered) (items : Items) (orders : 
   pub taken : (n s : ℕ) → slot_of slots n ≡ Some s → IsSome (slice_index_or items s None)
   pub ordered : AreOrders orders slots items
 
+-- the clock of a goroutine in each of the orders, if it has a key there
+pub record Clocks : Type 0 where
+  pub parked : Option ℕ
+  pub free : Option ℕ
+  pub lent : Option ℕ
+
 abbrev pub clocks_of : Option (Row State) → Clocks
 clocks_of row = record { parked = waiting_clock row; free = free_clock row; lent = lent_clock row }
 
--- the keys of slot s are those of this number, if there is one, at these clocks
+-- the clocks of a goroutine that has a key in this order alone
+abbrev pub clocks_in : Order → ℕ → Clocks
+clocks_in order.Parked clock = record { parked = Some clock; free = None; lent = None }
+clocks_in order.Free clock = record { parked = None; free = Some clock; lent = None }
+clocks_in order.Lent clock = record { parked = None; free = None; lent = Some clock }
+
+-- slot s has this key, if one is given
+abbrev pub with_key : List (Option Key) → ℕ → Option Key → List (Option Key)
+with_key keys s None = keys
+with_key keys s (Some key) = slice_set keys s (Some key)
+
+-- slot s has the keys of this number, if there is one, at these clocks
 abbrev pub noted : Orders → ℕ → Option ℕ → Clocks → Orders
 noted orders s number clocks = record orders {
-  parked = slice_set orders.parked s (keyed number clocks.parked);
-  free = slice_set orders.free s (keyed number clocks.free);
-  lent = slice_set orders.lent s (keyed number clocks.lent);
+  parked = with_key orders.parked s (keyed number clocks.parked);
+  free = with_key orders.free s (keyed number clocks.free);
+  lent = with_key orders.lent s (keyed number clocks.lent);
 }
 
--- the keys of the slot that was late are set, and slot s is late
+-- slot s is late, and has no key
+abbrev pub taken_out : Orders → ℕ → Orders
+taken_out orders s = record {
+  parked = slice_set orders.parked s None;
+  free = slice_set orders.free s None;
+  lent = slice_set orders.lent s None;
+  late = s;
+}
+
+-- the slot that was late gets its key, and slot s is late
 abbrev pub now_late : Orders → Numbered → Items → ℕ → Orders
-now_late orders slots items s = record (noted orders orders.late (number_at slots orders.late) (clocks_of (row_in items orders.late))) { late = s }
+now_late orders slots items s = taken_out (noted orders orders.late (number_at slots orders.late) (clocks_of (row_in items orders.late))) s
 
 -- with one more slot, without keys
 abbrev pub with_place : Orders → Orders
@@ -154,6 +182,10 @@ pub record HaveRoom (orders : Orders) (count : ℕ) : Type 0 where
 -- k is the key of a goroutine in another slot than `late`
 abbrev pub IsOther : ℕ → (Option (Row State) → Option ℕ) → Numbered → Items → Key → Type 0
 IsOther late clock slots items k = (s : ℕ) × (s ≢ late) × (number_at slots s ≡ Some k.number) × (clock (row_in items s) ≡ Some k.clock)
+
+-- k is the key of a slot
+abbrev pub IsKeyOf : List (Option Key) → Key → Type 0
+IsKeyOf keys k = (s : ℕ) × (slice_index_or keys s None ≡ Some k)
 
 -- the least of the keys that count, if any does
 abbrev pub IsFirst : (Key → Type 0) → Option Key → Type 0

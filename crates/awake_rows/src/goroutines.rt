@@ -12,7 +12,7 @@ ghost use Rattle.word.specs.Views.{reply_of};
 ghost use Rattle.awake_rows.specs.Slots.{FitsAll, FitsRow, IsAwake, IsBefore, IsFreeIn, IsNobodyAwake, IsUnlent, WorksIn, answered_rows, back_row, clock_among, free_clock, free_row, lent_row, raised_row, stepped_rows};
 
 use crate::goroutine::Goroutine;
-use crate::orders::{Orders, keyed, note, soonest};
+use crate::orders::{Orders, first, keyed, note, soonest};
 use crate::rows::{
     answer_row, bed_in, doze_at, lend_row, make_room, put_at, raise_row, row_in, stay_row,
     step_row, take_at, wake_at, work_row,
@@ -354,7 +354,7 @@ impl Goroutines {
         if let Some(number) = not_above(self.orders.others(Among::Parked), key) {
             return Some(number);
         }
-        not_above(self.orders.lent.least_but(late), key)
+        not_above(first(&self.orders.lent), key)
     }
 
     /// The goroutine of least floor of those that are awake.

@@ -1,13 +1,14 @@
 //! The orders of awake goroutines: by the clocks at which they are parked, by those at which they may be lent,
 //! and, of those that are lent, by their floors.
 
-ghost use Rattle.std.specs.Prelude.{◌≡◌, ◌≢◌, [], IfSome, None, OnErr, OnOk};
-ghost use Rattle.awake_rows.specs.Living.{AreOrders, HaveGrown, IsFirst, IsOther, Items, clocks_of, keyed, noted, now_late, row_in, soonest, with_place};
+ghost use Rattle.std.specs.Prelude.{◌≡◌, ◌≢◌, [], IfSome, OnErr, OnOk, Some};
+ghost use Rattle.awake_rows.specs.Living.{AreOrders, HaveGrown, IsFirst, IsKeyOf, IsOther, Items, clocks_in, clocks_of, keyed, noted, now_late, row_in, soonest, taken_out, with_place};
 ghost use Rattle.awake_rows.specs.Slots.{KeepsFloor, clock_among};
 ghost use Rattle.slot_index.specs.Numbers.{Numbered, number_at};
 
 use crate::goroutine::Goroutine;
 use crate::rows::row_in;
+use crate::slot::Order;
 use crate::turns::Among;
 use key_index::KeyIndex;
 use logical_clock::{Clock, Key, Steps, sooner};
@@ -16,8 +17,8 @@ use std::alloc::{AllocError, Global};
 use std::marker::Brand;
 use std::sync::ledger::{Blank, Ledger};
 
-/// The keys of goroutines, by their slots. The keys of a slot are set only once the row in another slot changes, so a row that changes
-/// several times in a row sets its keys once.
+/// The keys of goroutines, by their slots: each that is awake has one, in one order. The late one, whose row changed last, has none: it
+/// gets its key once the row in another slot changes. So a row that changes several times in a row sets its key once.
 pub(crate) struct Orders {
     /// Of those that are at their requests.
     pub parked: KeyIndex,
@@ -25,7 +26,7 @@ pub(crate) struct Orders {
     pub free: KeyIndex,
     /// Of those that are lent, by their floors.
     pub lent: KeyIndex,
-    /// The slot whose row changed last. Its keys may be out of date.
+    /// The slot whose row changed last, which has no key.
     pub late: usize,
 }
 
@@ -61,13 +62,12 @@ impl Orders {
     pub(crate) fn others(&self, among: Among) -> Option<Key>
         ensures { (slots : Numbered) (items : Items) → AreOrders self.now slots items → IsFirst (IsOther self.now.late (clock_among among) slots items) result }
     {
-        let late = self.late;
         match among {
-            Among::Parked => self.parked.least_but(late),
-            Among::Free => self.free.least_but(late),
+            Among::Parked => first(&self.parked),
+            Among::Free => first(&self.free),
             Among::Awake => {
-                let unlent = soonest(self.parked.least_but(late), self.free.least_but(late));
-                soonest(unlent, self.lent.least_but(late))
+                let unlent = soonest(first(&self.parked), first(&self.free));
+                soonest(unlent, first(&self.lent))
             }
         }
     }
@@ -86,15 +86,7 @@ impl Orders {
     }
 }
 
-/// The clock of a goroutine in each of the orders, if it is in that order.
-#[derive(Clone, Copy)]
-pub(crate) struct Clocks {
-    pub parked: Option<Clock>,
-    pub free: Option<Clock>,
-    pub lent: Option<Clock>,
-}
-
-/// The row in `slot` has changed, so `slot` is late. If another slot was, its keys are set.
+/// The row in `slot` has changed, so `slot` is late. If another slot was, that gets its key.
 #[inline(always)]
 pub(crate) fn note(orders: &mut Orders, slots: &SlotIndex, items: &[Option<Goroutine>], slot: usize)
     ensures same { slot ≡ orders.old.late → orders.new ≡ orders.old }
@@ -103,44 +95,90 @@ pub(crate) fn note(orders: &mut Orders, slots: &SlotIndex, items: &[Option<Gorou
 {
     keeps_floor_at(items, slot);
     if slot != orders.late {
-        take_places(orders, slots, items);
-        orders.late = slot;
+        change_late::<Brand>(orders, slots, items, slot, Blank::new(1));
     }
 }
 
-/// Sets the keys of the late slot, by the row in it.
-fn take_places(orders: &mut Orders, slots: &SlotIndex, items: &[Option<Goroutine>])
-    ensures { orders.new ≡ noted orders.old orders.old.late (number_at slots.now orders.old.late) (clocks_of (row_in items.now orders.old.late)) }
-{
-    let late = orders.late;
-    let number = slots.number(late);
-    note_counted::<Brand>(orders, late, number, clocks_at(items, late), Blank::new(1));
-}
-
-/// Sets the keys of `slot` to those of goroutine `number`, if there is one, at these clocks. It counts its steps, which costs nothing.
-#[inline(always)]
-fn note_counted<L: Ledger>(
+/// The late goroutine gets its key, and `slot` is late. It counts its steps, which costs nothing.
+fn change_late<L: Ledger>(
     orders: &mut Orders,
+    slots: &SlotIndex,
+    items: &[Option<Goroutine>],
     slot: usize,
-    number: Option<u64>,
-    clocks: Clocks,
     blank: Blank,
 )
     requires name { blank.name ≡ L.name }
     requires parts { blank.parts ≡ L.parts }
     requires one { blank.parts ≡ 1 }
-    ensures { orders.new ≡ noted orders.old slot number clocks }
+    ensures { orders.new ≡ now_late orders.old slots.now items.now slot }
 {
     let mut steps = Steps::<L>::new(blank);
-    orders
-        .parked
-        .set(slot, keyed(number, clocks.parked), &mut steps);
-    orders
-        .free
-        .set(slot, keyed(number, clocks.free), &mut steps);
-    orders
-        .lent
-        .set(slot, keyed(number, clocks.lent), &mut steps);
+    put_in(orders, slots, items, &mut steps);
+    take_out(orders, slot, &mut steps);
+}
+
+/// The late goroutine, if there is one that is awake, gets its key in its order.
+#[inline(always)]
+fn put_in<L: Ledger>(
+    orders: &mut Orders,
+    slots: &SlotIndex,
+    items: &[Option<Goroutine>],
+    steps: &mut Steps<L>,
+)
+    ensures { orders.new ≡ noted orders.old orders.old.late (number_at slots.now orders.old.late) (clocks_of (row_in items.now orders.old.late)) }
+{
+    let late = orders.late;
+    let Some(row) = row_in(items, late) else {
+        return;
+    };
+    let Some(number) = slots.number(late) else {
+        return;
+    };
+    let key = Key {
+        clock: row.floor(),
+        number,
+    };
+    put_key(orders, row.order(), late, key, steps);
+}
+
+/// Sets the key of `slot` in this order.
+#[inline(always)]
+fn put_key<L: Ledger>(
+    orders: &mut Orders,
+    order: Order,
+    slot: usize,
+    key: Key,
+    steps: &mut Steps<L>,
+)
+    ensures { orders.new ≡ noted orders.old slot (Some key.number) (clocks_in order key.clock) }
+{
+    match order {
+        Order::Parked => orders.parked.set(slot, Some(key), steps),
+        Order::Free => orders.free.set(slot, Some(key), steps),
+        Order::Lent => orders.lent.set(slot, Some(key), steps),
+    }
+}
+
+/// `slot` is late, and has no key.
+#[inline(always)]
+fn take_out<L: Ledger>(orders: &mut Orders, slot: usize, steps: &mut Steps<L>)
+    ensures { orders.new ≡ taken_out orders.old slot }
+{
+    orders.free.clear(slot, steps);
+    orders.parked.clear(slot, steps);
+    orders.lent.clear(slot, steps);
+    orders.late = slot;
+}
+
+/// The least of the keys, if there are any.
+#[inline(always)]
+pub(crate) fn first(keys: &KeyIndex) -> Option<Key>
+    ensures { IsFirst (IsKeyOf keys.now) result }
+{
+    match keys.least() {
+        Some((_, key)) => Some(key),
+        None => None,
+    }
 }
 
 /// The key of goroutine `number`, if there is one, at this clock.
@@ -154,25 +192,6 @@ pub(crate) fn keyed(number: Option<u64>, clock: Option<Clock>) -> Option<Key>
     match clock {
         Some(clock) => Some(Key { clock, number }),
         None => None,
-    }
-}
-
-/// The clocks of the row in `slot`.
-#[inline(always)]
-fn clocks_at(items: &[Option<Goroutine>], slot: usize) -> Clocks
-    ensures { result ≡ clocks_of (row_in items.now slot) }
-{
-    match row_in(items, slot) {
-        Some(row) => Clocks {
-            parked: row.parked_clock(),
-            free: row.free_clock(),
-            lent: row.lent_clock(),
-        },
-        None => Clocks {
-            parked: None,
-            free: None,
-            lent: None,
-        },
     }
 }
 

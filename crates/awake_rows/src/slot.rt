@@ -10,7 +10,8 @@ ghost use Rattle.turn_rule.specs.Schedule.{give_back, lend, local, look, publish
 ghost use Rattle.word.specs.Kinds.{asks, told};
 ghost use Rattle.word.specs.Worlds.{rules};
 ghost use Rattle.word.specs.Views.{reply_of};
-ghost use Rattle.awake_rows.specs.Slots.{IsRowOf, KeepsFloor, IsWorked, State, back_row, free_clock, free_row, lent_clock, lent_row, raised_row, stepped_row};
+ghost use Rattle.awake_rows.specs.Slots.{IsRowOf, KeepsFloor, IsWorked, State, back_row, free_clock, free_row, lent_row, raised_row, stepped_row};
+ghost use Rattle.awake_rows.specs.Living.{clocks_in, clocks_of};
 
 use go_text::Memory;
 use goroutine_vm::GoState;
@@ -42,6 +43,17 @@ pub(crate) struct Ahead {
     pub present: GoState,
     /// The clock that was last published.
     pub published: Clock,
+}
+
+/// One of the orders of awake goroutines.
+#[derive(Clone, Copy)]
+pub(crate) enum Order {
+    /// Of those that are at their requests.
+    Parked,
+    /// Of those that may be lent.
+    Free,
+    /// Of those that are lent.
+    Lent,
 }
 
 /// An awake goroutine: its state, or that in which it was lent.
@@ -108,15 +120,15 @@ impl Slot {
         }
     }
 
-    /// The goroutine's floor, if it is lent.
+    /// The order in which it has a key, at its floor.
     #[inline(always)]
-    pub(crate) fn lent_clock(&self) -> Option<Clock>
-        ensures { result ≡ lent_clock (Some self.now) }
+    pub(crate) fn order(&self) -> Order
+        ensures { clocks_of (Some self.now) ≡ clocks_in result self.now.floor }
     {
-        if self.is_lent() {
-            Some(self.floor)
-        } else {
-            None
+        match &self.held {
+            Held::Here(_) if self.parked => Order::Parked,
+            Held::Here(_) => Order::Free,
+            Held::Lent(_) | Held::Ahead(_) => Order::Lent,
         }
     }
 

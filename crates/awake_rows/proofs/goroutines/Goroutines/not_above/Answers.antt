@@ -35,9 +35,9 @@ returns-clause-none c =
     let rows : Rows = (living_in g.count g.slots items).rows in
     let clock = c.clock_at.ensures ∙ ap (λ (items : Items). floor_clock (row_in items late)) c.deref.ensures.value in
     let own = c.keyed-own.ensures ∙ ap (λ (o : Option ℕ). keyed o c.clock_at.result) c.number.ensures ∙ ap (λ (o : Option ℕ). keyed (number_at g.slots late) o) clock in
-    let lent : IsFirst (IsOther late lent_clock g.slots items) c.least_but.result = others_lent g.orders g.slots items all c.least_but.result (record { none = c.least_but.ensures.none; there = c.least_but.ensures.there; least = c.least_but.ensures.least }) in
-    rw (← c.self.view_is) (for_none c.not_above-4.result (IfSome c.least_but.result (IsClear c.args.key.now)) (has_turn c.args.key.now 0 rows ≡ true) c.not_above-4.ensures.none
-    (λ clear. turn_clear g.count g.slots items g.orders c.self.invariant c.args.key.now c.keyed-own.result own c.others-2.result c.others.result c.least_but.result (c.others-2.ensures g.slots items all) (c.others.ensures g.slots items all) lent
+    let lent : IsFirst (IsOther late lent_clock g.slots items) c.first.result = others_lent g.orders g.slots items all c.first.result c.first.ensures in
+    rw (← c.self.view_is) (for_none c.not_above-4.result (IfSome c.first.result (IsClear c.args.key.now)) (has_turn c.args.key.now 0 rows ≡ true) c.not_above-4.ensures.none
+    (λ clear. turn_clear g.count g.slots items g.orders c.self.invariant c.args.key.now c.keyed-own.result own c.others-2.result c.others.result c.first.result (c.others-2.ensures g.slots items all) (c.others.ensures g.slots items all) lent
     c.in_default-not_above.ensures.none c.in_default-not_above-2.ensures.none c.in_default.ensures.none clear))
 
 pub returns-clause-some : goal.returns-clause-some
@@ -46,6 +46,6 @@ returns-clause-some c =
     let items = g.items.items in
     let key = c.args.key.now in
     let rows : Rows = (living_in g.count g.slots items).rows in
-    let lent : IsFirst (IsOther g.orders.late lent_clock g.slots items) c.least_but.result = others_lent g.orders g.slots items c.self.invariant.ordered c.least_but.result (record { none = c.least_but.ensures.none; there = c.least_but.ensures.there; least = c.least_but.ensures.least }) in
-    rw (← c.self.view_is) (for_some c.not_above-4.result (IsNotClear key c.least_but.result) (λ n. n ≢ key.number → (has_turn key 0 rows ≡ false) × IsBefore rows key n) c.not_above-4.ensures.some
-    (λ n h. waits_lent g.count g.slots items g.orders c.self.invariant key c.least_but.result n lent h))
+    let lent : IsFirst (IsOther g.orders.late lent_clock g.slots items) c.first.result = others_lent g.orders g.slots items c.self.invariant.ordered c.first.result c.first.ensures in
+    rw (← c.self.view_is) (for_some c.not_above-4.result (IsNotClear key c.first.result) (λ n. n ≢ key.number → (has_turn key 0 rows ≡ false) × IsBefore rows key n) c.not_above-4.ensures.some
+    (λ n h. waits_lent g.count g.slots items g.orders c.self.invariant key c.first.result n lent h))
