@@ -17,7 +17,7 @@ use word::value::Word;
 /// How many frames `trim` keeps for later calls.
 const MOST_KEPT: usize = 3;
 
-/// How many frames a goroutine that falls asleep may keep for later calls. It trims its call stack if it keeps more.
+/// How many frames a goroutine that falls asleep keeps for later calls at most.
 const MOST_KEPT_ASLEEP: usize = 64;
 
 /// A nonempty stack of functions, each waiting for the one called after it; contracts list the last one called first. Frames are kept for
@@ -77,7 +77,7 @@ impl CallStack {
         self.frames.truncate(self.depth + MOST_KEPT);
     }
 
-    /// Frees the memory of frames kept for later calls, if there are many.
+    /// Of the frames kept for later calls only the first `MOST_KEPT_ASLEEP` stay.
     #[inline(always)]
     pub fn trim_deep(&mut self)
         ensures { self.new ≡ self.old }
@@ -87,12 +87,12 @@ impl CallStack {
         }
     }
 
-    /// Like `trim`, but it also frees the list's own memory. It is a call, so that a goroutine with few frames falls asleep without it.
+    /// Like `trim_deep`, but it also frees the list's own memory. It is a call, so that a goroutine with few frames falls asleep without it.
     #[inline(never)]
     fn trim_all(&mut self)
         ensures { self.new ≡ self.old }
     {
-        self.trim();
+        self.frames.truncate(self.depth + MOST_KEPT_ASLEEP);
         self.frames.shrink_to_fit();
     }
 
