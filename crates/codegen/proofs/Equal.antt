@@ -7,6 +7,8 @@ use Rattle.syntax.specs.Tree.{Top, StructTop, FunctionTop, File}
 use Rattle.syntax.specs.Measures.{size as file_size}
 use Rattle.bytecode.specs.Code.{Function as CodeFunction}
 use Rattle.bytecode.specs.Machine.{main_of, code_begin, code_kind}
+use Rattle.word.specs.Kinds.{GoroutineKind}
+use Rattle.word.specs.Related.{Matches}
 use Rattle.word.specs.Worlds.{Equal}
 use Rattle.word.proofs.Equal.{equal}
 use Rattle.type_table.specs.Scopes.{Globals, Signature, function_number}
@@ -62,21 +64,35 @@ code_main file = position_is (λ (f : CodeFunction). named_main f.name) (code_of
 
 -- ---- the theorem
 
+-- a relation that each step of the source keeps, with alike beginnings: the code does what the source does
+pub record IsFollowed (K M : GoroutineKind) : Type 1 where
+  pub related : K.State → M.State → Type 0
+  pub steps : (s : K.State) (c : M.State) → related s c → Matches K M related s (K.next s) c
+  pub start : related (K.begin K.main []) (M.begin M.main [])
+
 module _ (file : File) (free : Free (FileHas file)) (still : FormedTops file.tops) where
-  free_equal : Equal (source_kind file) (code_kind (code_of file))
-  free_equal =
+  followed : IsFollowed (source_kind file) (code_kind (code_of file))
+  followed =
       let b = broken rules.Main (file_size file) (omega arith) in
       let main = main_there (globals file).functions (not_false (has_main (globals file).functions) (λ e. free b.0 (inr (inl (e, b.1))))) in
       let n = main.number in
       let source : number_of (globals file) (codes "main") ≡ n = ap (λ o. unwrap_or o 0) main.first in
       let target : unwrap_or (main_of (code_of file).functions) 0 ≡ n = ap (λ o. unwrap_or o 0) (code_main file ∙ main.first) in
       let R = Near file (program file free still) (SitsAfter file (program file free still)) in
-      equal (source_kind file) (code_kind (code_of file)) R weight
-      (near_match file (program file free still) (fine_following file free still) (all_entered file free still) (all_started file free still))
-      (source_falls file)
-      (subst (λ k. R (begun file (slice_get (functions file) k) []) (code_begin (code_of file) (unwrap_or (main_of (code_of file).functions) 0) [])) (sym source)
-      (subst (λ k. R (begun file (slice_get (functions file) n) []) (code_begin (code_of file) k [])) (sym target) (starts_near file free still (codes "main") n main.first main.plain)))
+      record {
+        related = R;
+        steps = near_match file (program file free still) (fine_following file free still) (all_entered file free still) (all_started file free still);
+        start =
+            subst (λ k. R (begun file (slice_get (functions file) k) []) (code_begin (code_of file) (unwrap_or (main_of (code_of file).functions) 0) [])) (sym source)
+            (subst (λ k. R (begun file (slice_get (functions file) n) []) (code_begin (code_of file) k [])) (sym target) (starts_near file free still (codes "main") n main.first main.plain));
+      }
 
--- the code of a file that the checker takes, if no post statement declares anything, is the same kind of goroutine
+-- the code of a file that the checker takes, if no post statement declares anything, follows the file
+pub is_followed : (file : File) → FormedTops file.tops → IsTyped file → IsFollowed (source_kind file) (code_kind (code_of file))
+is_followed file still typed = followed file (free_of file typed) still
+
+-- and is the same kind of goroutine
 pub is_equal : (file : File) → FormedTops file.tops → IsTyped file → Equal (source_kind file) (code_kind (code_of file))
-is_equal file still typed = free_equal file (free_of file typed) still
+is_equal file still typed =
+    let f = is_followed file still typed in
+    equal (source_kind file) (code_kind (code_of file)) f.related weight f.steps (source_falls file) f.start
