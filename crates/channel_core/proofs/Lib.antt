@@ -6,3 +6,4 @@ pub mod Clauses
 pub mod Served
 pub mod Slots
 pub mod Offered
+pub mod Words

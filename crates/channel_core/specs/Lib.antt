@@ -1,3 +1,4 @@
 pub mod Asleep
 pub mod Channels
 pub mod Orders
+pub mod Words

@@ -1,6 +1,7 @@
 //! A channel without its sleepers.
 
-ghost use Rattle.std.specs.Prelude.{◌≡◌, ◌<◌, ◌≤◌, ◌++◌, ◌∷◌, [], false, drop, nat_lt, pos, slice_index_or, true, length, IfOk, OnErr, OnOk};
+ghost use Rattle.std.specs.Prelude.{◌≡◌, ◌<◌, ◌≤◌, ◌++◌, ◌∷◌, [], None, false, drop, nat_lt, pos, slice_index_or, true, length, IfNone, IfOk, IfSome, OnErr, OnOk};
+ghost use Rattle.item_queue.specs.Items.{front_word};
 ghost use Rattle.smallvec.specs.SmallVec.{small_vec_len};
 ghost use Rattle.word.specs.Requests.{got, no_channel};
 ghost use Rattle.word.specs.Values.{Done};
@@ -104,6 +105,46 @@ impl Channel {
         ensures err { OnErr result (self.new ≡ self.old) }
     {
         self.items.push(*self.zero.allocator(), item)
+    }
+
+    /// Like `push`, of an item of this one word.
+    #[inline(always)]
+    pub(crate) fn push_word(&mut self, word: Word) -> Result<(), AllocError>
+        ensures ok { OnOk result (self.new ≡ record self.old { items = self.old.items ++ (word ∷ []) ∷ [] }) }
+        ensures err { OnErr result (self.new ≡ self.old) }
+    {
+        self.items.push_word(*self.zero.allocator(), word)
+    }
+
+    /// Takes the item at the buffer's front, if there is one and it has no other word than the one returned.
+    #[inline(always)]
+    pub(crate) fn pop_word(&mut self) -> Option<Word>
+        ensures front { IfSome result (λ word. slice_index_or self.old.items 0 [] ≡ word ∷ []) }
+        ensures rest { IfSome result (λ word. self.new ≡ record self.old { items = drop 1 self.old.items }) }
+        ensures none { IfNone result (front_word self.old.items ≡ None) }
+        ensures same { IfNone result (self.new ≡ self.old) }
+    {
+        self.items.pop_word()
+    }
+
+    /// Puts this word at the buffer's back, and takes the item at its front (the same one if the buffer was empty), if that
+    /// item has no other word than the one returned.
+    pub(crate) fn pass_word(&mut self, word: Word) -> Result<Option<Word>, AllocError>
+        ensures front { IfOk result (λ front. IfSome front (λ front. slice_index_or (self.old.items ++ (word ∷ []) ∷ []) 0 [] ≡ front ∷ [])) }
+        ensures rest { IfOk result (λ front. IfSome front (λ _front. self.new ≡ record self.old { items = drop 1 (self.old.items ++ (word ∷ []) ∷ []) })) }
+        ensures none { IfOk result (λ front. IfNone front (front_word (self.old.items ++ (word ∷ []) ∷ []) ≡ None)) }
+        ensures same { IfOk result (λ front. IfNone front (self.new ≡ self.old)) }
+        ensures err { OnErr result (self.new ≡ self.old) }
+    {
+        if self.items.len() == 0 {
+            return Ok(Some(word));
+        }
+        let Some(front) = self.items.front_word() else {
+            return Ok(None);
+        };
+        self.push_word(word)?;
+        self.items.drop_front();
+        Ok(Some(front))
     }
 
     /// Takes the item at the buffer's front, if there is one, and writes the receiver's reply to `outcome`.

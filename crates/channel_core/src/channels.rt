@@ -2,15 +2,18 @@
 
 ghost use Rattle.std.specs.Prelude.{◌≡◌, ℕ, ◌+◌, ◌<◌, ◌≤◌, ◌∷◌, [], ◌++◌, IfOk, IfNone, IfSome, OnErr, OnOk, Some, None, drop, nat_lt, option_copied, option_map, pos, suc, false, true, length, slice_index_or, slice_set, unwrap_or};
 ghost use Rattle.std.specs.Option.{is_some};
-ghost use Rattle.word.specs.Requests.{channel_of, got, is_ready, no_channel, partners, receive_ready, send_ready, without};
+ghost use Rattle.word.specs.Requests.{channel_of, got, is_ready, no_channel, partner, partners, receive_ready, send_ready, without};
 ghost use Rattle.word.specs.Values.{Close, Done, Make, Receive, Request as AnyRequest, Select, Send};
 ghost use Rattle.word.specs.Views.{outcome_of, request_of};
 ghost use Rattle.word.specs.declared.request.EventOutcome.TheVariants as outcomes;
-ghost use Rattle.channel_core.specs.Channels.{Does, DoesAlone, IsAlone, IsOfOneChannel, IsTold, Others, Receives, Sends, Serves, after_passing, came, capacity_of, clause_at, front_after, length_of, offers_at, shared_with};
+ghost use Rattle.channel_core.specs.Channels.{Does, DoesAlone, IsAlone, IsOfOneChannel, IsTold, Others, Receives, Sends, Serves, after_passing, came, capacity_of, clause_at, front_after, length_of, offers_at, partner_of, shared_with};
+ghost use Rattle.channel_core.specs.Words.{IsReceived, IsSent, word_sent};
+ghost use Rattle.item_queue.specs.Items.{front_word, only_word};
 
 use crate::channel::Channel;
 use crate::outcome::{Outcome, Woken, sent, tell_got, tell_sent, wake, wake_with};
 use crate::sleepers::Sleepers;
+use crate::word_outcome::{ReceivedWord, SentWord};
 use go_text::Memory;
 use std::alloc::Global;
 use std::marker::Model;
@@ -344,6 +347,95 @@ impl Channels {
         self.asleep.offers_at(chan)
     }
 
+    /// Like `send`, of an item of one word, if the channel is open and no select receives it; else nothing is done.
+    #[inline(always)]
+    pub fn send_word(&mut self, number: u64, chan: u32, word: Word) -> Result<SentWord, Memory>
+        ensures sends { IfOk result (λ sent. IsSent self.old number chan word sent self.new) }
+        ensures memory { OnErr result (self.new ≡ self.old) }
+    {
+        if self.is_closed(chan) {
+            return Ok(SentWord::Other);
+        }
+        let Some(partner) = self.asleep.partner(chan, false) else {
+            return self.send_word_alone(number, chan, word);
+        };
+        if partner.case != 0 {
+            return Ok(SentWord::Other);
+        }
+        let receiver = partner.number;
+        self.asleep.leave(receiver);
+        Ok(SentWord::To(receiver))
+    }
+
+    /// Like `send_word`, if the channel is open and nobody receives.
+    fn send_word_alone(&mut self, number: u64, chan: u32, word: Word) -> Result<SentWord, Memory>
+        requires open { (channel_of self.old.channels chan).closed ≡ false }
+        requires alone { option_map partner_of (partner chan false self.old.asleep) ≡ None }
+        ensures sends { IfOk result (λ sent. IsSent self.old number chan word sent self.new) }
+        ensures memory { OnErr result (self.new ≡ self.old) }
+    {
+        if self.has_room(chan) {
+            push_word(self.channels.as_mut_slice(), chan, word)?;
+            return Ok(SentWord::Kept);
+        }
+        self.sleep_sending(number, chan, word)?;
+        Ok(SentWord::Sleeps)
+    }
+
+    /// Goroutine `number` falls asleep at a send of this word. It is a call, so that a word that is kept reserves no stack
+    /// space for an item.
+    #[inline(never)]
+    fn sleep_sending(&mut self, number: u64, chan: u32, word: Word) -> Result<(), Memory>
+        ensures asleep { OnOk result (self.new ≡ record self.old { asleep = without self.old.asleep number ++ record { number = number; request = Send (Some chan) (word ∷ []) } ∷ [] }) }
+        ensures memory { OnErr result (self.new ≡ self.old) }
+    {
+        let item = Item::new(self.alloc, [word].as_slice());
+        self.enter(number, &Request::Send(Some(chan), item))
+    }
+
+    /// Like `receive`, if the item has one word, no select sends it, and the channel is open or has items; else nothing is done.
+    #[inline(always)]
+    pub fn receive_word(&mut self, number: u64, chan: u32) -> Result<ReceivedWord, Memory>
+        ensures receives { IfOk result (λ received. IsReceived self.old number chan received self.new) }
+        ensures memory { OnErr result (self.new ≡ self.old) }
+    {
+        let Some(partner) = self.asleep.partner(chan, true) else {
+            return self.receive_word_alone(number, chan);
+        };
+        if partner.case != 0 {
+            return Ok(ReceivedWord::Other);
+        }
+        let sender = partner.number;
+        let Some(word) = word_sent(partner.item) else {
+            return Ok(ReceivedWord::Other);
+        };
+        let Some(front) = pass_word(self.channels.as_mut_slice(), chan, word)? else {
+            return Ok(ReceivedWord::Other);
+        };
+        self.asleep.leave(sender);
+        Ok(ReceivedWord::From(front, sender))
+    }
+
+    /// Like `receive_word`, if nobody sends.
+    #[tactic(auto, using(crate::proofs::Words::left_items, crate::proofs::Words::left_closed))]
+    fn receive_word_alone(&mut self, number: u64, chan: u32) -> Result<ReceivedWord, Memory>
+        requires alone { option_map partner_of (partner chan true self.old.asleep) ≡ None }
+        ensures receives { IfOk result (λ received. IsReceived self.old number chan received self.new) }
+        ensures memory { OnErr result (self.new ≡ self.old) }
+    {
+        if self.has_items(chan) {
+            let Some(word) = pop_word(self.channels.as_mut_slice(), chan) else {
+                return Ok(ReceivedWord::Other);
+            };
+            return Ok(ReceivedWord::Kept(word));
+        }
+        if self.is_closed(chan) {
+            return Ok(ReceivedWord::Other);
+        }
+        self.enter(number, &Request::Receive(Some(chan)))?;
+        Ok(ReceivedWord::Sleeps)
+    }
+
     /// Whether a send on a channel is ready.
     fn can_send(&self, chan: u32) -> bool
         ensures { (o : Others) (n c : ℕ) (q : AnyRequest) → result ≡ send_ready (shared_with o self.now) n c q chan }
@@ -518,6 +610,65 @@ fn push(channels: &mut [Channel], chan: u32, item: &Item) -> Result<(), Memory>
         channels[chan as usize].push(item)?;
     }
     Ok(())
+}
+
+/// Like `push`, of an item of this one word.
+#[inline(always)]
+fn push_word(channels: &mut [Channel], chan: u32, word: Word) -> Result<(), Memory>
+    ensures ok { OnOk result (channels.new ≡ slice_set channels.old chan (record (channel_of channels.old chan) { items = (channel_of channels.old chan).items ++ (word ∷ []) ∷ [] })) }
+    ensures err { OnErr result (channels.new ≡ channels.old) }
+{
+    if (chan as usize) < channels.len() {
+        channels[chan as usize].push_word(word)?;
+    }
+    Ok(())
+}
+
+/// Takes the item at the front of a channel's buffer, if there is one and it has no other word than the one returned.
+#[inline(always)]
+fn pop_word(channels: &mut [Channel], chan: u32) -> Option<Word>
+    ensures front { IfSome result (λ word. slice_index_or (channel_of channels.old chan).items 0 [] ≡ word ∷ []) }
+    ensures rest { IfSome result (λ _word. channels.new ≡ slice_set channels.old chan (record (channel_of channels.old chan) { items = drop 1 (channel_of channels.old chan).items })) }
+    ensures none { IfNone result (front_word (channel_of channels.old chan).items ≡ None) }
+    ensures same { IfNone result (channels.new ≡ channels.old) }
+{
+    if (chan as usize) < channels.len() {
+        channels[chan as usize].pop_word()
+    } else {
+        None
+    }
+}
+
+/// Puts this word at the back of a channel's buffer, and takes the item at its front (the same one if the buffer was empty),
+/// if that item has no other word than the one returned.
+#[inline(always)]
+fn pass_word(channels: &mut [Channel], chan: u32, word: Word) -> Result<Option<Word>, Memory>
+    ensures front { IfOk result (λ front. IfSome front (λ front. front_after channels.old chan (word ∷ []) ≡ front ∷ [])) }
+    ensures rest { IfOk result (λ front. IfSome front (λ _front. channels.new ≡ slice_set channels.old chan (record (channel_of channels.old chan) { items = after_passing channels.old chan (word ∷ []) }))) }
+    ensures none { IfOk result (λ front. IfNone front (only_word (front_after channels.old chan (word ∷ [])) ≡ None)) }
+    ensures same { IfOk result (λ front. IfNone front (channels.new ≡ channels.old)) }
+    ensures err { OnErr result (channels.new ≡ channels.old) }
+{
+    if (chan as usize) < channels.len() {
+        return Ok(channels[chan as usize].pass_word(word)?);
+    }
+    Ok(Some(word))
+}
+
+/// The word of an item that has no other.
+#[inline(always)]
+fn word_sent(item: Option<&Item>) -> Option<Word>
+    ensures { result ≡ word_sent (option_copied item.entry) }
+{
+    let Some(item) = item else {
+        return None;
+    };
+    let words = item.words();
+    if words.len() == 1 {
+        Some(words[0])
+    } else {
+        None
+    }
 }
 
 /// Takes the item at the front of a channel's buffer, if there is one, and writes the receiver's reply to `outcome`.

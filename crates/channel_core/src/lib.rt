@@ -7,6 +7,8 @@ mod order;
 mod outcome;
 mod rows;
 mod sleepers;
+mod word_outcome;
 
 pub use channels::Channels;
 pub use outcome::{Outcome, Woken};
+pub use word_outcome::{ReceivedWord, SentWord};

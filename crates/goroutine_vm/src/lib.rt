@@ -13,10 +13,11 @@ mod frames;
 mod sleeping;
 mod state;
 mod step;
+mod talks;
 mod told;
 
 pub use call_frame::frame::Frame;
-pub use goroutine_vm_request::RequestLists;
+pub use goroutine_vm_request::{RequestLists, Talk};
 pub use sleeping::{Room, Sleeping};
 pub use state::{GoState, Stop, spawn_state};
 

@@ -251,7 +251,7 @@ impl GoState {
     }
 
     /// Makes at most `left` local steps; returns how many. It may stop before any step.
-    fn run(&mut self, alloc: Global, code: &Verified, limit: u64, left: u32) -> u32
+    pub(crate) fn run(&mut self, alloc: Global, code: &Verified, limit: u64, left: u32) -> u32
         requires { IsStateOf code.now limit self.old }
         ensures steps { steps code.now limit result self.old ≡ self.new }
         ensures most { result ≤ left }

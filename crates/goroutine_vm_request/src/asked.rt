@@ -184,7 +184,7 @@ fn cap(frame: &Frame, at: usize, place: &mut Request) -> bool
 
 /// The channel on the top of the stack.
 #[inline(always)]
-fn channel(frame: &Frame, at: usize) -> Option<Option<u32>>
+pub(crate) fn channel(frame: &Frame, at: usize) -> Option<Option<u32>>
     requires { at + 1 ≡ length frame.now.stack }
     ensures { IsChannelOn (drop at frame.now.stack) result }
 {

@@ -4,6 +4,8 @@
 mod asked;
 mod lists;
 mod select;
+mod talks;
 
 pub use asked::{is_asking, request};
 pub use lists::RequestLists;
+pub use talks::{Talk, find_talk};

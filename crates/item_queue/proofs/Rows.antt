@@ -1,11 +1,11 @@
 -- Items that are stored word by word.
-use Rattle.std.proofs.Common.{◌≡◌, ◌≢◌, ◌-◌, ℕ, zero, suc, ◌+◌, ◌*◌, ◌<◌, ◌≤◌, sym, ap, ◌∙◌, arith, refl, List, [], ◌∷◌, ◌++◌, length, append_assoc}
+use Rattle.std.proofs.Common.{◌≡◌, ◌≢◌, ◌-◌, ℕ, zero, suc, ◌+◌, ◌*◌, ◌<◌, ◌≤◌, sym, ap, ◌∙◌, arith, refl, List, [], ◌∷◌, ◌++◌, length, append_assoc, Option, None}
 use Rattle.std.specs.Prelude.{drop, slice_index_or, take}
 use Rattle.std.proofs.Math.Seq.{take-length}
-use Rattle.std.proofs.lemmas.List.{drop-append-le, length-drop, take-append-le}
+use Rattle.std.proofs.lemmas.List.{drop-append-le, length-drop, length-take-le, take-append-le}
 use Rattle.word.specs.declared.value.Word.{Word}
 use Rattle.word.specs.Values.{Item}
-use Rattle.item_queue.specs.Items.{items_in}
+use Rattle.item_queue.specs.Items.{items_in, front_word, only_word}
 
 pub length_items_in : (w n : ℕ) (ws : List Word) → length (items_in w n ws) ≡ n
 length_items_in w zero ws = refl
@@ -75,3 +75,19 @@ one_less w n i f ws items all item l it e =
     ∙ ap (λ (ys : List Word). items ++ take w (drop f ws) ∷ items_in w m ys) (sym (drop_more f w ws))
     ∙ ap (λ (k : ℕ). items ++ items_in w k (drop f ws)) (sym count)
     ∙ e
+
+several_words : (x : Item) → length x ≢ 1 → only_word x ≡ None
+several_words [] ne = refl
+several_words (w ∷ []) ne = absurd (ne refl)
+several_words (w ∷ v ∷ ws) ne = refl
+
+-- items of one word, and of another number of words
+pub wide : (w n : ℕ) (ws : List Word) → w ≢ 1 → length ws ≡ w * n → front_word (items_in w n ws) ≡ None
+wide w zero ws ne e = refl
+wide w (suc n) ws ne e =
+    let whole = more_words w n in
+    let some : w ≤ length ws = omega (arith, e, whole) in several_words (take w ws) (λ l. ne (sym (length-take-le w ws some) ∙ l))
+
+pub popped : (n : ℕ) (old new : List Word) (w : Word) → old ≡ w ∷ new → length old ≡ 1 * n → items_in 1 n old ≡ (w ∷ []) ∷ items_in 1 (n - 1) new
+popped zero old new w e l = let some = ap length e in absurd (omega (arith, l, some))
+popped (suc n) old new w e l = let less : n ≡ suc n - 1 = omega arith in ap (items_in 1 (suc n)) e ∙ ap (λ (m : ℕ). (w ∷ []) ∷ items_in 1 m new) less

@@ -22,7 +22,8 @@ pub(crate) struct Line {
 }
 
 impl Line {
-    ghost use Rattle.std.specs.Prelude.{◌≡◌, ◌≢◌, ◌<◌, ◌≤◌, ◌^◌, ◌++◌, ◌∷◌, [], drop, length, slice_index_or, IfOk, OnErr, OnOk};
+    ghost use Rattle.std.specs.Prelude.{◌≡◌, ◌≢◌, ◌<◌, ◌≤◌, ◌^◌, ◌++◌, ◌∷◌, [], None, drop, length, slice_index_or, IfNone, IfOk, IfSome, OnErr, OnOk};
+    ghost use Rattle.item_queue.specs.Items.{front_word};
     ghost use Rattle.word.specs.declared.limits.TheConstants.{MAX_WORDS};
     ghost use Rattle.item_queue.specs.Lines.{items_of_line};
 
@@ -67,6 +68,51 @@ impl Line {
         append(&mut self.words, item);
         self.count += 1;
         Ok(())
+    }
+
+    /// Like `push`, of an item of this one word.
+    #[inline(always)]
+    #[tactic(auto, using(crate::proofs::Rows::one_more, crate::proofs::Rows::few))]
+    pub(crate) fn push_word(&mut self, word: Word) -> Result<(), AllocError>
+        requires { self.old.width ≡ 1 }
+        ensures ok { OnOk result (items_of_line self.new ≡ items_of_line self.old ++ (word ∷ []) ∷ []) }
+        ensures err { OnErr result (items_of_line self.new ≡ items_of_line self.old) }
+    {
+        make_room(&mut self.words, 1)?;
+        self.words.push_back_reserved(word);
+        self.count += 1;
+        Ok(())
+    }
+
+    /// The word of the item at the front, if items have one word and there is one.
+    #[inline(always)]
+    #[tactic(auto, using(crate::proofs::Rows::wide))]
+    pub(crate) fn front_word(&self) -> Option<Word>
+        ensures { result ≡ front_word (items_of_line self.now) }
+    {
+        if self.width == 1 {
+            self.words.front().copied()
+        } else {
+            None
+        }
+    }
+
+    /// Takes off the item at the front, if items have one word and there is one, and returns its word.
+    #[inline(always)]
+    #[tactic(auto, using(crate::proofs::Rows::wide, crate::proofs::Rows::popped))]
+    pub(crate) fn pop_word(&mut self) -> Option<Word>
+        ensures some { IfSome result (λ word. items_of_line self.old ≡ (word ∷ []) ∷ items_of_line self.new) }
+        ensures none { IfNone result (front_word (items_of_line self.old) ≡ None) }
+        ensures same { IfNone result (items_of_line self.new ≡ items_of_line self.old) }
+    {
+        if self.width != 1 {
+            return None;
+        }
+        let word = self.words.pop_front();
+        if word.is_some() {
+            self.count -= 1;
+        }
+        word
     }
 
     /// Writes the item at the front to `room`, if there is one.

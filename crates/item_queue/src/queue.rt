@@ -1,6 +1,7 @@
 //! Items in order.
 
-ghost use Rattle.std.specs.Prelude.{◌≡◌, ◌≢◌, ◌<◌, ◌≤◌, ◌^◌, ◌++◌, ◌∷◌, [], drop, length, slice_index_or, OnErr, OnOk};
+ghost use Rattle.std.specs.Prelude.{◌≡◌, ◌≢◌, ◌<◌, ◌≤◌, ◌^◌, ◌++◌, ◌∷◌, [], None, drop, length, slice_index_or, IfNone, IfSome, OnErr, OnOk};
+ghost use Rattle.item_queue.specs.Items.{front_word, only_word};
 ghost use Rattle.word.specs.declared.limits.TheConstants.{MAX_WORDS};
 ghost use Rattle.item_queue.specs.Lines.{items_of};
 
@@ -9,7 +10,7 @@ use std::alloc::{AllocError, Global};
 use std::collections::VecDeque;
 use std::marker::Model;
 use word::limits::MAX_WORDS;
-use word::value::Item;
+use word::value::{Item, Word};
 
 /// Items as they are kept in memory.
 #[derive(Drop)]
@@ -74,6 +75,46 @@ impl ItemQueue {
         ensures err { OnErr result (self.new ≡ self.old) }
     {
         push(&mut self.kept, alloc, item)
+    }
+
+    /// Like `push`, of an item of this one word.
+    ///
+    /// # Errors
+    ///
+    /// `AllocError` if it is out of memory; then nothing has changed.
+    #[inline(always)]
+    pub fn push_word(&mut self, alloc: Global, word: Word) -> Result<(), AllocError>
+        ensures ok { OnOk result (self.new ≡ self.old ++ (word ∷ []) ∷ []) }
+        ensures err { OnErr result (self.new ≡ self.old) }
+    {
+        match &mut self.kept {
+            Kept::Words(line) if line.width() == 1 => line.push_word(word),
+            kept => push_other(kept, alloc, &Item::new(alloc, [word].as_slice())),
+        }
+    }
+
+    /// The word of the item at the front, if there is one and it has no other word.
+    #[inline(always)]
+    pub fn front_word(&self) -> Option<Word>
+        ensures { result ≡ front_word self.now }
+    {
+        match &self.kept {
+            Kept::Words(line) => line.front_word(),
+            Kept::Items(items) => front_word(items),
+        }
+    }
+
+    /// Takes off the item at the front, if there is one and it has no other word than the one returned.
+    #[inline(always)]
+    pub fn pop_word(&mut self) -> Option<Word>
+        ensures some { IfSome result (λ word. self.old ≡ (word ∷ []) ∷ self.new) }
+        ensures none { IfNone result (front_word self.old ≡ None) }
+        ensures same { IfNone result (self.new ≡ self.old) }
+    {
+        match &mut self.kept {
+            Kept::Words(line) => line.pop_word(),
+            Kept::Items(items) => pop_word(items),
+        }
     }
 
     /// Writes the item at the front to `room`, if there is one.
@@ -148,5 +189,41 @@ fn copy_item(items: &VecDeque<Item>, room: &mut Item)
 {
     if let Some(front) = items.front() {
         room.set(front.words());
+    }
+}
+
+/// The word of the item at the front, if there is one and it has no other word.
+#[inline(never)]
+fn front_word(items: &VecDeque<Item>) -> Option<Word>
+    ensures { result ≡ front_word items.now.items }
+{
+    match items.front() {
+        Some(front) => only_word(front.words()),
+        None => None,
+    }
+}
+
+/// Takes off the item at the front, if there is one and it has no other word than the one returned.
+#[inline(never)]
+fn pop_word(items: &mut VecDeque<Item>) -> Option<Word>
+    ensures some { IfSome result (λ word. items.old.items ≡ (word ∷ []) ∷ items.new.items) }
+    ensures none { IfNone result (front_word items.old.items ≡ None) }
+    ensures same { IfNone result (items.new.items ≡ items.old.items) }
+{
+    let word = front_word(items);
+    if word.is_some() {
+        let _ = items.pop_front();
+    }
+    word
+}
+
+/// The word, if there is just one.
+fn only_word(words: &[Word]) -> Option<Word>
+    ensures { result ≡ only_word words.now }
+{
+    if words.len() == 1 {
+        Some(words[0])
+    } else {
+        None
     }
 }
