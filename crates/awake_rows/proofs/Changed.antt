@@ -1,17 +1,19 @@
 -- What a call does to the rows and beds of numbers, by what it does to the item in a slot.
-use Rattle.std.proofs.Common.{◌≡◌, ◌≢◌, ◌∙◌, ℕ, ◌+◌, ◌<◌, Bool, true, ◌∷◌, ◌++◌, [], length, take, drop, Option, Some, None, option_map, refl, ap, sym, subst, inl, inr, get_or-set_same}
+use Rattle.std.proofs.Common.{◌≡◌, ◌≢◌, ◌∙◌, ℕ, ◌+◌, ◌<◌, Bool, true, List, ◌∷◌, ◌++◌, [], length, take, drop, Option, Some, None, option_map, refl, ap, sym, subst, inl, inr, get_or-set_same}
 use Rattle.std.specs.Prelude.{IfNone, IfOk, IfSome, IsSome, OnErr, Result, Ok, Err, slice_index_or, slice_set}
-use Rattle.std.proofs.lemmas.List.{set-get_or, set-set, set_past}
+use Rattle.std.proofs.lemmas.List.{get_or_past, set-get_or, set-set, set_past}
+use Rattle.std.proofs.lemmas.Option.{none-some}
 use Rattle.std.proofs.lemmas.Bool.{cases_lt}
 use Rattle.std.proofs.Math.ListN.{get_or-eq_default}
 use Rattle.std.specs.Option.{is_some}
 use Rattle.bytecode.specs.Code.{Code}
+use Rattle.goroutine_vm_request.specs.declared.talks.Talk.{Talk}
 use Rattle.slot_index.specs.Numbers.{IsInverse, Frees, Gives, Numbered, slot_of}
 use Rattle.turn_rule.specs.declared.Row.{Row}
 use Rattle.awake_rows.specs.declared.goroutine.Goroutine.{Goroutine}
 use Rattle.awake_rows.specs.declared.goroutine.Goroutine.TheVariants.{Awake, Asleep}
 use Rattle.awake_rows.specs.declared.orders.Orders.{Orders}
-use Rattle.awake_rows.specs.Slots.{Beds, FitsRow, IsFreeIn, KeepsFloor, Rows, State, WorksIn, free_clock, free_row, lent_row}
+use Rattle.awake_rows.specs.Slots.{Beds, FitsRow, IsFreeIn, KeepsFloor, Rows, State, WorksIn, free_clock, free_row, is_asking, lent_row, talk_of_row}
 use Rattle.awake_rows.specs.Living.{AreLiving, Grows, HaveGrown, HaveRoom, Items, Living, WorksAt, asleep_of, awake_of, lain_down, living_in, now_late, row_in, with_row, woken_up}
 use Rattle.awake_rows.proofs.Kept.{Changes, bed_some, kept_changed, kept_ended, kept_grown, kept_started, living_changed, living_ended, living_grown, living_started, row_none, row_some, written_back}
 
@@ -74,6 +76,9 @@ some_not_none (Some x) h e = absurd cc
 pub some_there : {A B : Type 0} (r : Option A) (show : A → B) (o : Option B) → is_some r ≡ true → IfSome r (λ x. o ≡ Some (show x)) → IsSome o
 some_there None show o h e = absurd cc
 some_there (Some x) show o h e = ap is_some e
+
+is_within : {A : Type 0} (xs : List (Option A)) (n : ℕ) → (slice_index_or xs n None ≡ None → ⊥) → n < length xs
+is_within xs n h = elim (cases_lt n (length xs)) [ inl l ↦ l | inr l ↦ absurd (h (get_or_past xs n None l)) ]
 
 set_fits : (code : Code) (limit : ℕ) (rows : Rows) (n : ℕ) (row : Option (Row State)) → FitsRow code limit row → FitsRow code limit (slice_index_or (slice_set rows n row) n None)
 set_fits code limit rows n row h = elim (cases_lt n (length rows)) [
@@ -209,20 +214,33 @@ module _ (count : ℕ) (slots : Numbered) (items : Items) (orders : Orders) (all
           let put = row_put len size (Some (Awake h.1)) changed h.4 h.1 refl (bed_of_awake (ap is_some free)) in
           ((h.0, h.1, free, h.3, ap (λ (l : Living). l.rows) put), put ∙ (λ i. record { rows = sym (ap (λ (l : Living). l.rows) put) i; beds = beds }))
 
-      pub works_ok : {E : Type 0} (code : Code) (limit quantum : ℕ) (r : Result Bool E) → IfOk r (λ asking. WorksAt code limit quantum given s (Some asking) changed)
-          → IfOk r (λ asking. WorksIn code limit quantum rows n (Some asking) (living_in count slots (take len (changed ++ drop (length changed) items))).rows)
-      works_ok {E} code limit quantum (Ok asking) h = (works code limit quantum (Some asking) h).0
-      works_ok {E} code limit quantum (Err e) h = tt
+      -- `asks x` is whether it is then at a request
+      pub works_ok : {A E : Type 0} (asks : A → Bool) (code : Code) (limit quantum : ℕ) (r : Result A E) → IfOk r (λ x. WorksAt code limit quantum given s (Some (asks x)) changed)
+          → IfOk r (λ x. WorksIn code limit quantum rows n (Some (asks x)) (living_in count slots (take len (changed ++ drop (length changed) items))).rows)
+      works_ok {A} {E} asks code limit quantum (Ok x) h = (works code limit quantum (Some (asks x)) h).0
+      works_ok {A} {E} asks code limit quantum (Err e) h = tt
 
-      pub works_err : {E : Type 0} (code : Code) (limit quantum : ℕ) (r : Result Bool E) → OnErr r (WorksAt code limit quantum given s None changed)
+      pub works_err : {A E : Type 0} (code : Code) (limit quantum : ℕ) (r : Result A E) → OnErr r (WorksAt code limit quantum given s None changed)
           → OnErr r (WorksIn code limit quantum rows n None (living_in count slots (take len (changed ++ drop (length changed) items))).rows)
-      works_err {E} code limit quantum (Ok asking) h = tt
-      works_err {E} code limit quantum (Err e) h = (works code limit quantum None h).0
+      works_err {A} {E} code limit quantum (Ok x) h = tt
+      works_err {A} {E} code limit quantum (Err e) h = (works code limit quantum None h).0
 
-      pub works_rest : {E : Type 0} (code : Code) (limit quantum : ℕ) (r : Result Bool E) → IfOk r (λ asking. WorksAt code limit quantum given s (Some asking) changed) → OnErr r (WorksAt code limit quantum given s None changed)
+      pub works_rest : {A E : Type 0} (asks : A → Bool) (code : Code) (limit quantum : ℕ) (r : Result A E) → IfOk r (λ x. WorksAt code limit quantum given s (Some (asks x)) changed) → OnErr r (WorksAt code limit quantum given s None changed)
           → living_in count slots (take len (changed ++ drop (length changed) items)) ≡ record { rows = (living_in count slots (take len (changed ++ drop (length changed) items))).rows; beds = beds }
-      works_rest {E} code limit quantum (Ok asking) h k = (works code limit quantum (Some asking) h).1
-      works_rest {E} code limit quantum (Err e) h k = (works code limit quantum None k).1
+      works_rest {A} {E} asks code limit quantum (Ok x) h k = (works code limit quantum (Some (asks x)) h).1
+      works_rest {A} {E} asks code limit quantum (Err e) h k = (works code limit quantum None k).1
+
+      -- the talk of the one in the slot is that of its number
+      pub talks_ok : {E : Type 0} (code : Code) (limit quantum : ℕ) (r : Result Talk E) → IfOk r (λ talk. WorksAt code limit quantum given s (Some (is_asking talk)) changed) → IfOk r (λ talk. talk ≡ talk_of_row code limit (row_in changed s))
+          → IfOk r (λ talk. talk ≡ talk_of_row code limit (slice_index_or (living_in count slots (take len (changed ++ drop (length changed) items))).rows n None))
+      talks_ok {E} code limit quantum (Ok talk) h is =
+          let free : slice_index_or rows n None ≡ Some (free_row h.0) = row_given ∙ h.2 in
+          let put = row_put len size (Some (Awake h.1)) changed h.4 h.1 refl (bed_of_awake (ap is_some free)) in
+          let in_slot : row_in changed s ≡ Some h.1 = ap (λ (xs : Items). row_in xs s) h.4 ∙ ap awake_of (get_or-set_same given s (Some (Awake h.1)) None (is_within given s (λ (none : slice_index_or given s None ≡ None). none-some (free_row h.0) (sym (ap awake_of none) ∙ h.2)))) in
+          let of_number : slice_index_or (living_in count slots (take len (changed ++ drop (length changed) items))).rows n None ≡ Some h.1 =
+          ap (λ (l : Living). slice_index_or l.rows n None) put ∙ get_or-set_same rows n (Some h.1) None (is_within rows n (λ (none : slice_index_or rows n None ≡ None). none-some (free_row h.0) (sym none ∙ free))) in
+          is ∙ ap (talk_of_row code limit) (in_slot ∙ sym of_number)
+      talks_ok {E} code limit quantum (Err e) h is = tt
 
     -- a step keeps what fits
     pub step_fits : (code : Code) (limit : ℕ) (f : Row State → Row State) → FitsRow code limit (awake_of (with_row f (slice_index_or given s None))) → FitsRow code limit (slice_index_or (slice_set rows n (option_map f (slice_index_or rows n None))) n None)
@@ -278,7 +296,7 @@ pub lent_at : (o : Option State) (given changed : Items) (s : ℕ) (C : Type 0) 
 lent_at None given changed s C none some = (slice_index_or given s None, none.1 ∙ sym (set-get_or given s None), λ h. h)
 lent_at (Some t) given changed s C none some = (Some (Awake (lent_row t)), some.1, λ h. refl)
 
-pub worked_at : {E : Type 0} (code : Code) (limit quantum : ℕ) (given changed : Items) (s : ℕ) (r : Result Bool E) → IfOk r (λ asking. WorksAt code limit quantum given s (Some asking) changed) → OnErr r (WorksAt code limit quantum given s None changed)
+pub worked_at : {A E : Type 0} (asks : A → Bool) (code : Code) (limit quantum : ℕ) (given changed : Items) (s : ℕ) (r : Result A E) → IfOk r (λ x. WorksAt code limit quantum given s (Some (asks x)) changed) → OnErr r (WorksAt code limit quantum given s None changed)
     → (row : Row State) × (changed ≡ slice_set given s (Some (Awake row)))
-worked_at {E} code limit quantum given changed s (Ok asking) ok err = (ok.1, ok.4)
-worked_at {E} code limit quantum given changed s (Err e) ok err = (err.1, err.4)
+worked_at {A} {E} asks code limit quantum given changed s (Ok x) ok err = (ok.1, ok.4)
+worked_at {A} {E} asks code limit quantum given changed s (Err e) ok err = (err.1, err.4)

@@ -4,3 +4,4 @@ pub mod Found
 pub mod Kept
 pub mod Least
 pub mod Stepping
+pub mod Talking

@@ -1,9 +1,12 @@
 -- Goroutines as a core keeps them.
-use Rattle.std.specs.Prelude.{◌≡◌, ◌≢◌, ℕ, ◌||◌, Bool, true, false, cond, List, Option, Some, None, IfSome, slice_index_or, slice_set}
+use Rattle.std.specs.Prelude.{◌≡◌, ◌≢◌, ℕ, ◌||◌, Bool, true, false, cond, List, [], ◌∷◌, Option, Some, None, IfSome, slice_index_or, slice_set}
 use Rattle.std.specs.Option.{MatchOption, is_some, option_map}
 use Rattle.bytecode.specs.Code.{Code}
 use Rattle.bytecode.specs.Machine.{Frames, code_kind}
 use Rattle.goroutine_vm.specs.Advance.{Goes, IsStateOf, steps}
+use Rattle.goroutine_vm_request.specs.declared.talks.Talk.{Talk}
+use Rattle.goroutine_vm_request.specs.declared.talks.Talk.TheVariants as talks
+use Rattle.goroutine_vm_request.specs.Talks.{talk_of}
 use Rattle.logical_clock.specs.declared.key.Key.{Key}
 use Rattle.logical_clock.specs.Order.{is_before}
 use Rattle.turn_rule.specs.declared.Lease.{Lease as Loan}
@@ -12,8 +15,10 @@ use Rattle.turn_rule.specs.declared.Step.{Step}
 use Rattle.turn_rule.specs.declared.Step.TheVariants.{Lend, Local, Publish, Look, Return, Settle}
 use Rattle.turn_rule.specs.Schedule.{give_back, lend, local, look, publish}
 use Rattle.word.specs.Kinds.{Clocked, asks, told}
-use Rattle.word.specs.Values.{Reply}
+use Rattle.word.specs.Values.{Reply, Nothing, Received}
 use Rattle.word.specs.Worlds.{rules}
+use Rattle.awake_rows.specs.declared.replies.WordReply.{WordReply}
+use Rattle.awake_rows.specs.declared.replies.WordReply.TheVariants as replies
 use Rattle.awake_rows.specs.declared.slot.Held.{Held}
 use Rattle.awake_rows.specs.declared.slot.Held.TheVariants.{Here, Lent, Ahead}
 use Rattle.awake_rows.specs.declared.turns.Among.{Among}
@@ -146,6 +151,25 @@ IsWorked code limit quantum base answer row =
 abbrev pub WorksIn : Code → ℕ → ℕ → Rows → ℕ → Option Bool → Rows → Type 0
 WorksIn code limit quantum old n answer new =
     (base : State) × (row : Row State) × IsFreeIn old n base × IsWorked code limit quantum base answer row × (new ≡ slice_set old n (Some row))
+
+-- ---- talks
+
+-- whether a goroutine with this talk is at a request
+abbrev pub is_asking : Talk → Bool
+is_asking (talks.Send k word) = true
+is_asking (talks.Receive k) = true
+is_asking talks.Other = true
+is_asking talks.Running = false
+
+-- the talk of goroutine n, if it is awake
+abbrev pub talk_of_row : Code → ℕ → Option (Row State) → Talk
+talk_of_row code limit None = talks.Other
+talk_of_row code limit (Some row) = talk_of (asks (code_kind code) limit row.state)
+
+-- the reply to a send, or to a receive of one word
+abbrev pub word_reply : WordReply → Reply
+word_reply replies.Sent = Nothing
+word_reply (replies.Received word) = Received (word ∷ []) true
 
 -- ---- one step of a schedule
 

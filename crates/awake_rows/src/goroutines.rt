@@ -9,18 +9,20 @@ ghost use Rattle.logical_clock.specs.Order.{keys, least};
 ghost use Rattle.turn_rule.specs.Schedule.{has_turn};
 ghost use Rattle.word.specs.Kinds.{told};
 ghost use Rattle.word.specs.Views.{reply_of};
-ghost use Rattle.awake_rows.specs.Slots.{FitsAll, FitsRow, IsAwake, IsBefore, IsFreeIn, IsNobodyAwake, IsUnlent, WorksIn, answered_rows, back_row, clock_among, free_clock, free_row, lent_row, raised_row, stepped_rows};
+ghost use Rattle.awake_rows.specs.Slots.{FitsAll, FitsRow, IsAwake, IsBefore, IsFreeIn, IsNobodyAwake, IsUnlent, WorksIn, answered_rows, back_row, clock_among, free_clock, free_row, is_asking, lent_row, raised_row, stepped_rows, talk_of_row, word_reply};
 
 use crate::goroutine::Goroutine;
 use crate::orders::{Orders, first, keyed, note, soonest};
+use crate::replies::WordReply;
 use crate::rows::{
-    answer_row, bed_in, doze_at, lend_row, make_room, put_at, raise_row, row_in, stay_row,
-    step_row, take_at, wake_at, work_row,
+    answer_row, answer_word_row, bed_in, doze_at, lend_row, make_room, put_at, raise_row, row_in,
+    stay_row, step_row, take_at, talk_row, wake_at, wake_word_at, work_row,
 };
 use crate::slot::Slot;
 use crate::turns::{Among, blocker, not_above};
 use go_text::Memory;
 use goroutine_vm::{GoState, Room, Sleeping};
+use goroutine_vm_request::Talk;
 use logical_clock::{Clock, Key};
 use slot_index::SlotIndex;
 use std::alloc::{AllocError, Global};
@@ -208,6 +210,30 @@ impl Goroutines {
         note(&mut self.orders, &self.slots, &self.items, slot);
     }
 
+    /// Like `wake`, with this reply.
+    #[inline(always)]
+    pub fn wake_word(
+        &mut self,
+        number: u64,
+        room: Room,
+        code: &Verified,
+        reply: WordReply,
+        clock: Clock,
+    )
+        requires { IfSome (slice_index_or self.old.beds number None) (λ s. IsFrameOf code.now s.state) }
+        ensures { self.new ≡ record self.old { rows = slice_set self.old.rows number (option_map (λ s. free_row (told (code_kind code.now) s clock (word_reply reply))) (slice_index_or self.old.beds number None)); beds = slice_set self.old.beds number None } }
+    {
+        if self.bed(number).is_none() {
+            self.end(number);
+            return;
+        }
+        let Some(slot) = self.slots.slot(number) else {
+            unreachable!()
+        };
+        wake_word_at(self.items.as_mut_slice(), slot, room, code, reply, clock);
+        note(&mut self.orders, &self.slots, &self.items, slot);
+    }
+
     /// A goroutine's request is done: it goes on with this reply, at this clock.
     #[inline(always)]
     pub fn answer(&mut self, code: &Verified, number: u64, reply: &Reply, clock: Clock)
@@ -219,6 +245,20 @@ impl Goroutines {
             return;
         };
         answer_row(self.items.as_mut_slice(), code, slot, reply, clock);
+        note(&mut self.orders, &self.slots, &self.items, slot);
+    }
+
+    /// Like `answer`, with this reply.
+    #[inline(always)]
+    pub fn answer_word(&mut self, code: &Verified, number: u64, reply: WordReply, clock: Clock)
+        requires frame { IfSome (slice_index_or self.old.rows number None) (λ row. IsFrameOf code.now row.state.state) }
+        requires unlent { IsUnlent (slice_index_or self.old.rows number None) }
+        ensures { self.new ≡ record self.old { rows = answered_rows code.now self.old.rows number clock (word_reply reply) } }
+    {
+        let Some(slot) = self.slots.slot(number) else {
+            return;
+        };
+        answer_word_row(self.items.as_mut_slice(), code, slot, reply, clock);
         note(&mut self.orders, &self.slots, &self.items, slot);
     }
 
@@ -271,6 +311,32 @@ impl Goroutines {
         let worked = work_row(alloc, self.items.as_mut_slice(), code, limit, slot, quantum);
         note(&mut self.orders, &self.slots, &self.items, slot);
         worked
+    }
+
+    /// Like `work`, but returns the request that the goroutine is then at, as far as it is a send of one word or a receive. It is parked
+    /// if it is at a request.
+    #[inline(always)]
+    pub fn talk(
+        &mut self,
+        alloc: Global,
+        code: &Verified,
+        limit: u64,
+        number: u64,
+        quantum: u32,
+    ) -> Result<Talk, Memory>
+        requires fits { FitsAll code.now limit self.old.rows }
+        requires free { is_some (free_clock (slice_index_or self.old.rows number None)) ≡ true }
+        ensures ok { IfOk result (λ talk. WorksIn code.now limit quantum self.old.rows number (Some (is_asking talk)) self.new.rows) }
+        ensures talk { IfOk result (λ talk. talk ≡ talk_of_row code.now limit (slice_index_or self.new.rows number None)) }
+        ensures memory { OnErr result (WorksIn code.now limit quantum self.old.rows number None self.new.rows) }
+        ensures rest { self.new ≡ record self.old { rows = self.new.rows } }
+    {
+        let Some(slot) = self.slots.slot(number) else {
+            unreachable!()
+        };
+        let talked = talk_row(alloc, self.items.as_mut_slice(), code, limit, slot, quantum);
+        note(&mut self.orders, &self.slots, &self.items, slot);
+        talked
     }
 
     /// One step of goroutine `number`, as a schedule names it.

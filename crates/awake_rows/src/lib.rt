@@ -4,10 +4,12 @@
 mod goroutine;
 mod goroutines;
 mod orders;
+mod replies;
 mod rows;
 mod slot;
 mod turns;
 
 pub use goroutines::Goroutines;
+pub use replies::WordReply;
 pub use slot::Slot;
 pub use turns::Among;

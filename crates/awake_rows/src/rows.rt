@@ -9,13 +9,15 @@ ghost use Rattle.word.specs.Kinds.{told};
 ghost use Rattle.word.specs.Views.{reply_of};
 ghost use Rattle.awake_rows.specs.declared.goroutine.Goroutine.TheVariants as goroutines;
 ghost use Rattle.awake_rows.specs.Living.{Grows, HaveGrown, HaveRoom, WorksAt, asleep_of, awake_of, lain_down, row_in, with_row, woken_up};
-ghost use Rattle.awake_rows.specs.Slots.{FitsRow, IsUnlent, free_clock, free_row, lent_row, raised_row, stepped_row};
+ghost use Rattle.awake_rows.specs.Slots.{FitsRow, IsUnlent, free_clock, free_row, is_asking, lent_row, raised_row, stepped_row, talk_of_row, word_reply};
 
 use crate::goroutine::Goroutine;
 use crate::orders::Orders;
+use crate::replies::WordReply;
 use crate::slot::Slot;
 use go_text::Memory;
 use goroutine_vm::{GoState, Room, Sleeping};
+use goroutine_vm_request::Talk;
 use logical_clock::Clock;
 use std::alloc::{AllocError, Global};
 use std::mem;
@@ -89,6 +91,26 @@ pub(crate) fn answer_row(
     }
 }
 
+/// Like `answer_row`, with this reply.
+#[inline(always)]
+pub(crate) fn answer_word_row(
+    items: &mut [Option<Goroutine>],
+    code: &Verified,
+    slot: usize,
+    reply: WordReply,
+    clock: Clock,
+)
+    requires frame { IfSome (row_in items.old slot) (λ row. IsFrameOf code.now row.state.state) }
+    requires unlent { IsUnlent (row_in items.old slot) }
+    ensures { items.new ≡ slice_set items.old slot (with_row (λ row. free_row (told (code_kind code.now) row.state clock (word_reply reply))) (slice_index_or items.old slot None)) }
+{
+    if slot < items.len() {
+        if let Some(Goroutine::Awake(row)) = &mut items[slot] {
+            row.tell_word(code, reply, clock);
+        }
+    }
+}
+
 /// A goroutine is as it was, though its request was performed: the run ends.
 pub(crate) fn stay_row(items: &mut [Option<Goroutine>], slot: usize)
     requires { IsUnlent (row_in items.old slot) }
@@ -133,6 +155,30 @@ pub(crate) fn work_row(
     if slot < items.len() {
         if let Some(Goroutine::Awake(row)) = &mut items[slot] {
             return row.work(alloc, code, limit, quantum);
+        }
+    }
+    unreachable!()
+}
+
+/// Like `work_row`, but returns the request that it then makes, as far as it is a send of one word or a receive.
+#[inline(always)]
+pub(crate) fn talk_row(
+    alloc: Global,
+    items: &mut [Option<Goroutine>],
+    code: &Verified,
+    limit: u64,
+    slot: usize,
+    quantum: u32,
+) -> Result<Talk, Memory>
+    requires fits { FitsRow code.now limit (row_in items.old slot) }
+    requires free { is_some (free_clock (row_in items.old slot)) ≡ true }
+    ensures ok { IfOk result (λ talk. WorksAt code.now limit quantum items.old slot (Some (is_asking talk)) items.new) }
+    ensures talk { IfOk result (λ talk. talk ≡ talk_of_row code.now limit (row_in items.new slot)) }
+    ensures memory { OnErr result (WorksAt code.now limit quantum items.old slot None items.new) }
+{
+    if slot < items.len() {
+        if let Some(Goroutine::Awake(row)) = &mut items[slot] {
+            return row.talk(alloc, code, limit, quantum);
         }
     }
     unreachable!()
@@ -208,6 +254,29 @@ pub(crate) fn wake_at(
     let mut state = sleeping.get_up(room);
     state.tell(code, reply, clock);
     put_at(items, slot, Goroutine::Awake(Slot::free(state)));
+}
+
+/// Like `wake_at`, with this reply.
+#[inline(always)]
+pub(crate) fn wake_word_at(
+    items: &mut [Option<Goroutine>],
+    slot: usize,
+    room: Room,
+    code: &Verified,
+    reply: WordReply,
+    clock: Clock,
+)
+    requires asleep { IsSome (asleep_of (slice_index_or items.old slot None)) }
+    requires frame { IfSome (asleep_of (slice_index_or items.old slot None)) (λ s. IsFrameOf code.now s.state) }
+    ensures { items.new ≡ slice_set items.old slot (woken_up (λ s. told (code_kind code.now) s clock (word_reply reply)) (slice_index_or items.old slot None)) }
+{
+    let Some(Goroutine::Asleep(sleeping)) = take_at(items, slot) else {
+        unreachable!()
+    };
+    let mut state = sleeping.get_up(room);
+    reply.tell(&mut state, code, clock);
+    let awake = Slot::free(state);
+    put_at(items, slot, Goroutine::Awake(awake));
 }
 
 /// Adds empty indexes to `items` and `orders` until they have `slot`.

@@ -1,6 +1,6 @@
 //! An awake goroutine in a world.
 
-ghost use Rattle.std.specs.Prelude.{◌≡◌, IfNone, IfOk, IfSome, OnErr, OnOk, None, Some, true, cond};
+ghost use Rattle.std.specs.Prelude.{◌≡◌, IfNone, IfOk, IfSome, OnErr, OnOk, None, Some, false, true, cond};
 ghost use Rattle.std.specs.Option.{is_some};
 ghost use Rattle.bytecode.specs.Machine.{code_kind};
 ghost use Rattle.bytecode.specs.Rules.{IsFrameOf};
@@ -10,11 +10,13 @@ ghost use Rattle.turn_rule.specs.Schedule.{give_back, lend, local, look, publish
 ghost use Rattle.word.specs.Kinds.{asks, told};
 ghost use Rattle.word.specs.Worlds.{rules};
 ghost use Rattle.word.specs.Views.{reply_of};
-ghost use Rattle.awake_rows.specs.Slots.{IsRowOf, KeepsFloor, IsWorked, State, back_row, free_clock, free_row, lent_row, raised_row, stepped_row};
+ghost use Rattle.awake_rows.specs.Slots.{IsRowOf, KeepsFloor, IsWorked, State, back_row, free_clock, free_row, is_asking, lent_row, raised_row, stepped_row, talk_of_row, word_reply};
 ghost use Rattle.awake_rows.specs.Living.{clocks_in, clocks_of};
 
+use crate::replies::WordReply;
 use go_text::Memory;
 use goroutine_vm::GoState;
+use goroutine_vm_request::Talk;
 use logical_clock::Clock;
 use std::alloc::Global;
 use std::marker::Model;
@@ -248,6 +250,30 @@ impl Slot {
         worked
     }
 
+    /// Like `work`, but returns the request that it is then at, as far as it is a send of one word or a receive.
+    #[inline(always)]
+    pub(crate) fn talk(
+        &mut self,
+        alloc: Global,
+        code: &Verified,
+        limit: u64,
+        quantum: u32,
+    ) -> Result<Talk, Memory>
+        requires row { IsRowOf code.now limit self.old }
+        requires free { is_some (free_clock (Some self.old)) ≡ true }
+        ensures ok { IfOk result (λ talk. (base : State) × (self.old ≡ free_row base) × IsWorked code.now limit quantum base (Some (is_asking talk)) self.new) }
+        ensures talk { IfOk result (λ talk. talk ≡ talk_of_row code.now limit (Some self.new)) }
+        ensures memory { OnErr result ((base : State) × (self.old ≡ free_row base) × IsWorked code.now limit quantum base None self.new) }
+    {
+        let Held::Here(state) = &mut self.held else {
+            unreachable!()
+        };
+        let talked = state.talk_ahead(alloc, code, limit, quantum);
+        self.parked = is_parked(&talked);
+        self.floor = state.clock();
+        talked
+    }
+
     /// Its request is done: it goes on with this reply, at this clock.
     pub fn answer(&mut self, code: &Verified, reply: Reply, clock: Clock)
         requires frame { IsFrameOf code.now self.old.state.state }
@@ -268,6 +294,21 @@ impl Slot {
             unreachable!()
         };
         state.tell(code, reply, clock);
+        self.floor = clock;
+        self.parked = false;
+    }
+
+    /// Like `answer`, with this reply.
+    #[inline(always)]
+    pub(crate) fn tell_word(&mut self, code: &Verified, reply: WordReply, clock: Clock)
+        requires frame { IsFrameOf code.now self.old.state.state }
+        requires unlent { self.old.lease ≡ None }
+        ensures { self.new ≡ free_row (told (code_kind code.now) self.old.state clock (word_reply reply)) }
+    {
+        let Held::Here(state) = &mut self.held else {
+            unreachable!()
+        };
+        reply.tell(state, code, clock);
         self.floor = clock;
         self.parked = false;
     }
@@ -408,6 +449,19 @@ impl Slot {
         self.parked = present.is_asking(code, limit);
         self.held = Held::Here(present);
         Ok(())
+    }
+}
+
+/// Whether a goroutine that has made local steps is at a request then.
+#[inline(always)]
+fn is_parked(talked: &Result<Talk, Memory>) -> bool
+    ensures ok { IfOk talked.now (λ talk. result ≡ is_asking talk) }
+    ensures memory { OnErr talked.now (result ≡ false) }
+{
+    match talked {
+        Ok(Talk::Running) => false,
+        Ok(_) => true,
+        Err(Memory) => false,
     }
 }
 

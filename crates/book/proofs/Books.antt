@@ -32,6 +32,7 @@ use Rattle.word.proofs.Apart.{apart}
 use Rattle.word.proofs.Found.{In}
 use Rattle.word.proofs.Laws.{laws}
 use Rattle.world_core_base.specs.Cores.{CodeMachine, CoreValue, FitsCore, HasTurn, IsCoreOf, IsFreeIn, IsLentRow, Performs, Asks, bytes_of, shared_of}
+use Rattle.world_core_base.specs.Talking.{TakesTurn}
 use Rattle.world_core_base.specs.Slots.{State, Rows, FitsRow, IsAwake, IsNobodyAwake, IsBefore, free_row, lent_row, waiting_clock}
 use Rattle.world_core_base.proofs.Leases.{core_fits_set, core_set, opened_fits}
 use Rattle.world_core_base.proofs.Others.{performed_other}
@@ -192,6 +193,25 @@ fits_more out kept more events after room fits one =
     let sum = length-append kept more in
     omega (arith, room, fits, one, sum)
 
+-- the world after the goroutine that has the turn was served
+abbrev pub after_turn : Desk → CodeMachine → ℕ → CodeMachine
+after_turn d m n = perform_row (rules_of d) m n (slice_index_or m.rows n None)
+
+-- it stands where the one-thread run comes to
+turn_stands : (d : Desk) (n : ℕ) (h : IsDesk d) → HasTurn d.core n → (k : ℕ) × Stands (rules_of d) (after_turn d h.at.1 n) (moment (code_kind d.code) d.limit k)
+turn_stands d n h t =
+    let r = rules_of d in
+    let L = laws (code_kind d.code) d.limit in
+    let m = h.at.1 in
+    let a = h.at.2 in
+    let w = moment (code_kind d.code) d.limit h.at.0 in
+    let going : is_some (shared_of m).ending ≡ false = ap is_some (sym a.core.ending ∙ t.going) in
+    let s = settle_keeps r L m w a.stands going in
+    let turn : has_turn t.key 0 m.rows ≡ true = subst (λ (rows : Rows). has_turn t.key 0 rows ≡ true) a.core.rows t.turn in
+    let settled : settle_key r m (least (keys (parked_clock r) 0 m.rows)) ≡ after_turn d m n =
+    ap (settle_key r m) (least_in d m a.core (Some t.key) t.least) ∙ ap (λ b. cond b (perform_row r m t.key.number (slice_index_or m.rows t.key.number None)) m) turn ∙ ap (λ k. perform_row r m k (slice_index_or m.rows k None)) t.number in
+    (h.at.0 + s.0, subst (λ x. Stands r (after_turn d m n) x) (sym (run_add r L h.at.0 s.0 (opening (code_kind d.code)))) (subst (λ x. Stands r x (run r s.0 w)) settled s.1))
+
 -- the desk after an event
 abbrev pub after_event : Desk → Recorded → CoreValue → Desk
 after_event d event new = record d { core = new; pending = d.pending ++ bytes_of event; lines = d.lines ++ kept_line d.traces (event_of event) }
@@ -201,19 +221,11 @@ pub commits : (d : Desk) (n : ℕ) (event : Recorded) (new : CoreValue) → IsDe
 commits d n event new h t done fits room trace_room =
     let bytes = bytes_of event in
     let line = kept_line d.traces (event_of event) in
-    let r = rules_of d in
-    let L = laws (code_kind d.code) d.limit in
     let m = h.at.1 in
     let a = h.at.2 in
-    let w = moment (code_kind d.code) d.limit h.at.0 in
     let p = done m a.core in
-    let going : is_some (shared_of m).ending ≡ false = ap is_some (sym a.core.ending ∙ t.going) in
-    let s = settle_keeps r L m w a.stands going in
-    let turn : has_turn t.key 0 m.rows ≡ true = subst (λ (rows : Rows). has_turn t.key 0 rows ≡ true) a.core.rows t.turn in
-    let after = perform_row r m n (slice_index_or m.rows n None) in
-    let settled : settle_key r m (least (keys (parked_clock r) 0 m.rows)) ≡ after =
-    ap (settle_key r m) (least_in d m a.core (Some t.key) t.least) ∙ ap (λ b. cond b (perform_row r m t.key.number (slice_index_or m.rows t.key.number None)) m) turn ∙ ap (λ k. perform_row r m k (slice_index_or m.rows k None)) t.number in
-    let stands : Stands r after (moment (code_kind d.code) d.limit (h.at.0 + s.0)) = subst (λ x. Stands r after x) (sym (run_add r L h.at.0 s.0 (opening (code_kind d.code)))) (subst (λ x. Stands r x (run r s.0 w)) settled s.1) in
+    let s = turn_stands d n h t in
+    let after = after_turn d m n in
     let events = ap length p.events ∙ length-append (shared_of m).events (event_of event ∷ []) in
     let one : new.events ≡ d.core.events + 1 = p.core.events ∙ events ∙ ap (λ k. k + 1) (sym a.core.events) in
     let was = h.fits.count (ap is_some t.going) in
@@ -227,10 +239,10 @@ commits d n event new h t done fits room trace_room =
         trace_room = fits_more d.traced d.lines line d.core.events new.events h.trace_room trace_room one;
         fits = fits;
         at = (
-          h.at.0 + s.0,
+          s.0,
           after,
           record {
-            stands = stands;
+            stands = s.1;
             core = p.core;
             size = longer (shared_of m).output (shared_of after).output d.pending bytes d.taken p.output a.size;
             bytes = kept_more (shared_of m).output (shared_of after).output d.pending bytes d.taken p.output a.size a.bytes;
@@ -244,8 +256,8 @@ commits d n event new h t done fits room trace_room =
         turn = t;
         performs = done;
         is_next = (
-          h.at.0 + s.0,
-          ap (λ es. slice_get es d.core.events) (sym (ap (λ (x : Rest Frames). x.shared.events) stands.shared) ∙ p.events)
+          s.0,
+          ap (λ es. slice_get es d.core.events) (sym (ap (λ (x : Rest Frames). x.shared.events) s.1.shared) ∙ p.events)
               ∙ ap (λ k. slice_get ((shared_of m).events ++ event_of event ∷ []) k) a.core.events ∙ at_end (shared_of m).events (event_of event),
         );
         one_more = one;
@@ -271,33 +283,79 @@ committed d n event new pending lines h turn done fits bytes line room trace_roo
     subst (λ (xs : List ℕ). IsDesk (record d { core = new; pending = xs; lines = lines }) × CommitsNext d event (record d { core = new; pending = xs; lines = lines })) (sym bytes)
     (subst (λ (ls : List ℕ). IsDesk (record d { core = new; pending = d.pending ++ bytes_of event; lines = ls }) × CommitsNext d event (record d { core = new; pending = d.pending ++ bytes_of event; lines = ls })) (sym line) r)
 
--- a lent goroutine is neither the actor nor asleep, so its lease stays out
-pub commits_keeps : (d e : Desk) (event : Recorded) → IsDesk d → CommitsNext d event e → KeepsLeases d e
-commits_keeps d e event h c l out =
+-- a lent goroutine is neither the actor nor asleep, so its row stays
+pub lent_stays : (d : Desk) (n : ℕ) (core : CoreValue) (h : IsDesk d) → HasTurn d.core n → core.rows ≡ (after_turn d h.at.1 n).rows → (k : ℕ) (base : State) → IsLentRow d.core.rows k base → IsLentRow core.rows k base
+lent_stays d n core h t rows k base lent =
     let r = rules_of d in
     let L = laws (code_kind d.code) d.limit in
     let m = h.at.1 in
     let a = h.at.2 in
     let w = moment (code_kind d.code) d.limit h.at.0 in
-    let t = c.turn in
-    let k = l.number in
     let p = parked_asks r L m w a.stands t.key (least_in d m a.core (Some t.key) t.least) in
-    let actor : slice_index_or m.rows c.number None ≡ Some p.0 = subst (λ k. slice_index_or m.rows k None ≡ Some p.0) t.number p.1 in
-    let lent = out.row in
+    let actor : slice_index_or m.rows n None ≡ Some p.0 = subst (λ k. slice_index_or m.rows k None ≡ Some p.0) t.number p.1 in
     let here : slice_index_or m.rows k None ≡ Some lent.0 = subst (λ (rows : Rows). slice_index_or rows k None ≡ Some lent.0) a.core.rows lent.1 in
-    let other = lent_other r L m w a.stands c.number k p.0 lent.0 actor p.2 here lent.2 in
+    let other = lent_other r L m w a.stands n k p.0 lent.0 actor p.2 here lent.2 in
     let s = row_awake r L m w a.stands k lent.0 here in
     let awake : (y : Sleeper) → In y (shared_of m).asleep → k ≢ y.number = λ y i same.
     let lies = apart (code_kind d.code) d.limit h.at.0 y (subst (λ (x : Rest Frames). In y x.shared.asleep) a.stands.shared i) in
     let nobody : slice_index_or w.awake k None ≡ None = ap (λ j. slice_index_or w.awake j None) same ∙ lies.1 in
     none-some s.0 (sym nobody ∙ s.1) in
-    let stays = performed_other d.code d.limit m c.number k p.0 lent.0 actor here other awake in
+    let stays = performed_other d.code d.limit m n k p.0 lent.0 actor here other awake in
+    (lent.0, ap (λ (rows : Rows). slice_index_or rows k None) rows ∙ stays, lent.2, lent.3)
+
+-- so its lease stays out
+pub commits_keeps : (d e : Desk) (event : Recorded) → IsDesk d → CommitsNext d event e → KeepsLeases d e
+commits_keeps d e event h c l out = record {
+  code = c.code ∙ out.code;
+  limit = c.limit ∙ out.limit;
+  row = lent_stays d c.number e.core h c.turn (c.performs h.at.1 h.at.2.core).core.rows l.number l.base out.row;
+  word = rw (c.code, c.limit, c.words) out.word;
+}
+
+-- ---- turns without events to show, where no lines are kept
+
+silent_trace : (traces : Bool) → traces ≡ false → (xs ys : List Event) → kept_trace traces xs ≡ kept_trace traces ys
+silent_trace traces silent xs ys = ap (λ b. kept_trace b xs) silent ∙ sym (ap (λ b. kept_trace b ys) silent)
+
+pub turn_is_desk : (d : Desk) (core : CoreValue) → IsDesk d → d.traces ≡ false → TakesTurn d.code d.limit d.core core → IsDesk (record d { core = core })
+turn_is_desk d core h silent t =
+    let m = h.at.1 in
+    let a = h.at.2 in
+    let p = t.passes.passed m a.core in
+    let s = turn_stands d t.number h t.turn in
+    let lines = silent_trace d.traces silent (shared_of (after_turn d m t.number)).events (shared_of m).events in
+    let was = h.fits.count (ap is_some t.turn.going) in
+    let one = t.passes.event in
+    let room = h.room in
+    let trace_room = h.trace_room in
     record {
-      code = c.code ∙ out.code;
-      limit = c.limit ∙ out.limit;
-      row = (lent.0, ap (λ (rows : Rows). slice_index_or rows k None) (c.performs m a.core).core.rows ∙ stays, lent.2, lent.3);
-      word = rw (c.code, c.limit, c.words) out.word;
+      verified = h.verified;
+      limit = h.limit;
+      many = omega (arith, was, one);
+      room = omega (arith, room, one);
+      trace_room = omega (arith, trace_room, one);
+      fits = t.fits;
+      at = (
+        s.0,
+        after_turn d m t.number,
+        record {
+          stands = s.1;
+          core = p.core;
+          size = ap length p.output ∙ a.size;
+          bytes = ap (drop d.taken) p.output ∙ a.bytes;
+          trace_size = ap length lines ∙ a.trace_size;
+          trace_bytes = ap (drop d.traced) lines ∙ a.trace_bytes;
+        },
+      );
     }
+
+pub turn_keeps : (d : Desk) (core : CoreValue) → IsDesk d → TakesTurn d.code d.limit d.core core → KeepsLeases d (record d { core = core })
+turn_keeps d core h t l out = record {
+  code = out.code;
+  limit = out.limit;
+  row = lent_stays d t.number core h t.turn (t.passes.passed h.at.1 h.at.2.core).core.rows l.number l.base out.row;
+  word = out.word;
+}
 
 abbrev begun : Desk → ℕ → Whole State (Rest Frames)
 begun d n = moment (code_kind d.code) d.limit n

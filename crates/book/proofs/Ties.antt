@@ -16,11 +16,11 @@ use Rattle.turn_rule.specs.declared.Row.{Row}
 use Rattle.word.specs.declared.request.Event.{Event as Recorded}
 use Rattle.word.specs.Kinds.{at}
 use Rattle.word.specs.Worlds.{rules}
-use Rattle.world_core_base.specs.Cores.{CoreValue, IsFreeIn, IsLentRow}
+use Rattle.world_core_base.specs.Cores.{CoreValue, HasTurn, IsFreeIn, IsLentRow}
 use Rattle.world_core_base.specs.Slots.{State, Rows, free_row, lent_row}
 use Rattle.book.specs.Desks.{CommitsNext, Desk, Held, IsDesk, IsLent, KeepsLeases, Sighting, brought, lent_desk, opened_desk, seen_desk}
 use Rattle.book.specs.Slots.{IsOut, IsPlaced, IsTakenOut, IsTied, SamePlaces, place_of}
-use Rattle.book.proofs.Books.{commits_keeps}
+use Rattle.book.proofs.Books.{after_turn, lent_stays}
 use Rattle.book.proofs.Lent.{performed_lent}
 use Rattle.book.proofs.Looks.{at_look, before_look, lent_still, looked_on, unlooked_on, was_there}
 
@@ -296,21 +296,18 @@ seen_tied d places x t = record {
       (p.0, at_look (IsLentOn p.0) d.words x.slot x.found s (looked_on x.found p.0) p.1, p.2);
 }
 
-pub committed_tied : (d : Desk) (places : Numbered) (event : Recorded) (core : CoreValue) (pending lines : List ℕ) → IsDesk d → CommitsNext d event (record d { core = core; pending = pending; lines = lines }) → IsTied d places → IsTied (record d { core = core; pending = pending; lines = lines }) places
-committed_tied d places event core pending lines h c t =
+-- the goroutine that had the turn was served
+pub turn_tied : (d : Desk) (places : Numbered) (n : ℕ) (core : CoreValue) (h : IsDesk d) → HasTurn d.core n → core.rows ≡ (after_turn d h.at.1 n).rows → IsTied d places → IsTied (record d { core = core }) places
+turn_tied d places n core h turn rows t =
     let m = h.at.1 in
     let a = h.at.2 in
-    let p = c.performs m a.core in
     record {
       lent = λ going k row e is.
-          let there : slice_index_or m.rows k None ≡ Some row = performed_lent (rules (code_kind d.code) d.limit) m c.number (slice_index_or m.rows c.number None) k row (ap (λ (rows : Rows). slice_index_or rows k None) (sym p.core.rows) ∙ e) is in
-          t.lent (ap is_some c.turn.going) k row (ap (λ (rows : Rows). slice_index_or rows k None) a.core.rows ∙ there) is;
+          let there : slice_index_or m.rows k None ≡ Some row = performed_lent (rules (code_kind d.code) d.limit) m n (slice_index_or m.rows n None) k row (ap (λ (rows : Rows). slice_index_or rows k None) (sym rows) ∙ e) is in
+          t.lent (ap is_some turn.going) k row (ap (λ (rows : Rows). slice_index_or rows k None) a.core.rows ∙ there) is;
       back = λ s loan on.
           let o = t.back s loan on in
-          let l : Held = record { code = d.code; limit = d.limit; number = loan.number; base = loan.base; present = loan.base; slot = s; published = 0 } in
-          let same : loan ≡ loan_for d.code d.limit loan.number loan.base = (λ i. record { code = o.code i; limit = o.limit i; number = loan.number; base = loan.base }) in
-          let out : IsLent d l = record { code = refl; limit = refl; row = o.row; word = subst (λ (m : Loan). IsLentOn m (word_at d.words s)) same on } in
-          record { code = o.code; limit = o.limit; row = (commits_keeps d (record d { core = core; pending = pending; lines = lines }) event h c l out).row; place = o.place };
+          record { code = o.code; limit = o.limit; row = lent_stays d n core h turn rows loan.number loan.base o.row; place = o.place };
       placed = t.placed;
     }
 
@@ -323,3 +320,7 @@ taken_tied d places taken traced pending lines t = record {
       record { code = o.code; limit = o.limit; row = o.row; place = o.place };
   placed = t.placed;
 }
+
+pub committed_tied : (d : Desk) (places : Numbered) (event : Recorded) (core : CoreValue) (pending lines : List ℕ) → IsDesk d → CommitsNext d event (record d { core = core; pending = pending; lines = lines }) → IsTied d places → IsTied (record d { core = core; pending = pending; lines = lines }) places
+committed_tied d places event core pending lines h c t =
+    taken_tied (record d { core = core }) places d.taken d.traced pending lines (turn_tied d places c.number core h c.turn (c.performs h.at.1 h.at.2.core).core.rows t)

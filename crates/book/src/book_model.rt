@@ -1,6 +1,6 @@
 //! The book of a run.
 
-ghost use Rattle.std.specs.Prelude.{◌≡◌, ◌+◌, ◌<◌, ◌≤◌, ◌^◌, ◌↔◌, ◌⊎◌, [], IfErr, IfNone, IfOk, IfSome, IsErrOf, IsTrue, MatchOption, None, OnErr, OnOk, Some, length, slice_index_or, true};
+ghost use Rattle.std.specs.Prelude.{◌≡◌, ◌+◌, ◌<◌, ◌≤◌, ◌^◌, ◌↔◌, ◌⊎◌, [], IfErr, IfNone, IfOk, IfSome, IsErrOf, IsTrue, MatchOption, None, OnErr, OnOk, Some, false, length, slice_index_or, true};
 ghost use Rattle.std.specs.Arc.{arc_value};
 ghost use Rattle.std.specs.Option.{is_some};
 ghost use Rattle.output.specs.Progress.{piece_run};
@@ -14,6 +14,7 @@ ghost use Rattle.world_core_base.specs.Slots.{IsBefore, State, waiting_clock};
 ghost use Rattle.word.specs.declared.request.Event.{Event as Recorded};
 ghost use Rattle.word.specs.Views.{event_of};
 ghost use Rattle.world_core_base.specs.Cores.{HasLease, HasTurn, IsFreeIn, Works, no_event, to_lend};
+ghost use Rattle.world_core_base.specs.Talking.{FailsTalk, Talks};
 ghost use Rattle.book.specs.Desks.{CommitsNext, IsDesk, IsLent, IsPiece, IsSeen, IsSight, IsTracePiece, KeepsLeases, OnlyLooks, Settles, Sighting, Waits, brought, lent_desk, opened_desk, seen_desk, settled_by};
 
 use crate::blank::Blank;
@@ -33,7 +34,7 @@ use std::sync::Arc;
 use verifier::Verified;
 use word::end::End;
 use word::request::Event;
-use world_core_base::{Core, blank_event};
+use world_core_base::{Core, Talked, blank_event};
 
 /// The book of a run: what is committed, which goroutines are lent, and the bytes of the output and the trace not yet taken out.
 pub struct Book<B: BookName> {
@@ -229,6 +230,31 @@ impl<B: BookName> Book<B> {
     {
         self.core
             .work_least(self.alloc, &self.program, self.limit, quantum)
+    }
+
+    /// Goroutines that send and receive single words make moves, one after the other, at least `moves` unless something else is to be
+    /// done first. A move is a goroutine's way to its request, in at most `quantum` local steps and without a lease, or the event of the one
+    /// that has the turn. No lines of the trace are made, so none may be wanted.
+    ///
+    /// Errors: out of memory, when some of the moves and steps may be made.
+    #[inline(always)]
+    pub fn talk(&mut self, quantum: u32, moves: u32) -> Result<Talked, Memory>
+        requires { self.old.traces ≡ false }
+        ensures talks { IfOk result (λ came. Talks self.old.code self.old.limit quantum moves self.old.core came self.new.core) }
+        ensures memory { OnErr result (FailsTalk self.old.code self.old.limit quantum self.old.core self.new.core) }
+        ensures rest { self.new ≡ record self.old { core = self.new.core } }
+        ensures leases { KeepsLeases self.old self.new }
+    {
+        self.core
+            .talk(self.alloc, &self.program, self.limit, quantum, moves)
+    }
+
+    /// Whether the lines of the trace are kept.
+    #[inline(always)]
+    pub fn traces(&self) -> bool
+        ensures { result ≡ self.now.traces }
+    {
+        self.traces
     }
 
     /// Commits the next event of the one-thread run, or reports which goroutine stands before it, or how the run has ended. Every

@@ -1,6 +1,6 @@
 //! The book of the run of a name.
 
-ghost use Rattle.std.specs.Prelude.{◌≡◌, ◌+◌, [], IfErr, IfNone, IfOk, IfSome, None, OnErr, OnOk, Some, length};
+ghost use Rattle.std.specs.Prelude.{◌≡◌, ◌+◌, [], IfErr, IfNone, IfOk, IfSome, None, OnErr, OnOk, Some, false, length};
 ghost use Rattle.std.specs.Arc.{arc_value};
 ghost use Rattle.std.specs.Option.{is_some};
 ghost use Rattle.book.specs.Desks.{IsLent, KeepsLeases, OnlyLooks, brought, opened_desk};
@@ -11,6 +11,7 @@ ghost use Rattle.book.specs.Handing.{HasEnded, KeepsTaken};
 ghost use Rattle.book.specs.Runs.{IsHanded, IsOfRun, output_run, trace_run};
 ghost use Rattle.book.specs.Turns.{Lends, SettlesAll, SettlesOne, SettlesSome};
 ghost use Rattle.world_core_base.specs.Cores.{Works, to_lend};
+ghost use Rattle.world_core_base.specs.Talking.{FailsTalk, Talks};
 
 use crate::blank::Blank;
 use crate::book_model::Book;
@@ -23,6 +24,7 @@ use std::sync::Arc;
 use verifier::Verified;
 use word::end::End;
 use word::request::Event;
+use world_core_base::Talked;
 
 /// The book of this run.
 pub struct RunBook<B: RunName> {
@@ -82,6 +84,28 @@ impl<B: RunName> RunBook<B> {
         ensures taken { KeepsTaken self.old.book self.new.book }
     {
         self.book.work(quantum)
+    }
+
+    /// Goroutines that send and receive single words make at least `moves` moves, unless something else is to be done first: each comes to
+    /// its request in at most `quantum` local steps, or has the turn and its event is committed.
+    #[inline(always)]
+    pub fn talk(&mut self, quantum: u32, moves: u32) -> Result<Talked, Memory>
+        requires { self.old.book.traces ≡ false }
+        ensures talks { IfOk result (λ came. Talks self.old.book.code self.old.book.limit quantum moves self.old.book.core came self.new.book.core) }
+        ensures memory { OnErr result (FailsTalk self.old.book.code self.old.book.limit quantum self.old.book.core self.new.book.core) }
+        ensures rest { self.new.book ≡ record self.old.book { core = self.new.book.core } }
+        ensures leases { KeepsLeases self.old.book self.new.book }
+        ensures taken { KeepsTaken self.old.book self.new.book }
+    {
+        self.book.talk(quantum, moves)
+    }
+
+    /// Whether the lines of the trace are kept.
+    #[inline(always)]
+    pub fn traces(&self) -> bool
+        ensures { result ≡ self.now.book.traces }
+    {
+        self.book.traces()
     }
 
     /// Whether there is a goroutine to lend.

@@ -13,6 +13,7 @@ use std::sync::Wait;
 use std::sync::atomic::{AtomicU64, Ordering};
 use std::sync::ledger::{Book, Share};
 use workers::{Back, CAPACITY, Signals, Turn, WorkQueues};
+use world_core_base::Talked;
 
 /// How many local steps a goroutine that talks makes at most between two requests.
 const FEW_STEPS: u32 = 8192;
@@ -20,8 +21,12 @@ const FEW_STEPS: u32 = 8192;
 /// How many bytes of the output and the trace together may be committed and not yet handed out before no worker goes on.
 const MOST_UNWRITTEN: usize = 8 << 20;
 
-/// How many turns of goroutines that talk follow one another at most before a lease is given out again.
+/// How many times goroutines that talk go on at most before a lease is given out again.
 const TALKS: u32 = 256;
+
+/// How many moves they make at least each time, if nobody reads the trace and nothing else is to be done first. A move is a way to a
+/// request, or an event.
+const MOVES: u32 = 64;
 
 /// The book of a run, and the signals between its threads.
 #[derive(Drop)]
@@ -227,9 +232,12 @@ impl<B: RunName> Locked<B> {
         self.settle();
     }
 
-    /// One turn of that, and whether another one may follow.
+    /// One turn of that, after moves of those that send and receive words. Returns whether another turn may follow.
     #[inline(always)]
     fn talk_once(&mut self) -> Result<bool, Memory> {
+        if !self.run.traces() && matches!(self.run.talk(FEW_STEPS, MOVES)?, Talked::Running) {
+            return Ok(false);
+        }
         let asking = self.run.work(FEW_STEPS)?;
         let committed = self.run.settle_one()?;
         self.signals.count_turn();

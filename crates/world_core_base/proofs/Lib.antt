@@ -8,4 +8,5 @@ pub mod Roused
 pub mod Stepping
 pub mod Others
 pub mod Deserted
+pub mod Moving
 pub use Rattle.awake_rows.proofs.Found

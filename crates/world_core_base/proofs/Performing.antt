@@ -280,8 +280,15 @@ module _ (code : Code) (limit : ℕ) where
         ending = refl;
       }
 
-  pub performs_by : (core : CoreValue) (n clock : ℕ) (means : Request) (event : Recorded) (bytes : List ℕ) (new : CoreValue) (a : IsAsked code limit core n clock means) → FitsCore code limit core → LeavesAll core n clock means a.row.state (event_of event) bytes new → Performs code limit core n event bytes new
-  performs_by core n clock means event bytes new a fits all m h =
+  -- goroutine n's request is performed in this world: this event, these bytes
+  pub record Happens (m : CodeMachine) (n : ℕ) (event : Event) (bytes : List ℕ) (new : CoreValue) : Type 0 where
+    pub core : IsCoreOf (perform_row (rules (code_kind code) limit) m n (slice_index_or m.rows n None)) new
+    pub events : (shared_of (perform_row (rules (code_kind code) limit) m n (slice_index_or m.rows n None))).events ≡ (shared_of m).events ++ event ∷ []
+    pub output : (shared_of (perform_row (rules (code_kind code) limit) m n (slice_index_or m.rows n None))).output ≡ (shared_of m).output ++ bytes
+
+  pub happens_by : (core : CoreValue) (n clock : ℕ) (means : Request) (event : Event) (bytes : List ℕ) (new : CoreValue) (a : IsAsked code limit core n clock means) → FitsCore code limit core → LeavesAll core n clock means a.row.state event bytes new
+      → (m : CodeMachine) → IsCoreOf m core → Happens m n event bytes new
+  happens_by core n clock means event bytes new a fits all m h =
       let s = a.row.state in
       let w = shared_of m in
       let o : Others = record { output = w.output; live = w.live; made = w.made; events = w.events; ending = w.ending } in
@@ -293,12 +300,17 @@ module _ (code : Code) (limit : ℕ) where
       let ord : Orderly (shared_with o core.channels) (most_woken means core.channels.asleep) g.deed = subst (Orderly (shared_with o core.channels) (most_woken means core.channels.asleep)) g.is (orderly (shared_with o core.channels) n clock means means) in
       let within = there core.rows n a.row a.here in
       let size = fits.size in
-      let left = left_core core m n clock means s o g.deed (event_of event) h fits (omega (arith, within, size)) refl (sym h.events) fair' ord g.quiet g.events in
+      let left = left_core core m n clock means s o g.deed event h fits (omega (arith, within, size)) refl (sym h.events) fair' ord g.quiet g.events in
       record {
         core = subst (λ x. IsCoreOf x new) (sym machine) (subst (λ x. IsCoreOf (after_deed m n s g.deed) x) g.left left);
         events = ap (λ x. (shared_of x).events) machine ∙ g.events;
         output = ap (λ x. (shared_of x).output) machine ∙ g.output;
       }
+
+  pub performs_by : (core : CoreValue) (n clock : ℕ) (means : Request) (event : Recorded) (bytes : List ℕ) (new : CoreValue) (a : IsAsked code limit core n clock means) → FitsCore code limit core → LeavesAll core n clock means a.row.state (event_of event) bytes new → Performs code limit core n event bytes new
+  performs_by core n clock means event bytes new a fits all m h =
+      let x = happens_by core n clock means (event_of event) bytes new a fits all m h in
+      record { core = x.core; events = x.events; output = x.output }
 
   within_started : (means : Request) (xs : List (ℕ × List Word)) → StartsWithin code means → AllStart means xs → AllWithin xs
   within_started means [] h k = tt

@@ -8,10 +8,12 @@ ghost use Rattle.turn_rule.specs.declared.Row.{Row};
 ghost use Rattle.turn_rule.specs.Schedule.{has_turn};
 ghost use Rattle.word.specs.Views.{event_of};
 ghost use Rattle.world_core_base.specs.Cores.{Asks, FitsCore, HasLease, Performs, Works, bytes_of, most_partners, no_event, opened_core, to_lend};
+ghost use Rattle.world_core_base.specs.Talking.{FailsTalk, Talks, is_enough};
 ghost use Rattle.awake_rows.specs.Slots.{FitsAll, FitsRow, State, IsAwake, IsBefore, IsFreeIn, IsNobodyAwake, back_row, free_clock, free_row, lent_row, raised_row, stepped_rows, waiting_clock};
 
 use crate::situation::Situation;
 use crate::spare::Spare;
+use crate::talked::Talked;
 use awake_rows::Among;
 use go_text::Memory;
 use goroutine_vm::{GoState, Sleeping};
@@ -169,6 +171,51 @@ impl Core {
         self.situation.work_least(alloc, code, limit, quantum)
     }
 
+    /// Goroutines send and receive single words, and make local steps, at most `quantum` at a time, until at least `moves` moves were
+    /// made, or none is left to make. No event is written.
+    ///
+    /// Errors: out of memory, when some of the moves may be made.
+    pub fn talk(
+        &mut self,
+        alloc: Global,
+        code: &Verified,
+        limit: u64,
+        quantum: u32,
+        moves: u32,
+    ) -> Result<Talked, Memory>
+        requires { FitsCore code.now limit self.old }
+        ensures talks { IfOk result (λ came. Talks code.now limit quantum moves self.old came self.new) }
+        ensures memory { OnErr result (FailsTalk code.now limit quantum self.old self.new) }
+        ensures fits { FitsCore code.now limit self.new }
+    {
+        for made in 0..moves {
+            let _made = made;
+            let came = self.talk_once(alloc, code, limit, quantum)?;
+            if !is_enough(came) {
+                return Ok(came);
+            }
+        }
+        Ok(Talked::Enough)
+    }
+
+    /// One or two moves, if any is left to make.
+    #[inline(always)]
+    fn talk_once(
+        &mut self,
+        alloc: Global,
+        code: &Verified,
+        limit: u64,
+        quantum: u32,
+    ) -> Result<Talked, Memory>
+        requires { FitsCore code.now limit self.old }
+        ensures talks { IfOk result (λ came. Talks code.now limit quantum 1 self.old came self.new) }
+        ensures memory { OnErr result (FailsTalk code.now limit quantum self.old self.new) }
+        ensures fits { FitsCore code.now limit self.new }
+    {
+        self.situation
+            .talk(alloc, code, limit, quantum, &mut self.spare)
+    }
+
     /// Whether there is a goroutine to lend.
     pub fn may_lend(&self) -> bool
         ensures { result ≡ is_some (to_lend self.now) }
@@ -290,6 +337,17 @@ impl Core {
         self.situation
             .goroutines
             .step(alloc, code, limit, number, step)
+    }
+}
+
+/// Whether the moves were made that were asked for.
+#[inline(always)]
+fn is_enough(came: Talked) -> bool
+    ensures { result ≡ is_enough came }
+{
+    match came {
+        Talked::Enough => true,
+        Talked::Nobody | Talked::Running | Talked::Left => false,
     }
 }
 

@@ -445,7 +445,7 @@ impl Situation {
     }
 
     /// Goroutine `number` falls asleep, and leaves its buffer to `rooms`.
-    fn fall_asleep(&mut self, number: u64, rooms: &mut Vec<Room>)
+    pub(crate) fn fall_asleep(&mut self, number: u64, rooms: &mut Vec<Room>)
         requires events { self.old.events < 2 ^ 62 }
         requires awake { IsSome (slice_index_or self.old.rows number None) }
         requires unlent { IsUnlent (slice_index_or self.old.rows number None) }
@@ -510,7 +510,7 @@ fn outcome_at(end: End) -> EventOutcome
 }
 
 /// The clock one later.
-fn next_time(clock: Clock, limit: u64) -> Clock
+pub(crate) fn next_time(clock: Clock, limit: u64) -> Clock
     requires below { clock < limit }
     requires last { limit ≤ 2 ^ 62 }
     ensures { result ≡ clock + 1 }

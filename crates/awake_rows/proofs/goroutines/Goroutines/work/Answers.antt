@@ -31,14 +31,14 @@ work_row-worked-requires-clause-free c =
 pub invariant_of-self : goal.invariant_of-self
 invariant_of-self c =
     let g = c.self.inside in
-    let row = worked_at c.args.code.now c.args.limit c.args.quantum c.as_mut_slice.result.now c.work_row-worked.new.items c.in-Some.slot c.work_row-worked.result c.work_row-worked.ensures.ok c.work_row-worked.ensures.memory in
+    let row = worked_at (λ asking. asking) c.args.code.now c.args.limit c.args.quantum c.as_mut_slice.result.now c.work_row-worked.new.items c.in-Some.slot c.work_row-worked.result c.work_row-worked.ensures.ok c.work_row-worked.ensures.memory in
     kept_set g.count g.slots g.items.items g.orders c.self.invariant c.args.number c.in-Some.slot (sym c.slot.ensures ∙ c.in-Some.is) c.as_mut_slice.result.now c.as_mut_slice.ensures.value
     g.items.len g.items.ok.0 (Some (Awake row.0)) c.work_row-worked.new.items row.1 c.deref.result.now c.note.new.orders c.deref.ensures.value c.note.ensures.same c.note.ensures.other c.note.ensures.floor (λ h. refl)
 
 pub returns-clause-ok : goal.returns-clause-ok
 returns-clause-ok c =
     let g = c.self.inside in
-    rw (← c.self.view_is) (works_ok g.count g.slots g.items.items g.orders c.self.invariant c.args.number c.in-Some.slot (sym c.slot.ensures ∙ c.in-Some.is) c.as_mut_slice.result.now c.as_mut_slice.ensures.value g.items.len g.items.ok.0 c.work_row-worked.new.items c.args.code.now c.args.limit c.args.quantum c.work_row-worked.result c.work_row-worked.ensures.ok)
+    rw (← c.self.view_is) (works_ok g.count g.slots g.items.items g.orders c.self.invariant c.args.number c.in-Some.slot (sym c.slot.ensures ∙ c.in-Some.is) c.as_mut_slice.result.now c.as_mut_slice.ensures.value g.items.len g.items.ok.0 c.work_row-worked.new.items (λ asking. asking) c.args.code.now c.args.limit c.args.quantum c.work_row-worked.result c.work_row-worked.ensures.ok)
 
 pub returns-clause-memory : goal.returns-clause-memory
 returns-clause-memory c =
@@ -48,4 +48,4 @@ returns-clause-memory c =
 pub returns-clause-rest : goal.returns-clause-rest
 returns-clause-rest c =
     let g = c.self.inside in
-    rw (← c.self.view_is) (works_rest g.count g.slots g.items.items g.orders c.self.invariant c.args.number c.in-Some.slot (sym c.slot.ensures ∙ c.in-Some.is) c.as_mut_slice.result.now c.as_mut_slice.ensures.value g.items.len g.items.ok.0 c.work_row-worked.new.items c.args.code.now c.args.limit c.args.quantum c.work_row-worked.result c.work_row-worked.ensures.ok c.work_row-worked.ensures.memory)
+    rw (← c.self.view_is) (works_rest g.count g.slots g.items.items g.orders c.self.invariant c.args.number c.in-Some.slot (sym c.slot.ensures ∙ c.in-Some.is) c.as_mut_slice.result.now c.as_mut_slice.ensures.value g.items.len g.items.ok.0 c.work_row-worked.new.items (λ asking. asking) c.args.code.now c.args.limit c.args.quantum c.work_row-worked.result c.work_row-worked.ensures.ok c.work_row-worked.ensures.memory)
