@@ -16,7 +16,7 @@ use Rattle.allowed.proofs.Stands.{within}
 use Rattle.allowed.proofs.Ordinary.{set_swap, never_acts}
 
 -- the reply to what is done alone has the form of the request
-acts_suit : (cs ds : List Channel) (q : Request) (reply : Reply) (bytes : List ℕ) → Acts cs q reply ds bytes → Suits q reply
+pub acts_suit : (cs ds : List Channel) (q : Request) (reply : Reply) (bytes : List ℕ) → Acts cs q reply ds bytes → Suits q reply
 acts_suit cs ds q reply bytes (makes size z) = tt
 acts_suit cs ds q reply bytes (puts r o item one is opened has) = (offer_suits r o one).gives (ap is_some is)
 acts_suit cs ds q reply bytes (takes r o item rest one is there) = (offer_suits r o one).takes (ap is_some is) item true

@@ -1,17 +1,16 @@
 -- A goroutine that keeps to a plan uses only channels that it was given, if it does so without the plan.
-use Rattle.std.proofs.Common.{◌≡◌, ℕ, zero, suc, ◌+◌, ◌-◌, pos, negsuc, ◌==◌, ◌⊎◌, Bool, true, false, cond, List, [], ◌∷◌, ◌++◌, map, Option, Some, None, refl, sym, ap, ◌∙◌, subst, inl, inr}
-use Rattle.std.proofs.lemmas.Option.{same_Some}
+use Rattle.std.proofs.Common.{◌≡◌, ℕ, ◌+◌, ◌-◌, pos, negsuc, ◌==◌, ◌⊎◌, Bool, true, false, cond, List, [], ◌∷◌, ◌++◌, map, Option, Some, None, refl, sym, subst, inl, inr}
 use Rattle.word.specs.declared.request.Case.{Case}
 use Rattle.word.specs.declared.value.Word.{Word}
 use Rattle.word.specs.declared.value.Word.TheVariants.{Int, Bool as Truth, Chan}
-use Rattle.word.specs.Values.{Item, Request, Make, Go, Send, Receive, Close, Select, Len, Cap, Print, End, Exit, Panic, Exhausted, Reply}
+use Rattle.word.specs.Values.{Request, Make, Go, Send, Receive, Close, Select, Len, Cap, Print, End, Exit, Panic, Exhausted, Reply}
 use Rattle.word.specs.Kinds.{Next, Slides, Ticks, Asks, Stuck}
 use Rattle.word.specs.Related.{Parts, kind_of}
 use Rattle.allowed.specs.Naming.{InWords, InItem, InCases, InRequest, InReply, IsHonest}
 use Rattle.pauses.specs.Laws.{ArePart}
-use Rattle.pauses.specs.Paused.{PausedState, Progress, asking, beside, clause_of, going, is_vain, number_word, onward, paused, paused_answer, paused_next, paused_parts, selecting, step_of, way_after, way_in, way_to, way_words}
+use Rattle.pauses.specs.Paused.{PausedState, Progress, asking, beside, clause_of, is_vain, number_word, onward, paused_answer, paused_next, paused_parts, selecting, step_of, way_after, way_in, way_to, way_words}
 use Rattle.pauses.specs.Plans.{Pause}
-use Rattle.pauses.specs.Selects.{alone, off, thinned}
+use Rattle.pauses.specs.Selects.{alone, thinned}
 use Rattle.pauses.proofs.Offers.{alone_part, thinned_part}
 
 -- ---- words

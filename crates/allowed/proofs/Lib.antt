@@ -6,3 +6,7 @@ pub mod Unpaused
 pub mod Made
 pub mod Keeping
 pub mod Paused
+pub mod Related
+pub mod Back
+pub mod Listing
+pub mod Computed

@@ -1,11 +1,11 @@
 -- Goroutines that use only channels that they were given offer only on channels that were made.
-use Rattle.std.proofs.Common.{◌≡◌, ℕ, zero, suc, ◌+◌, ◌-◌, ◌<◌, ◌≤◌, ◌≢◌, ◌⊎◌, ℤ, pos, negsuc, Bool, true, false, cond, List, [], ◌∷◌, ◌++◌, map, length, Option, Some, None, refl, sym, ap, ◌∙◌, subst, arith, inl, inr, get_or, set, get_or-set_same, get_or-set_other, length-set, length-append}
+use Rattle.std.proofs.Common.{◌≡◌, ℕ, zero, suc, ◌+◌, ◌-◌, ◌<◌, ◌≤◌, ◌⊎◌, pos, negsuc, Bool, true, false, cond, List, [], ◌∷◌, ◌++◌, map, length, Option, Some, None, refl, sym, ap, ◌∙◌, subst, arith, inl, inr, get_or, set, get_or-set_same, get_or-set_other, length-set, length-append}
 use Rattle.std.specs.Prelude.{◌==◌, nat_lt, slice_index_or, slice_set, unwrap_or, option_map}
 use Rattle.std.specs.Option.{is_some}
 use Rattle.std.specs.List.{slice_get}
 use Rattle.std.proofs.lemmas.Bool.{cases_eq, cases_lt}
 use Rattle.std.proofs.lemmas.Option.{same_Some}
-use Rattle.std.proofs.lemmas.List.{get_or_past, get_or_append_left, get_or-append_right, set_past}
+use Rattle.std.proofs.lemmas.List.{get_or_append_left, get_or-append_right, set_past}
 use Rattle.turn_rule.specs.Turns.{World, next, changed, move_on, move_at, move_next, perform as perform_in, one, run}
 use Rattle.logical_clock.specs.declared.key.Key.{Key}
 use Rattle.logical_clock.specs.declared.limits.TheConstants.{MAX_GOROUTINES}
@@ -16,13 +16,13 @@ use Rattle.word.specs.declared.value.Word.TheVariants.{Int, Chan}
 use Rattle.word.specs.declared.panic.Panic.TheVariants.{SendOnClosed}
 use Rattle.word.specs.Values.{Item, Request, Make, Go, Send, Receive, Close, Select, Len, Cap, Print, End, Exit, Panic, Exhausted, Reply, Nothing, Value, Received, Clause, Default, Closed, Sleeper, Offer, Channel, Shared}
 use Rattle.word.specs.Kinds.{Asks, GoroutineKind, Clocked, local, asks, told, at}
-use Rattle.word.specs.Requests.{Fate, GoesOn, Dozes, Leaves, Stays, Deed, no_channel, channel_of, with_offer, clause_offers, offers, partner, first_on, also, partners, without_all, sent, got, done, sleeps, with_channel, send_to, do_send, receive_from, do_receive, send_ready, receive_ready, choose, do_clause, do_select, do_make, do_close, close_reply, act, meant}
+use Rattle.word.specs.Requests.{Fate, GoesOn, Dozes, Leaves, Stays, Deed, no_channel, channel_of, with_offer, clause_offers, offers, partner, first_on, also, partners, without_all, sent, got, done, sleeps, with_channel, send_to, do_send, receive_from, do_receive, send_ready, receive_ready, choose, do_clause, do_select, do_close, close_reply, act, meant}
 use Rattle.word.specs.Worlds.{Bed, Rest, in_bed, actor_after, beds_after, woken_by, begun_at, performs, rules, opening, moment}
 use Rattle.word.proofs.Found.{In}
 use Rattle.word.proofs.Fair.{partner_is, in_without_all, in_back, meant_is}
 use Rattle.word.proofs.Chosen.{chosen}
-use Rattle.allowed.specs.Naming.{InWords, InItems, InItem, InCases, InRequest, InGot, InReply, IsHonest}
-use Rattle.allowed.specs.Orders.{AreMade, UsesMade, NamesMade}
+use Rattle.allowed.specs.Naming.{InWords, InItems, InItem, InCases, InRequest, InReply, IsHonest}
+use Rattle.allowed.specs.Orders.{AreMade, NamesMade}
 use Rattle.allowed.proofs.Ordinary.{asks_is, local_is}
 
 -- whatever is named is below this

@@ -1,12 +1,11 @@
 -- Go allows the run by a plan of pauses.
-use Rattle.std.proofs.Common.{◌≡◌, ◌⊎◌, ℕ, List, Some, inl, inr}
-use Rattle.word.specs.declared.end.End.{End as Ending}
+use Rattle.std.proofs.Common.{ℕ, List, inl, inr}
 use Rattle.word.specs.Related.{Parts, kind_of}
-use Rattle.word.specs.Worlds.{end_of, moment}
+use Rattle.word.specs.Worlds.{moment}
 use Rattle.pauses.specs.Paused.{paused, paused_parts}
 use Rattle.pauses.specs.Plans.{Pause}
 use Rattle.allowed.specs.Naming.{IsHonest}
-use Rattle.allowed.specs.Orders.{Allowed, IsOwnLimit, RunsAsAllowed}
+use Rattle.allowed.specs.Orders.{RunsAsAllowed}
 use Rattle.allowed.proofs.Keeping.{paused_honest}
 use Rattle.allowed.proofs.Made.{names_made}
 use Rattle.allowed.proofs.Ordinary.{ordinary_is_allowed}

@@ -122,12 +122,12 @@ none_alike cs cases some alike none = none_all cs (clause_offers 1 cases) (λ o 
 -- ---- what a goroutine that keeps to a plan requests
 
 module _ (ps : List Pause) where
-  abbrev IsPlain : Request → Type 0
+  abbrev pub IsPlain : Request → Type 0
   IsPlain (Go function args) = ⊥
   IsPlain (Select cases default) = ⊥
   IsPlain q = Unit {0}
 
-  data Made (g : Progress) : Request → Request → Type 0 where
+  pub data Made (g : Progress) : Request → Request → Type 0 where
     itself : (q : Request) → IsPlain q → Made g q q
     with_way : (function : ℕ) (args : List Word) (way : Option (List ℕ)) → Made g (Go function args) (Go function (way_words way ++ args))
     whole : (cases : List Case) (default : Bool) → is_vain ps g Default ≡ false → Made g (Select cases default) (Select cases default)
@@ -140,7 +140,7 @@ module _ (ps : List Pause) where
   plain_made : (g : Progress) (q asked : Request) → IsPlain q → ◌≡◌ {A = Next Progress} (Asks q) (Asks asked) → Made g q asked
   plain_made g q asked plain e = subst (Made g q) (same_asks q asked e) (itself q plain)
 
-  made : (g : Progress) (q asked : Request) → asking ps g q ≡ Asks asked → Made g q asked
+  pub made : (g : Progress) (q asked : Request) → asking ps g q ≡ Asks asked → Made g q asked
   made g (Make size z) asked e = plain_made g (Make size z) asked tt e
   made g (Send c item) asked e = plain_made g (Send c item) asked tt e
   made g (Receive c) asked e = plain_made g (Receive c) asked tt e
